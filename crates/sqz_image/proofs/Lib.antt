@@ -1,0 +1,11 @@
+pub mod ObjectLemmas
+pub mod CutLemmas
+pub mod HeapLemmas
+pub mod PlainLemmas
+pub mod IndexLemmas
+pub mod ReadingLemmas
+pub mod Turns
+pub mod ReadingLoop
+pub mod WritingLoop
+pub mod Spelling
+pub mod Pieces

@@ -1,0 +1,37 @@
+-- A loop of reads: what it has read so far, and how it ends.
+use Rattle.std.proofs.Common.{◌≡◌, ◌≢◌, ℕ, ◌+◌, ◌<◌, List, [], ◌++◌, append-nil, length, take, Ok, Err, Result, sym, ap, ◌∙◌, refl, inl, inr, subst, arith}
+use Rattle.std.proofs.lemmas.Bool.Decides.{nat_tests}
+use Rattle.std.specs.Io.KnownBytes.{Consumes}
+use Rattle.std.proofs.KnownBytes.{Consumes-nil, Consumes-trans, Consumes-kept}
+use Rattle.sqz_image.specs.declared.device.DeviceFault.{DeviceFault}
+use Rattle.sqz_image.specs.declared.fault.Fault.TheVariants.{OutOfMemory, ReadFailed}
+use Rattle.sqz_image.specs.Devices.{SourceState, IsRead, one_more, turn_limit, MeetsLimit, count_after, ReadsWhole, ReadStops}
+use Rattle.sqz_image.proofs.Turns.{one_more-count_after, count_after-le, MeetsLimit-all}
+
+-- so many reads gave these bytes, each of them some
+pub record HasRead (old now : SourceState) (file : List ℕ) (turns : ℕ) : Type 0 where
+  pub bytes : Consumes old.left now.left file
+  pub none_empty : now.empty_reads ≡ old.empty_reads
+  pub failed : now.failed ≡ old.failed
+  pub counted : now.reads ≡ count_after old.reads turns
+
+module _ (old now new : SourceState) (file piece : List ℕ) (turns : ℕ) (so_far : HasRead old now file turns) where
+  counted_more : new.reads ≡ one_more now.reads → new.reads ≡ count_after old.reads (turns + 1)
+  counted_more e = e ∙ ap one_more so_far.counted ∙ one_more-count_after old.reads turns
+
+  -- a read failed
+  pub ReadStops-failed : (fault : DeviceFault) → IsRead now new piece (Err fault) → ReadStops old new ReadFailed
+  ReadStops-failed fault read =
+      ((file, Consumes-kept old.left now.left new.left file so_far.bytes read.1), inr (refl, inl read.0))
+
+  -- the last turn was taken
+  pub ReadStops-limit : (result : Result ℕ DeviceFault) → IsRead now new piece result → turns + 1 ≡ turn_limit → ReadStops old new ReadFailed
+  ReadStops-limit (Ok count) read all =
+      let at_limit = counted_more read.4 ∙ ap (count_after old.reads) all in
+      ((file ++ take count piece, Consumes-trans old.left now.left new.left file (take count piece) so_far.bytes read.3), inr (refl, inr (subst (MeetsLimit old.reads) (sym at_limit) (MeetsLimit-all old.reads))))
+  ReadStops-limit (Err fault) read all = ReadStops-failed fault read
+
+  -- there is no memory for what was read
+  pub ReadStops-memory : (count : ℕ) → IsRead now new piece (Ok count) → ReadStops old new OutOfMemory
+  ReadStops-memory count read =
+      ((file ++ take count piece, Consumes-trans old.left now.left new.left file (take count piece) so_far.bytes read.3), inl refl)

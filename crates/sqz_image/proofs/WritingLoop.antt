@@ -1,0 +1,129 @@
+-- A loop of writes: what it has written so far, and how it ends.
+use Rattle.std.proofs.Common.{◌≡◌, ◌≢◌, ℕ, ◌+◌, ◌-◌, ◌<◌, ◌≤◌, List, [], ◌++◌, append-nil, append_assoc, take-append-drop, length, take, drop, Ok, Err, sym, ap, ◌∙◌, refl, inl, inr, subst, arith}
+use Rattle.std.proofs.lemmas.List.{take_rest}
+use Rattle.std.proofs.KnownBytes.{Appends-nil, Appends-trans, Appends-kept}
+use Rattle.sqz_image.specs.declared.device.DeviceFault.{DeviceFault}
+use Rattle.sqz_image.specs.declared.fault.Fault.{Fault}
+use Rattle.sqz_image.specs.declared.fault.Fault.TheVariants.{WriteFailed}
+use Rattle.sqz_image.specs.Devices.{SinkState, IsWrite, IsFlush, one_more, turn_limit, MeetsLimit, count_after, Sends, SendStops, WritesWhole, WriteStops}
+use Rattle.sqz_image.proofs.Turns.{one_more-count_after, count_after-count_after, count_after-le, MeetsLimit-all}
+
+-- ---- one write
+
+-- a write, after which some turns are left
+pub Sends-write : (old new : SinkState) (piece : List ℕ) (count left : ℕ) → IsWrite old new piece (Ok count) → 1 < left
+    → Sends old new (take count piece) left (left - 1)
+Sends-write old new piece count left write some =
+    let one : 1 ≡ left - (left - 1) = omega arith in
+    record {
+      bytes_added = write.4;
+      failed = write.1 ∙ sym write.0;
+      some_left = omega arith;
+      none_won = omega arith;
+      counted = write.5 ∙ ap (count_after old.writes) one;
+    }
+
+-- the last turn was taken
+pub SendStops-limit : (old new : SinkState) (piece : List ℕ) (count left : ℕ) → IsWrite old new piece (Ok count) → 1 ≡ left
+    → SendStops old new piece left WriteFailed
+SendStops-limit old new piece count left write last =
+    record {
+      front = take count piece;
+      rest = drop count piece;
+      of_bytes = sym (take-append-drop count piece);
+      bytes_added = write.4;
+      named = refl;
+      cause = inr (write.5 ∙ ap (count_after old.writes) last);
+    }
+
+-- ---- writes so far
+
+-- of the bytes all but the rest were sent
+pub record IsSending (old now : SinkState) (bytes rest : List ℕ) (turns left : ℕ) : Type 0 where
+  pub sent : List ℕ
+  pub parts : bytes ≡ sent ++ rest
+  pub sends : Sends old now sent turns left
+
+pub IsSending-none : (state : SinkState) (bytes : List ℕ) (turns : ℕ) → 0 < turns → IsSending state state bytes bytes turns turns
+IsSending-none state bytes turns some =
+    let none : 0 ≡ turns - turns = omega arith in
+    record {
+      sent = [];
+      parts = refl;
+      sends = record {
+        bytes_added = Appends-nil state.contents;
+        failed = refl;
+        some_left = some;
+        none_won = omega arith;
+        counted = ap (count_after state.writes) none;
+      };
+    }
+
+module _ (old now : SinkState) (bytes rest : List ℕ) (turns left : ℕ) (so_far : IsSending old now bytes rest turns left) where
+  module _ (new : SinkState) (piece after : List ℕ) (parts : rest ≡ piece ++ after) where
+    counted_more : (more all : ℕ) → new.writes ≡ count_after now.writes more → turns - left + more ≡ all → new.writes ≡ count_after old.writes all
+    counted_more more all counted together =
+        counted ∙ ap (λ count. count_after count more) so_far.sends.counted
+        ∙ count_after-count_after old.writes (turns - left) more ∙ ap (count_after old.writes) together
+
+    -- one more piece was sent
+    pub IsSending-more : (less : ℕ) → Sends now new piece left less → IsSending old new bytes after turns less
+    IsSending-more less sends =
+        record {
+          sent = so_far.sent ++ piece;
+          parts = so_far.parts ∙ ap (λ l. so_far.sent ++ l) parts ∙ sym (append_assoc so_far.sent piece after);
+          sends = record {
+            bytes_added = Appends-trans old.contents now.contents new.contents so_far.sent piece so_far.sends.bytes_added sends.bytes_added;
+            failed = sends.failed ∙ so_far.sends.failed;
+            some_left = sends.some_left;
+            none_won = omega arith;
+            counted = counted_more (left - less) (turns - less) sends.counted (omega arith);
+          };
+        }
+
+    -- the next piece was not sent whole
+    pub SendStops-more : (fault : Fault) → SendStops now new piece left fault → SendStops old new bytes turns fault
+    SendStops-more fault stops =
+        record {
+          front = so_far.sent ++ stops.front;
+          rest = stops.rest ++ after;
+          of_bytes =
+              so_far.parts ∙ ap (λ l. so_far.sent ++ l) (parts ∙ ap (λ l. l ++ after) stops.of_bytes ∙ append_assoc stops.front stops.rest after)
+              ∙ sym (append_assoc so_far.sent stops.front (stops.rest ++ after));
+          bytes_added = Appends-trans old.contents now.contents new.contents so_far.sent stops.front so_far.sends.bytes_added stops.bytes_added;
+          named = stops.named;
+          cause = elim (stops.cause) [ inl h ↦ inl h | inr h ↦ inr (counted_more left turns h (omega arith)) ];
+        }
+
+-- ---- the whole call
+
+-- not all was sent
+pub WriteStops-sent : (old new : SinkState) (bytes : List ℕ) (fault : Fault) → SendStops old new bytes turn_limit fault → WriteStops old new bytes fault
+WriteStops-sent old new bytes fault stops =
+    record {
+      front = stops.front;
+      rest = stops.rest;
+      of_bytes = stops.of_bytes;
+      bytes_added = stops.bytes_added;
+      named = stops.named;
+      cause = elim (stops.cause) [ inl h ↦ inl h | inr h ↦ inr (subst (MeetsLimit old.writes) (sym h) (MeetsLimit-all old.writes)) ];
+    }
+
+-- ---- the steps of a loop of single writes
+
+-- the bytes from a place on, as a slice has them
+take-rest : (rest : List ℕ) (count : ℕ) → rest ≡ take count rest ++ take (length rest - count) (drop count rest)
+take-rest rest count = sym (ap (λ l. take count rest ++ l) (take_rest rest count) ∙ take-append-drop count rest)
+
+module _ (old now : SinkState) (bytes rest : List ℕ) (turns left : ℕ) (so_far : IsSending old now bytes rest turns left) (new : SinkState) (count : ℕ) (write : IsWrite now new rest (Ok count)) where
+  -- a write, after which some turns are left
+  pub IsSending-write : left - 1 ≢ 0 → IsSending old new bytes (take (length rest - count) (drop count rest)) turns (left - 1)
+  IsSending-write some =
+      IsSending-more old now bytes rest turns left so_far new (take count rest) (take (length rest - count) (drop count rest)) (take-rest rest count) (left - 1)
+      (Sends-write now new rest count left write (omega arith))
+
+  -- a write in the last turn
+  pub SendStops-write : left - 1 ≡ 0 → SendStops old new bytes turns WriteFailed
+  SendStops-write last =
+      SendStops-more old now bytes rest turns left so_far new rest [] (sym (append-nil rest)) WriteFailed
+      (SendStops-limit now new rest count left write (omega (arith, so_far.sends.some_left)))

@@ -1,0 +1,14 @@
+use Rattle.std.proofs.Common.{◌≡◌, ◌+◌, ◌-◌, ◌^◌, arith}
+use Rattle.std.proofs.lemmas.Result.{err_from_is_err_and}
+use Rattle.sqz_image.proofs.ReadingLoop.{ReadStops-memory, ReadStops-limit}
+use Rattle.sqz_image.proofs.read_whole.read_all.Goals as goal
+
+pub returns-in_err-append-clause-stopped : goal.returns-in_err-append-clause-stopped
+returns-in_err-append-clause-stopped g c =
+    let p = err_from_is_err_and c.from_residual.result c.from_residual.ensures.1 in
+    rw (p.1, p.2, c.in_err-append.ensures.stopped) (ReadStops-memory _ _ _ _ _ _ c.loop.invariant.has_read c.in-Ok.count c.in-Ok.ensures.read)
+
+pub returns-clause-stopped : goal.returns-clause-stopped
+returns-clause-stopped g c =
+    let last : c.loop.counter - 1 + 1 ≡ 2 ^ 32 = omega arith in
+    ReadStops-limit _ _ _ _ _ _ c.loop.invariant.has_read _ c.read-2.ensures.read last

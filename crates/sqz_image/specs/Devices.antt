@@ -1,0 +1,107 @@
+-- What is seen of a source and a sink of bytes, and what their calls do to that.
+use Rattle.std.specs.Prelude.{◌≡◌, ℕ, ◌+◌, ◌-◌, ◌^◌, ◌<◌, ◌≤◌, ◌==◌, ◌&&◌, nat_lt, min, Bool, true, false, if◌then◌else◌, List, ◌++◌, length, take, Option, Result, Ok, Err, ◌⊎◌}
+use Rattle.std.specs.Io.KnownBytes.{Keeps, Appends, Consumes}
+use Rattle.sqz_image.specs.declared.device.DeviceFault.{DeviceFault}
+use Rattle.sqz_image.specs.declared.fault.Fault.{Fault}
+use Rattle.sqz_image.specs.declared.fault.Fault.TheVariants.{OutOfMemory, ReadFailed, WriteFailed}
+
+-- the bytes that a source has left, where it tells them; how many reads it had; how many of these gave
+-- no byte for a piece that is not empty; and whether it failed
+pub record SourceState : Type 0 where
+  pub left : Option (List ℕ)
+  pub reads : ℕ
+  pub empty_reads : ℕ
+  pub failed : Bool
+
+-- the bytes that a sink holds, where it tells them; how many writes it had; and whether it failed
+pub record SinkState : Type 0 where
+  pub contents : Option (List ℕ)
+  pub writes : ℕ
+  pub failed : Bool
+
+-- the count after one more call: a count stays at the greatest number of 64 bits
+abbrev pub one_more : ℕ → ℕ
+one_more count = min (count + 1) (2 ^ 64 - 1)
+
+-- one read into a piece, which then holds what was read at its front
+abbrev pub IsRead : SourceState → SourceState → List ℕ → Result ℕ DeviceFault → Type 0
+IsRead old new piece (Ok count) =
+    (old.failed ≡ false) × (new.failed ≡ false) × (count ≤ length piece) × Consumes old.left new.left (take count piece) × (new.reads ≡ one_more old.reads)
+    × (new.empty_reads ≡ (if count == 0 && nat_lt 0 (length piece) then one_more old.empty_reads else old.empty_reads))
+IsRead old new piece (Err fault) =
+    (new.failed ≡ true) × Keeps old.left new.left × (new.reads ≡ one_more old.reads) × (new.empty_reads ≡ old.empty_reads)
+
+-- one write of a piece: some of it from its front on went out
+abbrev pub IsWrite : SinkState → SinkState → List ℕ → Result ℕ DeviceFault → Type 0
+IsWrite old new piece (Ok count) =
+    (old.failed ≡ false) × (new.failed ≡ false) × (count ≤ length piece) × (0 < length piece → 0 < count) × Appends old.contents new.contents (take count piece)
+    × (new.writes ≡ one_more old.writes)
+IsWrite old new piece (Err fault) =
+    (new.failed ≡ true) × Keeps old.contents new.contents × (new.writes ≡ one_more old.writes)
+
+-- a flush, which is no write
+abbrev pub IsFlush : {T : Type 0} → SinkState → SinkState → Result T DeviceFault → Type 0
+IsFlush old new (Ok _) =
+    (old.failed ≡ false) × (new.failed ≡ false) × Keeps old.contents new.contents × (new.writes ≡ old.writes)
+IsFlush old new (Err fault) =
+    (new.failed ≡ true) × Keeps old.contents new.contents × (new.writes ≡ old.writes)
+
+-- how many reads or writes one call of this crate makes at most
+abbrev pub turn_limit : ℕ
+turn_limit = 2 ^ 32
+
+-- the counts before and after show that the limit was met; a count that stays at its end counts so too
+abbrev pub MeetsLimit : ℕ → ℕ → Type 0
+MeetsLimit old new = (old + turn_limit ≤ new) ⊎ (new ≡ 2 ^ 64 - 1)
+
+-- the source gave these bytes, and after them none
+pub record ReadsWhole (old new : SourceState) (file : List ℕ) : Type 0 where
+  pub bytes : Consumes old.left new.left file
+  pub end : new.empty_reads ≡ one_more old.empty_reads
+  pub started_sound : old.failed ≡ false
+  pub sound : new.failed ≡ false
+  pub below_limit : new.reads < old.reads + turn_limit
+
+-- why not all was read; bytes from the front of what was left may be gone
+abbrev pub ReadStops : SourceState → SourceState → Fault → Type 0
+ReadStops old new fault =
+    ((file : List ℕ) × Consumes old.left new.left file)
+    × ((fault ≡ OutOfMemory) ⊎ ((fault ≡ ReadFailed) × ((new.failed ≡ true) ⊎ MeetsLimit old.reads new.reads)))
+
+-- the sink took these bytes and nothing else, and was flushed
+pub record WritesWhole (old new : SinkState) (bytes : List ℕ) : Type 0 where
+  pub bytes_added : Appends old.contents new.contents bytes
+  pub started_sound : old.failed ≡ false
+  pub sound : new.failed ≡ false
+  pub below_limit : new.writes < old.writes + turn_limit
+
+-- why not all was written; bytes from the front of what was to be written, perhaps all of them, went out
+pub record WriteStops (old new : SinkState) (bytes : List ℕ) (fault : Fault) : Type 0 where
+  pub front : List ℕ
+  pub rest : List ℕ
+  pub of_bytes : bytes ≡ front ++ rest
+  pub bytes_added : Appends old.contents new.contents front
+  pub named : fault ≡ WriteFailed
+  pub cause : (new.failed ≡ true) ⊎ MeetsLimit old.writes new.writes
+
+-- the count after so many more calls
+abbrev pub count_after : ℕ → ℕ → ℕ
+count_after count turns = if turns == 0 then count else min (count + turns) (2 ^ 64 - 1)
+
+-- the sink took these bytes and nothing else, in as many writes as the turns left went down, of which
+-- some are left
+pub record Sends (old new : SinkState) (bytes : List ℕ) (turns left : ℕ) : Type 0 where
+  pub bytes_added : Appends old.contents new.contents bytes
+  pub failed : new.failed ≡ old.failed
+  pub some_left : 0 < left
+  pub none_won : left ≤ turns
+  pub counted : new.writes ≡ count_after old.writes (turns - left)
+
+-- why not all was sent; bytes from the front of what was to be sent, perhaps all of them, went out
+pub record SendStops (old new : SinkState) (bytes : List ℕ) (turns : ℕ) (fault : Fault) : Type 0 where
+  pub front : List ℕ
+  pub rest : List ℕ
+  pub of_bytes : bytes ≡ front ++ rest
+  pub bytes_added : Appends old.contents new.contents front
+  pub named : fault ≡ WriteFailed
+  pub cause : (new.failed ≡ true) ⊎ (new.writes ≡ count_after old.writes turns)

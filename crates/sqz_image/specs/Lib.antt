@@ -1,0 +1,10 @@
+pub mod Numbers
+pub mod File
+pub mod Objects
+pub mod Refusals
+pub mod Plain
+pub mod Devices
+pub mod Memory
+pub mod Search
+pub mod Index
+pub mod MemoryDevices

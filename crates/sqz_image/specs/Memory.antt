@@ -1,0 +1,52 @@
+-- The object memory that stands in a list of data words, which is how a heap is kept.
+use Rattle.std.specs.Prelude.{◌≡◌, ℕ, zero, suc, ◌+◌, ◌*◌, ◌%◌, ◌^◌, ◌<◌, ◌≤◌, List, [], ◌∷◌, map, length, take, drop, Some, IsSome, true}
+use Rattle.std.specs.List.{AllByRecursion}
+use Rattle.sqz_object.specs.declared.order.Order.{Order}
+use Rattle.sqz_object.specs.Partition.{IsPartition, stated_length}
+use Rattle.sqz_image.specs.Plain.{is_plain_chunk}
+use Rattle.sqz_image.specs.Index.{HasPlainPartition}
+use Rattle.sqz_image.specs.Objects.{Memory, objects, address_in, find}
+
+-- words cut by the lengths that their headers state, as many times at most as is said
+abbrev pub cut_at_most : ℕ → List ℕ → List (List ℕ)
+cut_at_most zero words = []
+cut_at_most (suc times) [] = []
+cut_at_most (suc times) (word ∷ words) =
+    take (stated_length (word ∷ words)) (word ∷ words) ∷ cut_at_most times (drop (stated_length (word ∷ words)) (word ∷ words))
+
+-- the one list of chunks that the words can be
+unfoldable pub cut : List ℕ → List (List ℕ)
+cut words = cut_at_most (length words) words
+
+-- the object memory whose data words these are
+abbrev pub memory_of : Order → ℕ → ℕ → List ℕ → Memory
+memory_of order base special words =
+    record {
+      order = order;
+      base = base;
+      special = special;
+      chunks = cut words;
+    }
+
+-- what is kept of an object memory: its words, and the first word and the address of each object
+pub record IsListed (memory : Memory) (words firsts addresses : List ℕ) : Type 0 where
+  pub partition : IsPartition words memory.chunks
+  pub plain : AllByRecursion (λ chunk. is_plain_chunk chunk ≡ true) memory.chunks
+  pub first_words : firsts ≡ map (λ object. object.first) (objects memory)
+  pub object_addresses : addresses ≡ map (address_in memory.base) (objects memory)
+  pub few_words : length words < 2 ^ 30
+  pub within : memory.base + 4 * length words ≤ 2 ^ 32
+  pub aligned : memory.base % 4 ≡ 0
+
+-- and which object the special objects array is
+pub record IsKept (memory : Memory) (words firsts addresses : List ℕ) (special_object : ℕ) : Type 0 where
+  pub listed : IsListed memory words firsts addresses
+  pub found : find memory memory.special ≡ Some special_object
+
+-- the object memory with these data words, where they are plain chunks and the special objects array is there
+pub record IsPlainMemory (order : Order) (base special : ℕ) (words : List ℕ) (memory : Memory) : Type 0 where
+  pub in_order : memory.order ≡ order
+  pub begins : memory.base ≡ base
+  pub special_address : memory.special ≡ special
+  pub parts : HasPlainPartition words memory.chunks
+  pub found : IsSome (find memory memory.special)

@@ -1,0 +1,61 @@
+-- The object memory as a list of chunks, and its objects: the chunks that are not free.
+use Rattle.std.specs.Prelude.{ℕ, suc, ◌+◌, ◌*◌, ◌==◌, if◌then◌else◌, List, [], ◌∷◌, ◌++◌, map, length, slice_index_or, Option, Some, None, option_map}
+use Rattle.sqz_object.specs.declared.order.Order.{Order}
+use Rattle.sqz_object.specs.Chunk.{is_object, before}
+
+-- an object memory as it was saved: the byte order of the file, the address of the first data word,
+-- the address of the special objects array, and the chunks, each a list of words
+pub record Memory : Type 0 where
+  pub order : Order
+  pub base : ℕ
+  pub special : ℕ
+  pub chunks : List (List ℕ)
+
+-- an object: its chunk, and the index of the chunk's first word among the data words
+pub record Object : Type 0 where
+  pub first : ℕ
+  pub chunk : List ℕ
+
+-- the same object behind more words
+abbrev pub moved_on : ℕ → Object → Object
+moved_on count object = record { first = count + object.first; chunk = object.chunk }
+
+-- the first chunk's object, where it is one, and then those of the other chunks, behind the first chunk's words
+abbrev pub objects_of : List (List ℕ) → List Object
+objects_of [] = []
+objects_of (chunk ∷ chunks) =
+    (if is_object chunk then record { first = 0; chunk = chunk } ∷ [] else []) ++ map (moved_on (length chunk)) (objects_of chunks)
+
+abbrev pub objects : Memory → List Object
+objects memory = objects_of memory.chunks
+
+abbrev pub object_count : Memory → ℕ
+object_count memory = length (objects memory)
+
+-- the object with an index, counted from 0 in address order
+abbrev pub object_at : Memory → ℕ → Object
+object_at memory index = slice_index_or (objects memory) index record { first = 0; chunk = [] }
+
+abbrev pub chunk_at : Memory → ℕ → List ℕ
+chunk_at memory index = (object_at memory index).chunk
+
+-- an object's address is that of its base header
+abbrev pub address_in : ℕ → Object → ℕ
+address_in base object = base + 4 * (object.first + before object.chunk)
+
+abbrev pub address_of : Memory → ℕ → ℕ
+address_of memory index = address_in memory.base (object_at memory index)
+
+-- the index of the object whose address it is
+abbrev pub find_in : ℕ → List Object → ℕ → Option ℕ
+find_in base [] address = None
+find_in base (object ∷ objects) address =
+    if address_in base object == address then Some 0 else option_map suc (find_in base objects address)
+
+abbrev pub find : Memory → ℕ → Option ℕ
+find memory address = find_in memory.base (objects memory) address
+
+-- an image: its header words, and its object memory
+pub record SavedImage : Type 0 where
+  pub header : List ℕ
+  pub memory : Memory

@@ -1,0 +1,50 @@
+-- The images that this version reads: little-endian, nothing after the data, one word headers and
+-- free chunks alone, and no weak object, method or context.
+use Rattle.std.specs.Prelude.{◌≡◌, ◌≢◌, ℕ, ◌+◌, ◌==◌, ◌||◌, ◌&&◌, not, nat_lt, Bool, true, false, if◌then◌else◌, List, [], ◌∷◌, length, Some, None}
+use Rattle.std.specs.List.{AllByRecursion}
+use Rattle.sqz_object.specs.declared.order.Order.TheVariants.{Little}
+use Rattle.sqz_object.specs.declared.chunk.Kind.{Kind}
+use Rattle.sqz_object.specs.declared.chunk.Kind.TheVariants.{Free, Short}
+use Rattle.sqz_object.specs.declared.base.Base.{Base}
+use Rattle.sqz_object.specs.Chunk.{header_type, format, compact_index}
+use Rattle.sqz_image.specs.File.{header_size, data_size, order_of, header_of}
+use Rattle.sqz_image.specs.Objects.{SavedImage}
+use Rattle.sqz_image.specs.Refusals.{file_fault, Holds}
+
+-- a compact index of the two classes of contexts
+abbrev pub is_context_index : ℕ → Bool
+is_context_index index = index == 13 || index == 14
+
+-- weak (4), compiled methods (12 to 15), contexts (3 with a context's compact index)
+abbrev pub is_plain_format : ℕ → ℕ → Bool
+is_plain_format format index =
+    nat_lt format 12 && not (format == 4) && not (format == 3 && is_context_index index)
+
+-- a free chunk, or an object with a one word header and a plain format
+abbrev pub is_plain_chunk : List ℕ → Bool
+is_plain_chunk [] = false
+is_plain_chunk (word ∷ rest) =
+    header_type word == 2 || (header_type word == 3 && is_plain_format (format (word ∷ rest)) (compact_index (word ∷ rest)))
+
+-- the same by what the header words say
+abbrev pub is_plain_header : Kind → Base → Bool
+is_plain_header Free base = true
+is_plain_header Short base = is_plain_format base.format base.compact
+is_plain_header _ base = false
+
+pub record IsPlain (file : List ℕ) (image : SavedImage) : Type 0 where
+  pub order : image.memory.order ≡ Little
+  pub ends : length file ≡ header_size + data_size image.header
+  pub chunks : AllByRecursion (λ chunk. is_plain_chunk chunk ≡ true) image.memory.chunks
+
+-- the file holds a plain image
+pub record HoldsPlain (file : List ℕ) (image : SavedImage) : Type 0 where
+  pub holds : Holds file image
+  pub plain : IsPlain file image
+
+-- the file has a sound header in little-endian order, these words, and ends with the data
+pub record HasPlainHeader (file header : List ℕ) : Type 0 where
+  pub sound : file_fault file ≡ None
+  pub order : order_of file ≡ Some Little
+  pub words : header ≡ header_of Little file
+  pub ends : length file ≡ header_size + data_size header

@@ -1,0 +1,125 @@
+//! Why a call was refused.
+
+ghost use Rattle.std.specs.Prelude.{◌≡◌};
+ghost use Rattle.sqz_image.specs.declared.fault.Fault.TheVariants.{OutOfMemory};
+ghost use Rattle.sqz_image.specs.Numbers.{number_of_fault};
+
+use std::alloc::{AllocError, AllocFailed};
+use std::fmt;
+use thiserror::Error;
+
+/// A word of an object that may name another object.
+#[derive(Clone, Copy, Debug, PartialEq, Eq)]
+pub enum Slot {
+    /// The class word of a header of two or three words.
+    ClassWord,
+    /// The field with this index.
+    Field(u32),
+}
+
+impl fmt::Display for Slot {
+    fn fmt<W: fmt::Write>(&self, f: &mut fmt::Formatter<W>) -> fmt::Result {
+        match self {
+            Slot::ClassWord => write!(f, "class"),
+            Slot::Field(index) => write!(f, "field {index}"),
+        }
+    }
+}
+
+/// Why a call was refused: the image is at fault, or memory, a device or an argument. `word` is the
+/// index of a data word, `address` that of a base header.
+#[derive(Clone, Copy, Debug, PartialEq, Eq, Error)]
+pub enum Fault {
+    #[error("image is shorter than its header")]
+    TooShort,
+    #[error("version is not 6502")]
+    BadVersion,
+    #[error("header size is not 64")]
+    BadHeaderSize,
+    #[error("data size is not a multiple of 4")]
+    BadDataSize,
+    #[error("base address is not valid")]
+    BadBase,
+    #[error("data are truncated")]
+    Truncated,
+    #[error("size 0 at word {word}")]
+    ZeroSize { word: u32 },
+    #[error("header words disagree at word {word}")]
+    HeaderMismatch { word: u32 },
+    #[error("chunk runs past the end at word {word}")]
+    Overrun { word: u32 },
+    #[error("special objects array not found")]
+    BadSpecialObjects,
+    #[error("no class for object {address:08x}")]
+    NoClass { address: u32 },
+    #[error("bad method {address:08x}")]
+    BadMethod { address: u32 },
+    #[error("bad context {address:08x}")]
+    BadContext { address: u32 },
+    #[error("bad pointer in object {address:08x}, {slot}")]
+    BadPointer { address: u32, slot: Slot },
+    #[error("out of memory")]
+    OutOfMemory,
+    #[error("cannot read the image")]
+    ReadFailed,
+    #[error("cannot write the output")]
+    WriteFailed,
+    #[error("workers must be from 1 to 64")]
+    BadWorkers,
+    #[error("region cut is not valid")]
+    BadCut,
+    #[error("bad weak object {address:08x}")]
+    BadWeak { address: u32 },
+    #[error("nil not found")]
+    NoNil,
+    #[error("not yet supported")]
+    NotYet,
+}
+
+impl Fault {
+    /// The number under which the documents list the fault.
+    pub fn number(&self) -> u32
+        ensures { result ≡ number_of_fault self.now }
+    {
+        match self {
+            Fault::TooShort => 1,
+            Fault::BadVersion => 2,
+            Fault::BadHeaderSize => 3,
+            Fault::BadDataSize => 4,
+            Fault::BadBase => 5,
+            Fault::Truncated => 6,
+            Fault::ZeroSize { .. } => 7,
+            Fault::HeaderMismatch { .. } => 8,
+            Fault::Overrun { .. } => 9,
+            Fault::BadSpecialObjects => 10,
+            Fault::NoClass { .. } => 11,
+            Fault::BadMethod { .. } => 12,
+            Fault::BadContext { .. } => 13,
+            Fault::BadPointer { .. } => 14,
+            Fault::OutOfMemory => 15,
+            Fault::ReadFailed => 16,
+            Fault::WriteFailed => 17,
+            Fault::BadWorkers => 18,
+            Fault::BadCut => 19,
+            Fault::BadWeak { .. } => 20,
+            Fault::NoNil => 21,
+            Fault::NotYet => 22,
+        }
+    }
+}
+
+impl From<AllocError> for Fault {
+    ghost from_gives = { λ _ fault. fault ≡ OutOfMemory };
+
+    fn from(_error: AllocError) -> Fault {
+        Fault::OutOfMemory
+    }
+}
+
+impl<T: Drop> From<AllocFailed<T>> for Fault {
+    ghost from_gives = { λ _ fault. fault ≡ OutOfMemory };
+
+    fn from(_error: AllocFailed<T>) -> Fault {
+        Fault::OutOfMemory
+    }
+}

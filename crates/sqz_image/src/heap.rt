@@ -1,0 +1,171 @@
+//! The object memory of an image, and its objects.
+
+ghost use Rattle.std.specs.Prelude.{◌≡◌, ◌+◌, ◌-◌, ◌*◌, ◌%◌, ◌^◌, ◌<◌, ◌≤◌, length, slice_index, option_map, Some, IfOk, IfSome, IsNone};
+ghost use Rattle.std.specs.List.{concat};
+ghost use Rattle.sqz_object.specs.Chunk.{fields};
+ghost use Rattle.sqz_object.specs.Reading.{description};
+ghost use Rattle.sqz_image.specs.Objects.{Memory, object_count, object_at, address_of, chunk_at as chunk_words, find};
+ghost use Rattle.sqz_image.specs.Memory.{IsPlainMemory};
+
+use crate::index::{Index, index_of};
+use crate::search::place_of;
+use sqz_object::{Chunk, Order, chunk_at};
+use std::alloc::{AllocError, Global};
+use std::marker::Model;
+
+/// An object memory as it was saved: chunks of words, of which those that are not free are objects.
+/// Objects are named by their index, counted from 0 in address order.
+#[derive(Drop)]
+pub struct Heap {
+    order: Order,
+    base: u32,
+    special: u32,
+    special_object: u32,
+    words: Vec<u32>,
+    /// The index of the first word of each object's chunk.
+    firsts: Vec<u32>,
+    /// The address of each object.
+    addresses: Vec<u32>,
+}
+
+impl Model for Heap {
+    ghost use Rattle.sqz_image.specs.Objects.{Memory};
+    ghost use Rattle.sqz_image.specs.Memory.{memory_of, IsKept};
+
+    ghost Value = { Memory };
+
+    ghost view = { λ heap. memory_of heap.order heap.base heap.special heap.words.items };
+
+    ghost invariant = { λ heap. IsKept (memory_of heap.order heap.base heap.special heap.words.items) heap.words.items heap.firsts.items heap.addresses.items heap.special_object };
+}
+
+impl Heap {
+    /// The object memory with these data words; None where they are no plain chunks, or no object has
+    /// the address of the special objects array.
+    pub(crate) fn of(alloc: Global, order: Order, base: u32, special: u32, words: Vec<u32>) -> Result<Option<Self>, AllocError>
+        requires few { length words.items < 2 ^ 30 }
+        requires within { base + 4 * length words.items ≤ 2 ^ 32 }
+        requires aligned { base % 4 ≡ 0 }
+        ensures heap { IfOk result (λ found. IfSome found (λ heap. IsPlainMemory order base special words.items heap)) }
+        ensures none { IfOk result (λ found. IsNone found → (memory : Memory) → IsPlainMemory order base special words.items memory → ⊥) }
+    {
+        let Some(index) = index_of(alloc, &words, base)? else {
+            return Ok(None);
+        };
+        let Some(special_object) = place_of(&index.addresses, special) else {
+            return Ok(None);
+        };
+        let Index { firsts, addresses } = index;
+        Ok(Some(Heap {
+            order,
+            base,
+            special,
+            special_object,
+            words,
+            firsts,
+            addresses,
+        }))
+    }
+
+    /// The byte order of the file.
+    pub fn order(&self) -> Order
+        ensures { result ≡ self.now.order }
+    {
+        self.order
+    }
+
+    /// The address of the first data word.
+    pub fn base(&self) -> u32
+        ensures { result ≡ self.now.base }
+    {
+        self.base
+    }
+
+    /// The number of data words.
+    pub fn words(&self) -> u32
+        ensures words { result ≡ length (concat self.now.chunks) }
+        ensures few { result < 2 ^ 30 }
+        ensures within { self.now.base + 4 * result ≤ 2 ^ 32 }
+    {
+        self.words.len() as u32
+    }
+
+    /// The number of objects.
+    pub fn len(&self) -> u32
+        ensures objects { result ≡ object_count self.now }
+        ensures few { result < 2 ^ 30 }
+    {
+        self.firsts.len() as u32
+    }
+
+    /// The address of the object's base header.
+    pub fn address(&self, object: u32) -> u32
+        requires { object < object_count self.now }
+        ensures { result ≡ address_of self.now object }
+    {
+        self.addresses[object as usize]
+    }
+
+    /// The index of the first word of the object's chunk among the data words.
+    pub fn first(&self, object: u32) -> u32
+        requires { object < object_count self.now }
+        ensures first { result ≡ (object_at self.now object).first }
+        ensures inside { result + length (chunk_words self.now object) < 2 ^ 30 }
+    {
+        self.firsts[object as usize]
+    }
+
+    /// What the header words of the object's chunk say.
+    pub fn chunk(&self, object: u32) -> Chunk
+        requires { object < object_count self.now }
+        ensures described { result ≡ description (chunk_words self.now object) }
+        ensures headed { result.before < result.length }
+        ensures few { result.length < 2 ^ 30 }
+    {
+        match chunk_at(&self.words, self.first(object) as usize) {
+            Ok(chunk) => chunk,
+            Err(_) => unreachable!(),
+        }
+    }
+
+    /// Word `k` of the object's chunk, header words counted.
+    pub fn word(&self, object: u32, k: u32) -> u32
+        requires object { object < object_count self.now }
+        requires word { k < length (chunk_words self.now object) }
+        ensures { result ≡ slice_index (chunk_words self.now object) k }
+    {
+        self.words[(self.first(object) + k) as usize]
+    }
+
+    /// The number of the object's fields: the words after its base header.
+    pub fn fields(&self, object: u32) -> u32
+        requires { object < object_count self.now }
+        ensures { result ≡ length (fields (chunk_words self.now object)) }
+    {
+        let chunk = self.chunk(object);
+        chunk.length - chunk.before - 1
+    }
+
+    /// Field `k` of the object.
+    pub fn field(&self, object: u32, k: u32) -> u32
+        requires object { object < object_count self.now }
+        requires field { k < length (fields (chunk_words self.now object)) }
+        ensures { result ≡ slice_index (fields (chunk_words self.now object)) k }
+    {
+        self.word(object, self.chunk(object).before + 1 + k)
+    }
+
+    /// The object whose address it is.
+    pub fn find(&self, address: u32) -> Option<u32>
+        ensures { result ≡ find self.now address }
+    {
+        place_of(&self.addresses, address)
+    }
+
+    /// The special objects array.
+    pub fn special(&self) -> u32
+        ensures { find self.now self.now.special ≡ Some result }
+    {
+        self.special_object
+    }
+}

@@ -1,0 +1,35 @@
+//! Image files of the Squeak object memory, version 6502 of 32 bits: the devices that bytes come from
+//! and go to, the file as bytes, and the objects that it holds.
+#![tactic(auto)]
+
+mod device;
+mod fault;
+mod header;
+mod heap;
+mod image;
+mod index;
+mod memory_sink;
+mod memory_source;
+mod plain;
+mod read_source;
+mod read_whole;
+mod reading;
+mod search;
+mod words;
+mod writing;
+mod write_sink;
+mod write_whole;
+mod write_words;
+
+pub use device::{DeviceFault, Sink, Source};
+pub use fault::{Fault, Slot};
+pub use heap::Heap;
+pub use image::Image;
+pub use memory_sink::MemorySink;
+pub use memory_source::MemorySource;
+pub use read_source::ReadSource;
+pub use read_whole::read_all;
+pub use reading::read_first;
+pub use writing::write_image;
+pub use write_sink::WriteSink;
+pub use write_whole::write_all;

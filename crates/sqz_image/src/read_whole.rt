@@ -1,0 +1,56 @@
+//! All the bytes of a source.
+
+ghost use Rattle.std.specs.Prelude.{◌≡◌, ◌++◌, IfOk, OnOk, IfErr};
+ghost use Rattle.sqz_image.specs.Devices.{ReadsWhole, ReadStops};
+ghost use Rattle.sqz_image.specs.declared.fault.Fault.TheVariants.{OutOfMemory};
+
+use crate::device::Source;
+use crate::fault::Fault;
+use std::alloc::Global;
+
+/// How many reads are made at most: where they do not end, this many are made and the call fails.
+const TURNS: u64 = 1 << 32;
+
+/// How many bytes are asked for at once.
+const PIECE: usize = 1 << 16;
+
+/// How many bytes of room are added at least.
+const LEAST_ROOM: usize = 1 << 20;
+
+/// The bytes that the source has left, all of them. The last read of a call that succeeds is one that
+/// gave no byte.
+///
+/// Fails with `OutOfMemory`, or with `ReadFailed` where a read fails, and where 2^32 reads did not
+/// come to the end. Bytes that were read are then lost.
+pub fn read_all<R: Source>(alloc: Global, source: &mut R) -> Result<Vec<u8>, Fault>
+    ensures whole { IfOk result (λ file. ReadsWhole (R.state source.old) (R.state source.new) file.items) }
+    ensures stopped { IfErr result (λ fault. ReadStops (R.state source.old) (R.state source.new) fault) }
+{
+    let mut file = Vec::new(alloc);
+    let mut piece = [0; PIECE];
+    for _ in 1..TURNS {
+        let Ok(count) = source.read(&mut piece) else {
+            return Err(Fault::ReadFailed);
+        };
+        if count == 0 {
+            return Ok(file);
+        }
+        append(&mut file, &piece[..count])?;
+    }
+    let _ = source.read(&mut piece);
+    Err(Fault::ReadFailed)
+}
+
+/// Puts bytes at the end of a file. Room is added in steps of a quarter of what is there, so that the
+/// memory taken stays close to what is used.
+fn append(file: &mut Vec<u8>, bytes: &[u8]) -> Result<(), Fault>
+    ensures whole { OnOk result (file.new.items ≡ file.old.items ++ bytes.now) }
+    ensures stopped { IfErr result (λ fault. fault ≡ OutOfMemory) }
+{
+    if file.capacity() - file.len() < bytes.len() {
+        let room = (file.len() / 4).max(LEAST_ROOM);
+        file.reserve_exact(room).map_err(|_| Fault::OutOfMemory)?;
+    }
+    file.extend_from_slice(bytes)
+        .map_err(|_| Fault::OutOfMemory)
+}

@@ -1,0 +1,452 @@
+-- What the words of a chunk say of it, and when no chunk begins with some words.
+use Rattle.std.proofs.Common.{◌≡◌, ℕ, zero, suc, ◌+◌, ◌-◌, ◌/◌, ◌%◌, ◌<◌, ◌≤◌, ◌⊎◌, Bool, true, false, not, ◌&&◌, cond, eqb, ltb, List, [], ◌∷◌, ◌++◌, length, take, drop, slice_index, Option, Some, None, refl, sym, ap, subst, ◌∙◌, add-zero, arith, inl, inr}
+use Rattle.std.specs.List.{list_all}
+use Rattle.std.proofs.lemmas.Bool.{ltb-false, eqb-true, eqb-false, lt-ltb, le-ltb, eq-eqb, ne_eqb, and_parts}
+use Rattle.std.proofs.lemmas.List.{take-append-drop, length-append, length-take-le, get_or-take, get_or-drop, take_at}
+use Rattle.sqz_object.specs.declared.base.Base.{Base}
+use Rattle.sqz_object.specs.declared.chunk.Kind.{Kind}
+use Rattle.sqz_object.specs.declared.chunk.Kind.TheVariants.{Three, Two, Free, Short}
+use Rattle.sqz_object.specs.declared.chunk.Chunk.{Chunk}
+use Rattle.sqz_object.specs.declared.chunk.ChunkFault.{ChunkFault}
+use Rattle.sqz_object.specs.declared.chunk.ChunkFault.TheVariants.{ZeroSize, HeaderMismatch, Overrun}
+use Rattle.sqz_object.specs.Value.{base_of}
+use Rattle.sqz_object.specs.Chunk.{header_type, size_field, IsChunkOf, IsChunk, kind_of, chunk_kind, words_before, before, base_word}
+use Rattle.sqz_object.specs.Partition.{stated_size, stated_length, is_of_one_type, chunk_fault}
+use Rattle.sqz_object.specs.Reading.{BeginsWith, HasNoChunk}
+
+-- ---- the kind that a header type stands for
+
+-- a header type's kind
+pub kind_of-three : (word : ℕ) → header_type word ≡ 0 → kind_of word ≡ Three
+kind_of-three word e = rw e refl
+
+pub kind_of-two : (word : ℕ) → header_type word ≡ 1 → kind_of word ≡ Two
+kind_of-two word e = rw e refl
+
+pub kind_of-free : (word : ℕ) → header_type word ≡ 2 → kind_of word ≡ Free
+kind_of-free word e = rw e refl
+
+pub kind_of-short : (word : ℕ) → header_type word ≡ 3 → kind_of word ≡ Short
+kind_of-short word e = rw e refl
+
+-- the header type of each kind
+abbrev pub type_of : Kind → ℕ
+type_of Three = 0
+type_of Two = 1
+type_of Free = 2
+type_of Short = 3
+
+-- the four numbers below four
+cases_below_four : (n : ℕ) → n < 4 → (n ≡ 0) ⊎ ((n ≡ 1) ⊎ ((n ≡ 2) ⊎ (n ≡ 3)))
+cases_below_four zero h = inl refl
+cases_below_four (suc zero) h = inr (inl refl)
+cases_below_four (suc (suc zero)) h = inr (inr (inl refl))
+cases_below_four (suc (suc (suc zero))) h = inr (inr (inr refl))
+cases_below_four (suc (suc (suc (suc n)))) h = absurd (omega arith)
+
+-- the type of a word's kind is the word's
+pub type_of-kind_of : (word : ℕ) → type_of (kind_of word) ≡ header_type word
+type_of-kind_of word =
+    elim (cases_below_four (word % 4) (omega arith)) [
+      | inl e ↦ rw e refl
+      | inr (inl e) ↦ rw e refl
+      | inr (inr (inl e)) ↦ rw e refl
+      | inr (inr (inr e)) ↦ rw e refl
+    ]
+
+-- ---- a chunk
+
+-- a chunk has all its header words
+pub chunk_has_header : (kind : Kind) (chunk : List ℕ) → IsChunkOf kind chunk → words_before kind < length chunk
+chunk_has_header Three (size ∷ class ∷ base ∷ fields) h = omega arith
+chunk_has_header Two (class ∷ base ∷ fields) h = omega arith
+chunk_has_header Free (free ∷ rest) h = omega arith
+chunk_has_header Short (base ∷ fields) h = omega arith
+chunk_has_header _ _ h = absurd h
+
+-- a chunk has a word
+pub chunk_not_empty : (kind : Kind) (chunk : List ℕ) → IsChunkOf kind chunk → 1 ≤ length chunk
+chunk_not_empty kind chunk h = let k = chunk_has_header kind chunk h in omega arith
+
+-- the first word of a chunk tells its kind
+pub chunk_kind_is : (kind : Kind) (chunk : List ℕ) → IsChunkOf kind chunk → chunk_kind chunk ≡ kind
+chunk_kind_is Three (size ∷ class ∷ base ∷ fields) h = kind_of-three size h.0
+chunk_kind_is Two (class ∷ base ∷ fields) h = kind_of-two class h.0
+chunk_kind_is Free (free ∷ rest) h = kind_of-free free h.0
+chunk_kind_is Short (base ∷ fields) h = kind_of-short base h.0
+chunk_kind_is _ _ h = absurd h
+
+-- words that begin with another's first word begin a chunk of its kind
+pub chunk_kind-append : (chunk rest : List ℕ) → 1 ≤ length chunk → chunk_kind (chunk ++ rest) ≡ chunk_kind chunk
+chunk_kind-append [] rest h = absurd (omega arith)
+chunk_kind-append (word ∷ chunk) rest h = refl
+
+-- the kind that words begin with is told by any front of them
+pub chunk_kind-take : (count : ℕ) (words : List ℕ) → 0 < count → chunk_kind (take count words) ≡ chunk_kind words
+chunk_kind-take count words h = ap kind_of (get_or-take count words 0 0 h)
+
+-- so is the base header, where the front has it
+pub base_word-take : (count : ℕ) (words : List ℕ) → before words < count → base_word (take count words) ≡ base_word words
+base_word-take count words h =
+    let some : 0 < count = omega arith in
+    let same : before (take count words) ≡ before words = ap words_before (chunk_kind-take count words some) in
+    ap (λ (i : ℕ). slice_index (take count words) i) same ∙ get_or-take count words (before words) 0 h
+
+-- ---- what a header states, of each kind
+
+-- the four tests of `chunk_fault` in its order
+faults : Bool → Bool → Bool → Bool → Option ChunkFault
+faults short same empty over = cond short (Some Overrun) (cond (not same) (Some HeaderMismatch) (cond empty (Some ZeroSize) (cond over (Some Overrun) None)))
+
+-- what they come to, by the first that applies
+no_fault : (short same empty over : Bool) → short ≡ false → same ≡ true → empty ≡ false → over ≡ false → faults short same empty over ≡ None
+unfolding faults
+no_fault short same empty over a b c d = rw (a, b, c, d) refl
+
+faults_mismatch : (short same empty over : Bool) → short ≡ false → same ≡ false → faults short same empty over ≡ Some HeaderMismatch
+unfolding faults
+faults_mismatch short same empty over a b = rw (a, b) refl
+
+faults_zero_size : (short same empty over : Bool) → short ≡ false → same ≡ true → empty ≡ true → faults short same empty over ≡ Some ZeroSize
+unfolding faults
+faults_zero_size short same empty over a b c = rw (a, b, c) refl
+
+faults_overrun : (short same empty over : Bool) → short ≡ false → same ≡ true → empty ≡ false → over ≡ true → faults short same empty over ≡ Some Overrun
+unfolding faults
+faults_overrun short same empty over a b c d = rw (a, b, c, d) refl
+
+-- a fault is not none
+some_is_none : (f : ChunkFault) → Some f ≡ None → ⊥
+some_is_none f e = cc
+
+-- which tests have failed where there is no fault
+no_fault_parts : (short same empty over : Bool) → faults short same empty over ≡ None → (short ≡ false) × (same ≡ true) × (empty ≡ false) × (over ≡ false)
+unfolding faults
+no_fault_parts true same empty over e = absurd (some_is_none Overrun e)
+no_fault_parts false false empty over e = absurd (some_is_none HeaderMismatch e)
+no_fault_parts false true true over e = absurd (some_is_none ZeroSize e)
+no_fault_parts false true false true e = absurd (some_is_none Overrun e)
+no_fault_parts false true false false e = (refl, refl, refl, refl)
+
+-- the words at the front have a header whose size is of some words, and have those words
+pub record HasRoom (words : List ℕ) : Type 0 where
+  pub header : before words < length words
+  pub one_type : is_of_one_type words ≡ true
+  pub some_size : 0 < stated_size (chunk_kind words) words
+  pub room : stated_length words ≤ length words
+
+-- such words have no fault
+pub no_fault_with_room : (words : List ℕ) → HasRoom words → chunk_fault words ≡ None
+unfolding faults
+no_fault_with_room words h =
+    no_fault
+    (ltb (length words) (before words + 1))
+    (is_of_one_type words)
+    (eqb (stated_size (chunk_kind words) words) 0)
+    (ltb (length words) (stated_length words))
+    (le-ltb _ _ (let lt = h.header in omega arith))
+    h.one_type
+    (ne_eqb _ _ (λ e. let lt = h.some_size in omega arith))
+    (le-ltb _ _ h.room)
+
+-- words with no fault have room
+pub HasRoom-from_no_fault : (words : List ℕ) → chunk_fault words ≡ None → HasRoom words
+unfolding faults
+HasRoom-from_no_fault words e =
+    let parts =
+    no_fault_parts
+    (ltb (length words) (before words + 1))
+    (is_of_one_type words)
+    (eqb (stated_size (chunk_kind words) words) 0)
+    (ltb (length words) (stated_length words))
+    e
+    in
+    let header : before words + 1 ≤ length words = ltb-false _ _ parts.0 in
+    let size = eqb-false _ _ parts.2 in
+    record {
+      header = omega arith;
+      one_type = parts.1;
+      some_size = omega arith;
+      room = ltb-false _ _ parts.3;
+    }
+
+-- the four reasons, each where those before it do not apply: first, no room for the header
+pub fault_of_short_header : (words : List ℕ) → length words ≤ before words → chunk_fault words ≡ Some Overrun
+fault_of_short_header words h = rw (lt-ltb (length words) (before words + 1) (omega arith)) refl
+
+-- header words of several types
+pub fault_of_types : (words : List ℕ) → before words < length words → is_of_one_type words ≡ false → chunk_fault words ≡ Some HeaderMismatch
+unfolding faults
+fault_of_types words lt types =
+    faults_mismatch
+    (ltb (length words) (before words + 1))
+    (is_of_one_type words)
+    (eqb (stated_size (chunk_kind words) words) 0)
+    (ltb (length words) (stated_length words))
+    (le-ltb _ _ (omega arith))
+    types
+
+-- a size of no words
+pub fault_of_zero_size : (words : List ℕ) → before words < length words → is_of_one_type words ≡ true → stated_size (chunk_kind words) words ≡ 0 → chunk_fault words ≡ Some ZeroSize
+unfolding faults
+fault_of_zero_size words lt types zero_size =
+    faults_zero_size
+    (ltb (length words) (before words + 1))
+    (is_of_one_type words)
+    (eqb (stated_size (chunk_kind words) words) 0)
+    (ltb (length words) (stated_length words))
+    (le-ltb _ _ (omega arith))
+    types
+    (eq-eqb _ _ zero_size)
+
+-- more words stated than there are
+pub fault_of_overrun : (words : List ℕ) → before words < length words → is_of_one_type words ≡ true → 0 < stated_size (chunk_kind words) words → length words < stated_length words → chunk_fault words ≡ Some Overrun
+unfolding faults
+fault_of_overrun words lt types some long =
+    faults_overrun
+    (ltb (length words) (before words + 1))
+    (is_of_one_type words)
+    (eqb (stated_size (chunk_kind words) words) 0)
+    (ltb (length words) (stated_length words))
+    (le-ltb _ _ (omega arith))
+    types
+    (ne_eqb _ _ (λ e. omega arith))
+    (lt-ltb _ _ long)
+
+-- words that begin with a chunk have room, and state its length
+pub record StatesChunk (words : List ℕ) (size : ℕ) : Type 0 where
+  pub has_room : HasRoom words
+  pub states : stated_length words ≡ size
+
+-- words that begin with a chunk do so
+pub states_chunk : (kind : Kind) (chunk rest : List ℕ) → IsChunkOf kind chunk → StatesChunk (chunk ++ rest) (length chunk)
+states_chunk Three (size ∷ class ∷ base ∷ fields) rest (a, b, c, len) =
+    let more : length (fields ++ rest) ≡ length fields + length rest = length-append fields rest in
+    record {
+      has_room = record { header = rw a (omega arith); one_type = rw (a, a, b, c) refl; some_size = rw a (omega arith); room = rw a (omega arith) };
+      states = rw a (omega arith);
+    }
+states_chunk Two (class ∷ base ∷ fields) rest (a, b, len) =
+    let more : length (fields ++ rest) ≡ length fields + length rest = length-append fields rest in
+    record {
+      has_room = record { header = rw a (omega arith); one_type = rw (a, a, b) refl; some_size = rw (a, a) (omega arith); room = rw (a, a) (omega arith) };
+      states = rw (a, a) (omega arith);
+    }
+states_chunk Free (free ∷ fields) rest (a, len) =
+    let more : length (fields ++ rest) ≡ length fields + length rest = length-append fields rest in
+    record {
+      has_room = record { header = rw a (omega arith); one_type = rw (a, a) refl; some_size = rw a (omega arith); room = rw a (omega arith) };
+      states = rw a (omega arith);
+    }
+states_chunk Short (base ∷ fields) rest (a, len) =
+    let more : length (fields ++ rest) ≡ length fields + length rest = length-append fields rest in
+    record {
+      has_room = record { header = rw a (omega arith); one_type = rw (a, a) refl; some_size = rw (a, a) (omega arith); room = rw (a, a) (omega arith) };
+      states = rw (a, a) (omega arith);
+    }
+states_chunk _ _ rest h = absurd h
+
+-- nothing is wrong where words begin with a chunk
+pub no_fault_at_chunk : (kind : Kind) (chunk rest : List ℕ) → IsChunkOf kind chunk → chunk_fault (chunk ++ rest) ≡ None
+no_fault_at_chunk kind chunk rest h = no_fault_with_room (chunk ++ rest) (states_chunk kind chunk rest h).has_room
+
+-- the same of a front that is a chunk
+pub no_fault_at_prefix : (kind : Kind) (count : ℕ) (words : List ℕ) → IsChunkOf kind (take count words) → chunk_fault words ≡ None
+no_fault_at_prefix kind count words h =
+    rw take-append-drop at (no_fault_at_chunk kind (take count words) (drop count words) h)
+
+-- words that begin with a chunk state its length
+pub stated_length-append : (kind : Kind) (chunk rest : List ℕ) → IsChunkOf kind chunk → stated_length (chunk ++ rest) ≡ length chunk
+stated_length-append kind chunk rest h = (states_chunk kind chunk rest h).states
+
+-- the same of a front that is a chunk
+pub stated_length_at_prefix : (kind : Kind) (count : ℕ) (words : List ℕ) → IsChunkOf kind (take count words) → stated_length words ≡ length (take count words)
+stated_length_at_prefix kind count words h =
+    subst (λ (w : List ℕ). stated_length w ≡ length (take count words)) (take-append-drop count words) (stated_length-append kind (take count words) (drop count words) h)
+
+-- where something is wrong, no chunk begins
+pub no_chunk_at_fault : (words : List ℕ) (fault : ChunkFault) → chunk_fault words ≡ Some fault → (count : ℕ) → IsChunk (take count words) → ⊥
+no_chunk_at_fault words fault e count (kind, h) =
+    some_is_none fault (sym e ∙ no_fault_at_prefix kind count words h)
+
+-- the reason is enough for `HasNoChunk`
+pub HasNoChunk-from_fault : (words : List ℕ) (fault : ChunkFault) → chunk_fault words ≡ Some fault → HasNoChunk words fault
+HasNoChunk-from_fault words fault e = record { none = no_chunk_at_fault words fault e; reason = e }
+
+-- two chunks at the front of some words are one
+pub chunk_prefix_unique : (words : List ℕ) (m n : ℕ) → m ≤ length words → n ≤ length words → IsChunk (take m words) → IsChunk (take n words) → m ≡ n
+chunk_prefix_unique words m n hm hn (j, a) (k, b) =
+    sym (length-take-le m words hm)
+    ∙ sym (stated_length_at_prefix j m words a)
+    ∙ stated_length_at_prefix k n words b
+    ∙ length-take-le n words hn
+
+-- two chunks with which one list begins are one
+pub chunk_front_unique : (chunk rest other more : List ℕ) → IsChunk chunk → IsChunk other → chunk ++ rest ≡ other ++ more → chunk ≡ other
+chunk_front_unique chunk rest other more (j, a) (k, b) e =
+    let same : length other ≡ length chunk =
+    sym (stated_length-append k other more b)
+    ∙ sym (ap stated_length e)
+    ∙ stated_length-append j chunk rest a
+    in
+    sym (take_at chunk rest (length chunk) refl)
+    ∙ ap (take (length chunk)) e
+    ∙ take_at other more (length chunk) same
+
+-- ---- the chunk that words with no fault begin with
+
+-- the first word's type is that of the kind
+type_from_kind : (kind : Kind) (words : List ℕ) → chunk_kind words ≡ kind → header_type (slice_index words 0) ≡ type_of kind
+type_from_kind kind words e = sym (type_of-kind_of (slice_index words 0)) ∙ ap type_of e
+
+-- the front of that length, of each kind, where the header is there
+chunk_from : (kind : Kind) (words : List ℕ) → header_type (slice_index words 0) ≡ type_of kind → words_before kind < length words → HasRoom words → IsChunkOf kind (take (stated_length words) words)
+chunk_from Three (size ∷ class ∷ base ∷ rest) a lt h =
+    let types : (eqb (class % 4) 0 && (eqb (base % 4) 0 && true)) ≡ true = rw (a, a) at h.one_type in
+    let some : 0 < size / 4 = rw a at h.some_size in
+    let room : 2 + size / 4 ≤ length (size ∷ class ∷ base ∷ rest) = rw a at h.room in
+    let k : ℕ = size / 4 - 1 in
+    let is : stated_length (size ∷ class ∷ base ∷ rest) ≡ suc (suc (suc k)) = rw a (omega arith) in
+    let len : length (take k rest) ≡ k = length-take-le k rest (omega arith) in
+    let tests = and_parts _ _ types in
+    let last = and_parts _ _ tests.1 in
+    rw is (a, eqb-true _ _ tests.0, eqb-true _ _ last.0, omega arith)
+chunk_from Two (class ∷ base ∷ rest) a lt h =
+    let types : (eqb (base % 4) 1 && true) ≡ true = rw (a, a) at h.one_type in
+    let some : 0 < size_field base = rw (a, a) at h.some_size in
+    let room : 1 + size_field base ≤ length (class ∷ base ∷ rest) = rw (a, a) at h.room in
+    let k : ℕ = size_field base - 1 in
+    let is : stated_length (class ∷ base ∷ rest) ≡ suc (suc k) = rw (a, a) (omega arith) in
+    let len : length (take k rest) ≡ k = length-take-le k rest (omega arith) in
+    let tests = and_parts _ _ types in
+    rw is (a, eqb-true _ _ tests.0, omega arith)
+chunk_from Free (free ∷ rest) a lt h =
+    let some : 0 < free / 4 = rw a at h.some_size in
+    let room : 0 + free / 4 ≤ length (free ∷ rest) = rw a at h.room in
+    let k : ℕ = free / 4 - 1 in
+    let is : stated_length (free ∷ rest) ≡ suc k = rw a (omega arith) in
+    let len : length (take k rest) ≡ k = length-take-le k rest (omega arith) in
+    rw is (a, omega arith)
+chunk_from Short (base ∷ rest) a lt h =
+    let some : 0 < size_field base = rw (a, a) at h.some_size in
+    let room : 0 + size_field base ≤ length (base ∷ rest) = rw (a, a) at h.room in
+    let k : ℕ = size_field base - 1 in
+    let is : stated_length (base ∷ rest) ≡ suc k = rw (a, a) (omega arith) in
+    let len : length (take k rest) ≡ k = length-take-le k rest (omega arith) in
+    rw is (a, omega arith)
+chunk_from _ _ a lt h = absurd (omega arith)
+
+-- words with no fault begin with a chunk of their kind, of the stated length
+pub is_chunk_with_no_fault : (words : List ℕ) → chunk_fault words ≡ None → IsChunkOf (chunk_kind words) (take (stated_length words) words)
+is_chunk_with_no_fault words e =
+    let h = HasRoom-from_no_fault words e in
+    chunk_from (chunk_kind words) words (type_from_kind (chunk_kind words) words refl) h.header h
+
+-- and they have those words
+pub stated_length_within : (words : List ℕ) → chunk_fault words ≡ None → stated_length words ≤ length words
+stated_length_within words e = (HasRoom-from_no_fault words e).room
+
+-- so they begin with the chunk that their header states
+pub BeginsWith-from_no_fault : (words : List ℕ) → chunk_fault words ≡ None → BeginsWith words (record { kind = chunk_kind words; before = before words; length = stated_length words; base = base_word words })
+BeginsWith-from_no_fault words e =
+    let h = HasRoom-from_no_fault words e in
+    let lt : before words < stated_length words = let some = h.some_size in omega arith in
+    record {
+      inside = h.room;
+      is_chunk = is_chunk_with_no_fault words e;
+      before = refl;
+      base = sym (base_word-take (stated_length words) words lt);
+    }
+
+-- ---- chunks of one header word
+
+-- what the one header word at the front says
+pub record HasOneHeader (words : List ℕ) (kind : Kind) (size : ℕ) : Type 0 where
+  pub kind_is : chunk_kind words ≡ kind
+  pub none_before : before words ≡ 0
+  pub size_is : stated_size (chunk_kind words) words ≡ size
+
+-- a word of type 2 says so
+pub HasOneHeader-free : (words : List ℕ) (first : ℕ) → slice_index words 0 ≡ first → header_type first ≡ 2 → HasOneHeader words Free (first / 4)
+HasOneHeader-free words first is two =
+    let kind : chunk_kind words ≡ Free = ap kind_of is ∙ kind_of-free first two in
+    record {
+      kind_is = kind;
+      none_before = ap words_before kind;
+      size_is = ap (λ (k : Kind). stated_size k words) kind ∙ ap (λ (w : ℕ). w / 4) is;
+    }
+
+-- a word of type 3 says so
+pub HasOneHeader-short : (words : List ℕ) (first : ℕ) → slice_index words 0 ≡ first → header_type first ≡ 3 → HasOneHeader words Short (size_field first)
+HasOneHeader-short words first is three =
+    let kind : chunk_kind words ≡ Short = ap kind_of is ∙ kind_of-short first three in
+    let none : before words ≡ 0 = ap words_before kind in
+    let base : base_word words ≡ first = ap (λ (i : ℕ). slice_index words i) none ∙ is in
+    record {
+      kind_is = kind;
+      none_before = none;
+      size_is = ap (λ (k : Kind). stated_size k words) kind ∙ ap size_field base;
+    }
+
+-- one header word has the type of itself
+first_is_of_its_type : (words : List ℕ) → list_all (λ word. eqb (header_type word) (header_type (slice_index words 0))) (take 1 words) ≡ true
+first_is_of_its_type [] = refl
+first_is_of_its_type (word ∷ words) = rw (eq-eqb (header_type word) (header_type word) refl) refl
+
+-- one header word has one type
+one_type_of_one : (words : List ℕ) → before words ≡ 0 → is_of_one_type words ≡ true
+one_type_of_one words none =
+    ap (λ (n : ℕ). list_all (λ word. eqb (header_type word) (header_type (slice_index words 0))) (take (n + 1) words)) none ∙ first_is_of_its_type words
+
+-- equal fields make one chunk
+same_chunk : {k l : Kind} {a b m n x y : ℕ} → k ≡ l → a ≡ b → m ≡ n → x ≡ y → let one : Chunk = record { kind = k; before = a; length = m; base = x } in one ≡ record { kind = l; before = b; length = n; base = y }
+same_chunk p q r s = cc
+
+-- no words stated
+pub one_header_zero_size : (words : List ℕ) (kind : Kind) (size : ℕ) → HasOneHeader words kind size → 0 < length words → size ≡ 0 → HasNoChunk words ZeroSize
+one_header_zero_size words kind size h some zero_size =
+    HasNoChunk-from_fault words ZeroSize
+    (fault_of_zero_size words (rw h.none_before some) (one_type_of_one words h.none_before) (h.size_is ∙ zero_size))
+
+-- more words than there are
+pub one_header_overrun : (words : List ℕ) (kind : Kind) (size : ℕ) → HasOneHeader words kind size → 0 < length words → 0 < size → length words < size → HasNoChunk words Overrun
+one_header_overrun words kind size h some positive long =
+    let none = h.none_before in
+    let is = h.size_is in
+    HasNoChunk-from_fault words Overrun
+    (fault_of_overrun words (omega arith) (one_type_of_one words none) (omega arith) (omega arith))
+
+-- some words, all there
+pub one_header_begins : (words : List ℕ) (kind : Kind) (size : ℕ) → HasOneHeader words kind size → 0 < length words → 0 < size → size ≤ length words → BeginsWith words (record { kind = kind; before = 0; length = size; base = slice_index words 0 })
+one_header_begins words kind size h some positive room =
+    let none = h.none_before in
+    let is = h.size_is in
+    let has_room : HasRoom words = record { header = omega arith; one_type = one_type_of_one words none; some_size = omega arith; room = omega arith } in
+    let states : stated_length words ≡ size = omega arith in
+    let whole : Chunk = record { kind = chunk_kind words; before = before words; length = stated_length words; base = base_word words } in
+    let same : whole ≡ record { kind = kind; before = 0; length = size; base = slice_index words 0 } =
+    same_chunk h.kind_is none states (ap (λ (i : ℕ). slice_index words i) none)
+    in
+    subst (BeginsWith words) same (BeginsWith-from_no_fault words (no_fault_with_room words has_room))
+
+-- ---- one word of a longer list
+
+-- the first word from `p` on
+pub slice_index-drop : (words : List ℕ) (p : ℕ) → slice_index (drop p words) 0 ≡ slice_index words p
+slice_index-drop words p = rw (get_or-drop p words 0 0, add-zero) refl
+
+-- the header word of type 2 at `p`
+pub HasOneHeader-free_at : (words : List ℕ) (p : ℕ) (pair : Kind × ℕ) → header_type (slice_index words p) ≡ 2 → pair ≡ (Free, slice_index words p / 4) → HasOneHeader (drop p words) pair.0 pair.1
+HasOneHeader-free_at words p pair two is =
+    subst (λ (x : Kind × ℕ). HasOneHeader (drop p words) x.0 x.1) (sym is) (HasOneHeader-free (drop p words) (slice_index words p) (slice_index-drop words p) two)
+
+-- of two numbers the other
+other_of_two : {n a b : ℕ} → (n ≡ a) ⊎ (n ≡ b) → (n ≡ a → ⊥) → n ≡ b
+other_of_two (inl e) h = absurd (h e)
+other_of_two (inr e) h = e
+
+-- the header word of type 3 at `p`
+pub HasOneHeader-short_at : (words : List ℕ) (p : ℕ) (pair : Kind × ℕ) (base : Base) → (header_type (slice_index words p) ≡ 2) ⊎ (header_type (slice_index words p) ≡ 3) → (header_type (slice_index words p) ≡ 2 → ⊥) → base ≡ base_of (slice_index words p) → pair ≡ (Short, base.size_field) → HasOneHeader (drop p words) pair.0 pair.1
+HasOneHeader-short_at words p pair base either not_two read is =
+    let all : pair ≡ (Short, size_field (slice_index words p)) = is ∙ ap (λ (b : Base). (Short, b.size_field)) read in
+    subst (λ (x : Kind × ℕ). HasOneHeader (drop p words) x.0 x.1) (sym all) (HasOneHeader-short (drop p words) (slice_index words p) (slice_index-drop words p) (other_of_two either not_two))

@@ -1,0 +1,5 @@
+pub mod Bytes
+pub mod Value
+pub mod Chunk
+pub mod Partition
+pub mod Reading

@@ -1,0 +1,45 @@
+-- The data of an image as one chunk after another, and where that stops.
+use Rattle.std.specs.Prelude.{◌≡◌, ℕ, ◌+◌, ◌/◌, ◌<◌, ◌==◌, Bool, nat_lt, if◌then◌else◌, List, length, take, drop, slice_index, Option, Some, None, not}
+use Rattle.std.specs.List.{concat, AllByRecursion, list_all}
+use Rattle.sqz_object.specs.declared.chunk.Kind.{Kind}
+use Rattle.sqz_object.specs.declared.chunk.Kind.TheVariants.{Three, Two, Free, Short}
+use Rattle.sqz_object.specs.declared.chunk.ChunkFault.{ChunkFault}
+use Rattle.sqz_object.specs.declared.chunk.ChunkFault.TheVariants.{ZeroSize, HeaderMismatch, Overrun}
+use Rattle.sqz_object.specs.Chunk.{header_type, size_field, IsChunk, chunk_kind, before, base_word}
+
+-- the words are these chunks, one directly after the other
+pub record IsPartition (words : List ℕ) (chunks : List (List ℕ)) : Type 0 where
+  pub each : AllByRecursion IsChunk chunks
+  pub whole : concat chunks ≡ words
+
+-- how many words the header at the front says that the chunk has from its base header on
+abbrev pub stated_size : Kind → List ℕ → ℕ
+stated_size Three words = slice_index words 0 / 4
+stated_size Two words = size_field (base_word words)
+stated_size Free words = slice_index words 0 / 4
+stated_size Short words = size_field (base_word words)
+
+-- how many words the header at the front says that the chunk has
+abbrev pub stated_length : List ℕ → ℕ
+stated_length words = before words + stated_size (chunk_kind words) words
+
+-- whether the header words at the front have one type
+abbrev pub is_of_one_type : List ℕ → Bool
+is_of_one_type words =
+    list_all (λ word. header_type word == header_type (slice_index words 0)) (take (before words + 1) words)
+
+-- why no chunk begins with these words: the first reason of four that applies
+abbrev pub chunk_fault : List ℕ → Option ChunkFault
+chunk_fault words =
+    if nat_lt (length words) (before words + 1) then Some Overrun
+    else (if not (is_of_one_type words) then Some HeaderMismatch
+    else (if stated_size (chunk_kind words) words == 0 then Some ZeroSize
+    else (if nat_lt (length words) (stated_length words) then Some Overrun
+    else None)))
+
+-- chunks reach up to the word at this place, and there no chunk begins, for this reason
+pub record IsStuck (words : List ℕ) (place : ℕ) (fault : ChunkFault) : Type 0 where
+  pub inside : place < length words
+  pub before_it : (chunks : List (List ℕ)) × IsPartition (take place words) chunks
+  pub none : (count : ℕ) → IsChunk (take count (drop place words)) → ⊥
+  pub reason : chunk_fault (drop place words) ≡ Some fault

@@ -1,0 +1,20 @@
+//! Words, values, header words and chunks of a Squeak object memory of 32 bits.
+//!
+//! No function of this crate takes memory.
+#![tactic(auto)]
+
+mod base;
+mod chunk;
+pub mod laws;
+mod order;
+mod value;
+mod word;
+
+pub use base::{Base, base_of};
+pub use chunk::{Chunk, ChunkFault, Kind, chunk_at};
+pub use order::Order;
+pub use value::{Value, value_of};
+pub use word::{put_word, word_at};
+
+#[cfg(test)]
+mod tests;

@@ -1,0 +1,56 @@
+-- An object keeps its length when it moves, so that the live objects have as many words after as before.
+use Rattle.std.proofs.Common.{◌≡◌, ℕ, ◌+◌, ◌-◌, ◌<◌, ◌≤◌, Bool, true, false, List, [], ◌∷◌, ◌++◌, map, length, take, drop, refl, sym, ap, ◌∙◌, arith}
+use Rattle.std.specs.List.{concat, AllByRecursion}
+use Rattle.std.proofs.lemmas.List.{length-append, length-map, length-drop, length-take, take-append-drop}
+use Rattle.std.proofs.lemmas.List.Sums.{sum_by-cons}
+use Rattle.sqz_object.specs.declared.chunk.Kind.{Kind}
+use Rattle.sqz_object.specs.declared.chunk.Kind.TheVariants.{Three, Two, Free, Short}
+use Rattle.sqz_object.specs.Chunk.{IsChunk, IsChunkOf, chunk_kind, words_before, before, fields}
+use Rattle.sqz_object.proofs.ChunkLemmas.{chunk_kind_is, chunk_has_header}
+use Rattle.sqz_image.specs.Objects.{Memory, Object, objects}
+use Rattle.sqz_image.proofs.ObjectLemmas.{objects_keep}
+use Rattle.sqz_trace.specs.Slots.{traced}
+use Rattle.sqz_trace.specs.Live.{marked, live}
+use Rattle.sqz_regions.specs.Places.{words_in, live_words}
+use Rattle.sqz_slide.specs.Moved.{moved_field, moved_header, moved_fields, moved, moved_objects}
+
+length-moved_header : (memory : Memory) (marks : List Bool) (kind : Kind) (chunk : List ℕ) → IsChunkOf kind chunk → length (moved_header memory marks kind chunk) ≡ words_before kind + 1
+length-moved_header memory marks Three (size ∷ class ∷ base ∷ fields) h = refl
+length-moved_header memory marks Two (class ∷ base ∷ fields) h = refl
+length-moved_header memory marks Free (free ∷ rest) h = refl
+length-moved_header memory marks Short (base ∷ fields) h = refl
+length-moved_header memory marks _ _ h = absurd h
+
+length-moved_fields : (memory : Memory) (marks : List Bool) (chunk : List ℕ) → length (moved_fields memory marks chunk) ≡ length (fields chunk)
+length-moved_fields memory marks chunk =
+    let front = take (traced chunk) (fields chunk) in
+    let back = drop (traced chunk) (fields chunk) in
+    omega (arith, length-append (map (moved_field memory marks) front) back, length-map front (moved_field memory marks), length-take (traced chunk) (fields chunk), length-drop (traced chunk) (fields chunk))
+
+pub length-moved : (memory : Memory) (marks : List Bool) (chunk : List ℕ) → IsChunk chunk → length (moved memory marks chunk) ≡ length chunk
+length-moved memory marks chunk (kind, h) =
+    let is : chunk_kind chunk ≡ kind = chunk_kind_is kind chunk h in
+    let header : length (moved_header memory marks (chunk_kind chunk) chunk) ≡ before chunk + 1 =
+      ap (λ (k : Kind). length (moved_header memory marks k chunk)) is ∙ length-moved_header memory marks kind chunk h ∙ ap (λ (k : Kind). words_before k + 1) (sym is) in
+    let room : before chunk < length chunk = rw is (chunk_has_header kind chunk h) in
+    omega (arith, length-append (moved_header memory marks (chunk_kind chunk) chunk) (moved_fields memory marks chunk), length-moved_fields memory marks chunk, length-drop (before chunk + 1) chunk)
+
+abbrev size : Object → ℕ
+size object = length object.chunk
+
+All-marked : {X : Type 0} (P : X → Type 0) (marks : List Bool) (xs : List X) → AllByRecursion P xs → AllByRecursion P (marked marks xs)
+All-marked P [] xs h = tt
+All-marked P (true ∷ marks) [] h = tt
+All-marked P (false ∷ marks) [] h = tt
+All-marked P (true ∷ marks) (x ∷ xs) h = (h.0, All-marked P marks xs h.1)
+All-marked P (false ∷ marks) (x ∷ xs) h = All-marked P marks xs h.1
+
+length-all : (memory : Memory) (marks : List Bool) (live : List Object) → AllByRecursion (λ object. IsChunk object.chunk) live → length (concat (map (λ object. moved memory marks object.chunk) live)) ≡ words_in live
+length-all memory marks [] h = refl
+length-all memory marks (object ∷ live) h =
+    omega (arith, length-append (moved memory marks object.chunk) (concat (map (λ (o : Object). moved memory marks o.chunk) live)), length-moved memory marks object.chunk h.0, length-all memory marks live h.1, sum_by-cons size object live)
+
+-- the live objects after the move have as many words as before
+pub length-moved_objects : (memory : Memory) (marks : List Bool) → AllByRecursion IsChunk memory.chunks → length (concat (moved_objects memory marks)) ≡ live_words memory marks
+length-moved_objects memory marks chunks =
+    length-all memory marks (live memory marks) (All-marked (λ object. IsChunk object.chunk) marks (objects memory) (objects_keep IsChunk memory.chunks chunks))

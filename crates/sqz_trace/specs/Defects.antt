@@ -1,0 +1,63 @@
+-- What is wrong with an object: the refusals 11 to 14.
+use Rattle.std.specs.Prelude.{◌≡◌, ℕ, ◌==◌, ◌&&◌, not, nat_lt, Bool, true, false, if◌then◌else◌, List, [], ◌∷◌, length, map, slice_index, Option, Some, None, is_none}
+use Rattle.sqz_object.specs.declared.value.Value.{Value}
+use Rattle.sqz_object.specs.declared.value.Value.TheVariants.{Int, Pointer, Odd}
+use Rattle.sqz_object.specs.Value.{value_of}
+use Rattle.sqz_object.specs.Chunk.{header_type, compact_index, fields}
+use Rattle.sqz_image.specs.declared.fault.Fault.{Fault}
+use Rattle.sqz_image.specs.declared.fault.Fault.TheVariants.{NoClass, BadMethod, BadContext, BadPointer}
+use Rattle.sqz_image.specs.declared.fault.Slot.{Slot}
+use Rattle.sqz_image.specs.Objects.{Memory, Object, address_in, find}
+use Rattle.sqz_trace.specs.Slots.{SlotWord, slots, is_context, is_method, context_fields, method_fields}
+use Rattle.sqz_trace.specs.Live.{live}
+
+-- a header of one word with compact index 0 names no class
+abbrev pub lacks_class : List ℕ → Bool
+lacks_class chunk = header_type (slice_index chunk 0) == 3 && compact_index chunk == 0
+
+-- a method or a context is bad where it states no number of traced fields, or more than it has
+abbrev pub states_too_many : Option ℕ → ℕ → Bool
+states_too_many None count = true
+states_too_many (Some stated) count = nat_lt count stated
+
+abbrev pub is_bad_method : List ℕ → Bool
+is_bad_method chunk =
+    is_method chunk && states_too_many (method_fields (fields chunk)) (length (fields chunk))
+
+abbrev pub is_bad_context : List ℕ → Bool
+is_bad_context chunk =
+    is_context chunk && states_too_many (context_fields (fields chunk)) (length (fields chunk))
+
+-- a value that is no integer and names no object
+abbrev pub is_bad_value : Memory → Value → Bool
+is_bad_value memory (Int number) = false
+is_bad_value memory (Pointer address) = is_none (find memory address)
+is_bad_value memory (Odd word) = true
+
+-- the first slot that holds a bad value
+abbrev pub bad_slot : Memory → List SlotWord → Option Slot
+bad_slot memory [] = None
+bad_slot memory (slot ∷ slots) =
+    if is_bad_value memory (value_of slot.word) then Some slot.slot else bad_slot memory slots
+
+abbrev pub bad_pointer : ℕ → Option Slot → Option Fault
+bad_pointer address None = None
+bad_pointer address (Some slot) = Some (BadPointer address slot)
+
+-- the first thing that is wrong with an object
+abbrev pub defect : Memory → Object → Option Fault
+defect memory object =
+    let address = address_in memory.base object in
+    if lacks_class object.chunk then Some (NoClass address)
+    else (if is_bad_method object.chunk then Some (BadMethod address)
+    else (if is_bad_context object.chunk then Some (BadContext address)
+    else bad_pointer address (bad_slot memory (slots object.chunk))))
+
+abbrev pub first_some : {X : Type 0} → List (Option X) → Option X
+first_some [] = None
+first_some (None ∷ others) = first_some others
+first_some ((Some x) ∷ others) = Some x
+
+-- the defect of the lowest marked object that has one
+abbrev pub first_defect : Memory → List Bool → Option Fault
+first_defect memory marks = first_some (map (defect memory) (live memory marks))

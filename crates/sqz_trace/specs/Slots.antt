@@ -1,0 +1,86 @@
+-- The slots of an object: the words of it that may name other objects.
+use Rattle.std.specs.Prelude.{◌≡◌, ℕ, suc, ◌+◌, ◌-◌, ◌*◌, ◌/◌, ◌%◌, ◌^◌, ◌==◌, ◌||◌, ◌&&◌, nat_lt, nat_le, min, Bool, true, false, if◌then◌else◌, List, [], ◌∷◌, ◌++◌, map, length, take, drop, slice_get, slice_index, Option, Some, None, ℤ, pos, negsuc}
+use Rattle.sqz_object.specs.declared.value.Value.{Value}
+use Rattle.sqz_object.specs.declared.value.Value.TheVariants.{Int, Pointer, Odd}
+use Rattle.sqz_object.specs.declared.chunk.Kind.{Kind}
+use Rattle.sqz_object.specs.declared.chunk.Kind.TheVariants.{Three, Two, Free, Short}
+use Rattle.sqz_object.specs.Value.{value_of}
+use Rattle.sqz_object.specs.Chunk.{chunk_kind, format, compact_index, fields}
+use Rattle.sqz_image.specs.declared.fault.Slot.{Slot}
+use Rattle.sqz_image.specs.declared.fault.Slot.TheVariants.{ClassWord, Field}
+use Rattle.sqz_image.specs.Plain.{is_context_index}
+
+-- a context: format 3 with the compact index of one of the two classes of contexts
+abbrev pub is_context : List ℕ → Bool
+is_context chunk = format chunk == 3 && is_context_index (compact_index chunk)
+
+-- a compiled method: the formats 12 to 15
+abbrev pub is_method : List ℕ → Bool
+is_method chunk = nat_le 12 (format chunk)
+
+-- the stack pointer that a word states: the value of an integer, and 0 for any other word
+abbrev pub stack_pointer : Value → ℤ
+stack_pointer (Int number) = number
+stack_pointer (Pointer word) = pos 0
+stack_pointer (Odd word) = pos 0
+
+-- how many fields stand before the one above the stack's top: six fixed ones and the stack; none
+-- where the stack pointer is negative
+abbrev pub fields_to_top : ℤ → Option ℕ
+fields_to_top (pos top) = Some (6 + top)
+fields_to_top (negsuc below) = None
+
+-- the traced fields that a context states, by its fields; None where it states no number of them
+abbrev pub context_fields : List ℕ → Option ℕ
+context_fields (_ ∷ _ ∷ top ∷ _) = fields_to_top (stack_pointer (value_of top))
+context_fields _ = None
+
+-- field 0 of a method is an integer whose word has the number of literals in its bits 10 to 17
+abbrev pub literals_of : ℕ → Option ℕ
+literals_of header = if header % 2 == 1 then Some (header / 2 ^ 10 % 2 ^ 8) else None
+
+-- the traced fields that a method states, by its fields: the header and the literals
+abbrev pub method_fields : List ℕ → Option ℕ
+method_fields [] = None
+method_fields (header ∷ _) = elim (literals_of header) as (λ _. Option ℕ) [ None ↦ None | Some count ↦ Some (1 + count) ]
+
+-- a stated number, but no more than there are; none where no number is stated
+abbrev pub clipped : Option ℕ → ℕ → ℕ
+clipped None count = 0
+clipped (Some stated) count = min count stated
+
+-- how many fields of an object are traced, from field 0 on
+abbrev pub traced : List ℕ → ℕ
+traced chunk =
+    if is_context chunk then clipped (context_fields (fields chunk)) (length (fields chunk))
+    else (if is_method chunk then clipped (method_fields (fields chunk)) (length (fields chunk))
+    else (if nat_lt (format chunk) 5 then length (fields chunk) else 0))
+
+-- a slot, and the word that it holds
+pub record SlotWord : Type 0 where
+  pub slot : Slot
+  pub word : ℕ
+
+-- the address in a class word, whose low two bits are a header type
+abbrev pub class_address : ℕ → ℕ
+class_address word = word - word % 4
+
+-- the class word of a header of two or three words
+abbrev pub class_slots : Kind → List ℕ → List SlotWord
+class_slots Three chunk = record { slot = ClassWord; word = class_address (slice_index chunk 1) } ∷ []
+class_slots Two chunk = record { slot = ClassWord; word = class_address (slice_index chunk 0) } ∷ []
+class_slots Free chunk = []
+class_slots Short chunk = []
+
+-- fields as slots, the first of them with this index
+abbrev pub field_slots : ℕ → List ℕ → List SlotWord
+field_slots index [] = []
+field_slots index (word ∷ words) = record { slot = Field index; word = word } ∷ field_slots (suc index) words
+
+-- the slots of an object: its class word, if it has one, and then its traced fields
+abbrev pub slots : List ℕ → List SlotWord
+slots chunk =
+    class_slots (chunk_kind chunk) chunk ++ field_slots 0 (take (traced chunk) (fields chunk))
+
+abbrev pub slot_words : List ℕ → List ℕ
+slot_words chunk = map (λ slot. slot.word) (slots chunk)
