@@ -21,7 +21,7 @@ length-moved_header memory marks Free (free ∷ rest) h = refl
 length-moved_header memory marks Short (base ∷ fields) h = refl
 length-moved_header memory marks _ _ h = absurd h
 
-length-moved_fields : (memory : Memory) (marks : List Bool) (chunk : List ℕ) → length (moved_fields memory marks chunk) ≡ length (fields chunk)
+pub length-moved_fields : (memory : Memory) (marks : List Bool) (chunk : List ℕ) → length (moved_fields memory marks chunk) ≡ length (fields chunk)
 length-moved_fields memory marks chunk =
     let front = take (traced chunk) (fields chunk) in
     let back = drop (traced chunk) (fields chunk) in

@@ -1,1 +1,2 @@
 pub mod LengthLemmas
+pub mod MovedLemmas

@@ -1,0 +1,3 @@
+pub mod ReachabilityLemmas
+pub mod TracingTest
+pub mod WorkedImages

@@ -1,0 +1,43 @@
+//! How a file spells words, and what a word means where an object holds it.
+
+ghost use Rattle.std.specs.Prelude.{◌≡◌, [], ◌∷◌, take, drop, pos, negsuc};
+ghost use Rattle.sqz_object.specs.declared.order.Order.TheVariants.{Little, Big};
+ghost use Rattle.sqz_object.specs.declared.value.Value.TheVariants.{Int, Pointer, Odd};
+ghost use Rattle.sqz_object.specs.Value.{value_of};
+ghost use Rattle.sqz_examples.specs.Worked.{file_of};
+
+/// A little-endian file has the lowest byte of each word first: the first five header words, and the
+/// data words behind all sixteen.
+pub fn little_endian()
+    ensures header { take 20 (file_of Little (0x1007 ∷ 0x320F ∷ 1 ∷ 1 ∷ 0x320B ∷ 0x1000 ∷ []) 0x1010)
+        ≡ 0x66 ∷ 0x19 ∷ 0 ∷ 0 ∷ 0x40 ∷ 0 ∷ 0 ∷ 0 ∷
+        0x18 ∷ 0 ∷ 0 ∷ 0 ∷ 0 ∷ 0x10 ∷ 0 ∷ 0 ∷
+        0x10 ∷ 0x10 ∷ 0 ∷ 0 ∷ [] }
+    ensures words { drop 64 (file_of Little (0x1007 ∷ 0x320F ∷ 1 ∷ 1 ∷ 0x320B ∷ 0x1000 ∷ []) 0x1010)
+        ≡ 7 ∷ 0x10 ∷ 0 ∷ 0 ∷ 0x0F ∷ 0x32 ∷ 0 ∷ 0 ∷
+        1 ∷ 0 ∷ 0 ∷ 0 ∷ 1 ∷ 0 ∷ 0 ∷ 0 ∷
+        0x0B ∷ 0x32 ∷ 0 ∷ 0 ∷ 0 ∷ 0x10 ∷ 0 ∷ 0 ∷ [] }
+{}
+
+/// A big-endian file has the highest byte of each word first: the same words as above.
+pub fn big_endian()
+    ensures header { take 20 (file_of Big (0x1007 ∷ 0x320F ∷ 1 ∷ 1 ∷ 0x320B ∷ 0x1000 ∷ []) 0x1010)
+        ≡ 0 ∷ 0 ∷ 0x19 ∷ 0x66 ∷ 0 ∷ 0 ∷ 0 ∷ 0x40 ∷
+        0 ∷ 0 ∷ 0 ∷ 0x18 ∷ 0 ∷ 0 ∷ 0x10 ∷ 0 ∷
+        0 ∷ 0 ∷ 0x10 ∷ 0x10 ∷ [] }
+    ensures words { drop 64 (file_of Big (0x1007 ∷ 0x320F ∷ 1 ∷ 1 ∷ 0x320B ∷ 0x1000 ∷ []) 0x1010)
+        ≡ 0 ∷ 0 ∷ 0x10 ∷ 7 ∷ 0 ∷ 0 ∷ 0x32 ∷ 0x0F ∷
+        0 ∷ 0 ∷ 0 ∷ 1 ∷ 0 ∷ 0 ∷ 0 ∷ 1 ∷
+        0 ∷ 0 ∷ 0x32 ∷ 0x0B ∷ 0 ∷ 0 ∷ 0x10 ∷ 0 ∷ [] }
+{}
+
+/// An integer is the word's upper 31 bits in two's complement; a word that is neither an integer nor
+/// a multiple of four is odd.
+pub fn values()
+    ensures lowest { value_of 0x80000001 ≡ Int (negsuc 1073741823) }
+    ensures minus_one { value_of 0xFFFFFFFF ≡ Int (negsuc 0) }
+    ensures zero { value_of 1 ≡ Int (pos 0) }
+    ensures highest { value_of 0x7FFFFFFF ≡ Int (pos 1073741823) }
+    ensures address { value_of 0x1000 ≡ Pointer 0x1000 }
+    ensures odd { value_of 0x1002 ≡ Odd 0x1002 }
+{}

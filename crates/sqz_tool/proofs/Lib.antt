@@ -1,0 +1,4 @@
+pub mod HeapFacts
+pub mod MarkingLemmas
+pub mod DefectLemmas
+pub mod RunLemmas

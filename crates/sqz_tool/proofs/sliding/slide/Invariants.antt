@@ -1,0 +1,6 @@
+use Rattle.std.proofs.Common.{◌≡◌}
+use Rattle.sqz_slide.proofs.MovedLemmas.{moved_below}
+use Rattle.sqz_tool.proofs.sliding.slide.Given as goal
+
+abbrev pub invariant-loop-object : goal.invariant-loop-object
+invariant-loop-object l = l.words.items ≡ moved_below l.heap l.marks l.object

@@ -1,0 +1,102 @@
+-- What a run does: it writes exactly the compaction of what it read, or says why not.
+use Rattle.std.specs.Prelude.{◌≡◌, ℕ, ◌*◌, ◌^◌, ◌<◌, Bool, List, length, Some, None, ◌⊎◌}
+use Rattle.std.specs.List.{concat}
+use Rattle.std.specs.Io.KnownBytes.{Consumes}
+use Rattle.sqz_image.specs.declared.fault.Fault.{Fault}
+use Rattle.sqz_image.specs.declared.fault.Fault.TheVariants.{OutOfMemory, ReadFailed, WriteFailed, NotYet}
+use Rattle.sqz_image.specs.File.{data_size, file_with}
+use Rattle.sqz_image.specs.Objects.{SavedImage, object_count}
+use Rattle.sqz_image.specs.Plain.{IsPlain, HoldsPlain}
+use Rattle.sqz_image.specs.Devices.{SourceState, SinkState, ReadsWhole, ReadStops, WritesWhole, WriteStops}
+use Rattle.sqz_trace.specs.Reachability.{IsReachability}
+use Rattle.sqz_trace.specs.Live.{live}
+use Rattle.sqz_trace.specs.Defects.{first_defect}
+use Rattle.sqz_regions.specs.Places.{live_words}
+use Rattle.sqz_tool.specs.declared.summary.Summary.{Summary}
+use Rattle.sqz_tool.specs.Compacted.{compacted}
+use Rattle.sqz_tool.specs.Verdict.{IsAccepted}
+
+-- what a run did, in numbers
+abbrev pub summary_of : SavedImage → List Bool → Summary
+summary_of image marks =
+    record {
+      objects = object_count image.memory;
+      kept = length (live image.memory marks);
+      data_before = data_size image.header;
+      data_after = 4 * live_words image.memory marks;
+    }
+
+-- the address and the pieces are those of the image's compaction, and these are the numbers
+pub record IsCompaction (image : SavedImage) (special : ℕ) (pieces : List (List ℕ)) (summary : Summary) : Type 0 where
+  pub marks : List Bool
+  pub reachable : IsReachability image.memory marks
+  pub sound : first_defect image.memory marks ≡ None
+  pub bytes : file_with image.memory.order image.header special pieces ≡ compacted image marks
+  pub few : length (concat pieces) < 2 ^ 30
+  pub counted : summary ≡ summary_of image marks
+
+-- a reachable object has a defect
+pub record HasDefectIn (image : SavedImage) : Type 0 where
+  pub marks : List Bool
+  pub fault : Fault
+  pub reachable : IsReachability image.memory marks
+  pub defect : first_defect image.memory marks ≡ Some fault
+
+-- the source gave a file that is accepted, the sink took its compaction and nothing else, and these are
+-- the numbers
+pub record Compacts (from to : SourceState) (old new : SinkState) (summary : Summary) : Type 0 where
+  pub file : List ℕ
+  pub read : ReadsWhole from to file
+  pub image : SavedImage
+  pub marks : List Bool
+  pub accepted : IsAccepted file image marks
+  pub plain : IsPlain file image
+  pub written : WritesWhole old new (compacted image marks)
+  pub counted : summary ≡ summary_of image marks
+
+-- a reachable object of a plain image has a defect
+pub record HasPlainDefect (file : List ℕ) : Type 0 where
+  pub image : SavedImage
+  pub holds : HoldsPlain file image
+  pub defect : HasDefectIn image
+
+-- the files that this version does not take: those that hold no plain image, and those in which a
+-- reachable object has a defect
+abbrev pub IsNotYet : List ℕ → Type 0
+IsNotYet file = ((image : SavedImage) → HoldsPlain file image → ⊥) ⊎ HasPlainDefect file
+
+-- the source gave a file that this version does not take, and the sink is as it was
+pub record IsUnsupported (from to : SourceState) (old new : SinkState) : Type 0 where
+  pub file : List ℕ
+  pub read : ReadsWhole from to file
+  pub not_yet : IsNotYet file
+  pub untouched : new ≡ old
+
+-- memory was refused: bytes from the front of what was left may be gone, and the sink is as it was
+pub record IsOutOfMemory (from to : SourceState) (old new : SinkState) : Type 0 where
+  pub front : List ℕ
+  pub taken : Consumes from.left to.left front
+  pub untouched : new ≡ old
+
+-- the source stopped before the end, and the sink is as it was
+pub record StopsReading (from to : SourceState) (old new : SinkState) : Type 0 where
+  pub stops : ReadStops from to ReadFailed
+  pub untouched : new ≡ old
+
+-- the source gave a file that is accepted, and the sink took a front of its compaction before it stopped
+pub record StopsWriting (from to : SourceState) (old new : SinkState) : Type 0 where
+  pub file : List ℕ
+  pub read : ReadsWhole from to file
+  pub image : SavedImage
+  pub marks : List Bool
+  pub accepted : IsAccepted file image marks
+  pub plain : IsPlain file image
+  pub stops : WriteStops old new (compacted image marks) WriteFailed
+
+-- what was done where the run was refused, by the refusal; there are no others
+abbrev pub Refuses : SourceState → SourceState → SinkState → SinkState → Fault → Type 0
+Refuses from to old new NotYet = IsUnsupported from to old new
+Refuses from to old new OutOfMemory = IsOutOfMemory from to old new
+Refuses from to old new ReadFailed = StopsReading from to old new
+Refuses from to old new WriteFailed = StopsWriting from to old new
+Refuses from to old new _ = ⊥

@@ -1,0 +1,4 @@
+pub mod Marking
+pub mod Compacted
+pub mod Verdict
+pub mod Headline

@@ -1,0 +1,56 @@
+//! What is written of an image: its live objects in their new places.
+
+ghost use Rattle.std.specs.Prelude.{◌≡◌, ◌⊎◌, map, true, IfOk, IfErr};
+ghost use Rattle.std.specs.List.{AllByRecursion};
+ghost use Rattle.sqz_object.specs.Chunk.{IsChunk};
+ghost use Rattle.sqz_image.specs.declared.fault.Fault.TheVariants.{OutOfMemory, NotYet};
+ghost use Rattle.sqz_image.specs.Plain.{is_plain_chunk};
+ghost use Rattle.sqz_tool.specs.Headline.{IsCompaction, HasDefectIn};
+
+use crate::defects::has_defect;
+use crate::marking::reachable;
+use crate::placing::places;
+use crate::sliding::slide;
+use crate::summary::Summary;
+use sqz_image::{Fault, Image};
+use std::alloc::Global;
+
+/// The data of a compacted image, and what its header says of them.
+#[derive(Drop)]
+pub(crate) struct Compaction {
+    /// The new address of the special objects array.
+    pub special: u32,
+    /// The words of the live objects, in their order.
+    pub pieces: Vec<Vec<u32>>,
+    pub summary: Summary,
+}
+
+/// The compaction of a plain image. Refused with `NotYet` where a reachable object has a defect, else
+/// for want of memory alone.
+pub(crate) fn compaction_of(alloc: Global, image: &Image) -> Result<Compaction, Fault>
+    requires chunks { AllByRecursion IsChunk image.now.memory.chunks }
+    requires plain { AllByRecursion (λ chunk. is_plain_chunk chunk ≡ true) image.now.memory.chunks }
+    ensures compaction { IfOk result (λ c. IsCompaction image.now c.special (map (λ piece. piece.items) c.pieces.items) c.summary) }
+    ensures refused { IfErr result (λ fault. (fault ≡ OutOfMemory) ⊎ ((fault ≡ NotYet) × HasDefectIn image.now)) }
+{
+    let heap = image.heap();
+    let marks = reachable(alloc, heap)?;
+    if has_defect(heap, &marks) {
+        return Err(Fault::NotYet);
+    }
+    let placing = places(alloc, heap, &marks)?;
+    let words = slide(alloc, heap, &marks, &placing)?;
+    let special = placing.addresses[heap.special() as usize];
+    let summary = Summary {
+        objects: heap.len(),
+        kept: placing.objects,
+        data_before: image.header(2),
+        data_after: 4 * placing.words,
+    };
+    let pieces = vec![in alloc; words]?;
+    Ok(Compaction {
+        special,
+        pieces,
+        summary,
+    })
+}

@@ -1,0 +1,37 @@
+//! A run: an image from a source, compacted, to a sink.
+
+ghost use Rattle.std.specs.Prelude.{IfOk, IfErr};
+ghost use Rattle.sqz_tool.specs.Headline.{Compacts, Refuses};
+
+use crate::compaction::compaction_of;
+use crate::summary::Summary;
+use sqz_image::{Fault, Sink, Source, read_all, read_first, write_image};
+use std::alloc::Global;
+
+/// Reads all of the source, finds the objects of the image that are reachable from its special objects
+/// array, and writes the image with these alone, slid together in their order.
+///
+/// Refused with `NotYet` exactly where the bytes hold no plain image or a reachable object of it has a
+/// defect, with `OutOfMemory`, or with `ReadFailed` where the source failed or did not end: the sink is
+/// then as it was. Refused with `WriteFailed` where the sink failed or took too little at a time: a
+/// front of the answer, perhaps all of it, then went out.
+pub fn run<T, R: Source, W: Sink>(
+    _rt: &T,
+    alloc: Global,
+    source: &mut R,
+    sink: &mut W,
+) -> Result<Summary, Fault>
+    ensures compacts { IfOk result (λ summary.
+        Compacts (R.state source.old) (R.state source.new) (W.state sink.old) (W.state sink.new) summary) }
+    ensures refuses { IfErr result (λ fault.
+        Refuses (R.state source.old) (R.state source.new) (W.state sink.old) (W.state sink.new) fault) }
+{
+    let bytes = read_all(alloc, source)?;
+    let Some(image) = read_first(alloc, &bytes)? else {
+        return Err(Fault::NotYet);
+    };
+    drop(bytes);
+    let compaction = compaction_of(alloc, &image)?;
+    write_image(&image, compaction.special, &compaction.pieces, sink)?;
+    Ok(compaction.summary)
+}
