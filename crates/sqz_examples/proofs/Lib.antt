@@ -1,3 +1,2 @@
-pub mod ReachabilityLemmas
 pub mod TracingTest
 pub mod WorkedImages

@@ -8,7 +8,7 @@ use Rattle.sqz_image.specs.Objects.{Memory, Object, objects, object_count, chunk
 use Rattle.sqz_trace.specs.Slots.{slot_words}
 use Rattle.sqz_trace.specs.Edges.{named_by, HasEdge}
 use Rattle.sqz_trace.specs.Reachability.{Leads, is_marked, IsReachability}
-use Rattle.sqz_examples.proofs.ReachabilityLemmas.{IsClosed, IsTracing, IsReachability-from_tracing}
+use Rattle.sqz_trace.proofs.ReachabilityLemmas.{IsClosed, IsTracing, IsReachability-from_tracing}
 
 -- ---- edges
 

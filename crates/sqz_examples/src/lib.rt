@@ -4,4 +4,6 @@
 
 pub mod compacted;
 pub mod refused;
+#[cfg(test)]
+mod tests;
 pub mod words;

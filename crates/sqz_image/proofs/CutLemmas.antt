@@ -1,8 +1,8 @@
 -- Cutting words into chunks: there is one way at most, and `cut` finds it.
-use Rattle.std.proofs.Common.{◌≡◌, ℕ, zero, suc, ◌+◌, ◌<◌, ◌≤◌, List, [], ◌∷◌, ◌++◌, length, take, drop, refl, sym, ap, subst, ◌∙◌, arith, append_assoc}
+use Rattle.std.proofs.Common.{◌≡◌, ℕ, zero, suc, ◌≤◌, List, [], ◌∷◌, ◌++◌, length, take, drop, refl, sym, ap, ◌∙◌, arith}
 use Rattle.std.specs.List.{concat, AllByRecursion}
-use Rattle.std.proofs.lemmas.List.{length-append, take_at, drop_at, append_cancel_left, append-nil}
-use Rattle.sqz_object.specs.Chunk.{IsChunk, IsChunkOf}
+use Rattle.std.proofs.lemmas.List.{length-append, take_at, drop_at}
+use Rattle.sqz_object.specs.Chunk.{IsChunk}
 use Rattle.sqz_object.specs.Partition.{IsPartition, stated_length}
 use Rattle.sqz_object.proofs.ChunkLemmas.{chunk_not_empty, stated_length-append}
 use Rattle.sqz_image.specs.Memory.{cut, cut_at_most}
@@ -18,9 +18,9 @@ cut_step : (chunk rest : List ℕ) (times : ℕ) → IsChunk chunk → cut_at_mo
 cut_step [] rest times h = absurd (let k = length-chunk [] h in omega arith)
 cut_step (word ∷ chunk) rest times h =
     let front : take (stated_length (word ∷ (chunk ++ rest))) (word ∷ (chunk ++ rest)) ≡ word ∷ chunk =
-      rw (stated (word ∷ chunk) rest h) (take_at (word ∷ chunk) rest (length (word ∷ chunk)) refl) in
+    rw (stated (word ∷ chunk) rest h) (take_at (word ∷ chunk) rest (length (word ∷ chunk)) refl) in
     let back : drop (stated_length (word ∷ (chunk ++ rest))) (word ∷ (chunk ++ rest)) ≡ rest =
-      rw (stated (word ∷ chunk) rest h) (drop_at (word ∷ chunk) rest (length (word ∷ chunk)) refl) in
+    rw (stated (word ∷ chunk) rest h) (drop_at (word ∷ chunk) rest (length (word ∷ chunk)) refl) in
     rw (front, back) refl
 
 -- any chunks are what their words are cut into

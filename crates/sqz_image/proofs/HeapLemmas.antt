@@ -1,18 +1,18 @@
 -- What the parts of a heap say of the objects in its words.
-use Rattle.std.proofs.Common.{◌≡◌, ◌≢◌, ℕ, zero, suc, ◌+◌, ◌-◌, ◌*◌, ◌%◌, ◌^◌, ◌<◌, ◌≤◌, ◌⊎◌, Bool, true, false, List, [], ◌∷◌, ◌++◌, map, length, get_or, take, drop, slice_index, Option, Some, None, Result, Ok, Err, MatchResult, refl, sym, ap, subst, ◌∙◌, arith, inl, inr}
+use Rattle.std.proofs.Common.{◌≡◌, ◌≢◌, ℕ, ◌+◌, ◌*◌, ◌%◌, ◌^◌, ◌<◌, ◌≤◌, ◌⊎◌, true, List, [], ◌∷◌, map, length, get_or, take, drop, slice_index, Option, Some, None, refl, sym, ap, subst, ◌∙◌, arith, inl, inr}
 use Rattle.std.specs.List.{concat, AllByRecursion}
 use Rattle.sqz_image.specs.Search.{IsPlaceOf}
 use Rattle.std.proofs.lemmas.Bool.{or_cases, and_parts, eqb-true, cases_lt}
-use Rattle.std.proofs.lemmas.List.{length-append, length-map, get_or-map, length-take-le, get_or-take, get_or-drop, length-drop}
+use Rattle.std.proofs.lemmas.List.{length-map, get_or-map, length-take-le, get_or-take, get_or-drop, length-drop}
 use Rattle.sqz_object.specs.declared.chunk.Chunk.{Chunk}
 use Rattle.sqz_object.specs.declared.chunk.Kind.{Kind}
 use Rattle.sqz_object.specs.declared.chunk.ChunkFault.{ChunkFault}
-use Rattle.sqz_object.specs.Chunk.{IsChunk, IsChunkOf, header_type, is_object, before, words_before, chunk_kind, base_word, fields}
+use Rattle.sqz_object.specs.Chunk.{IsChunk, header_type, before, words_before, chunk_kind}
 use Rattle.sqz_object.specs.Reading.{BeginsWith, HasNoChunk, description}
-use Rattle.sqz_object.proofs.ChunkLemmas.{chunk_kind_is, chunk_prefix_unique, no_chunk_at_fault}
+use Rattle.sqz_object.proofs.ChunkLemmas.{chunk_kind_is, chunk_prefix_unique}
 use Rattle.sqz_image.specs.Plain.{is_plain_chunk}
 use Rattle.sqz_image.specs.Memory.{cut, memory_of, IsListed, IsKept, IsPlainMemory}
-use Rattle.sqz_image.specs.Objects.{Memory, Object, objects_of, objects, object_at, chunk_at, address_in, find}
+use Rattle.sqz_image.specs.Objects.{Memory, Object, objects_of, objects, object_at, address_in, find}
 use Rattle.sqz_object.specs.declared.order.Order.{Order}
 use Rattle.sqz_object.specs.Partition.{IsPartition}
 use Rattle.std.specs.Prelude.{is_some}
@@ -28,9 +28,9 @@ same_chunk p q r s = cc
 pub BeginsWith-description : (words : List ℕ) (chunk : Chunk) (size : ℕ) → BeginsWith words chunk → size ≤ length words → IsChunk (take size words) → chunk ≡ description (take size words)
 BeginsWith-description words chunk size begins le is_chunk =
     let same : chunk.length ≡ size =
-      chunk_prefix_unique words chunk.length size begins.inside le (chunk.kind, begins.is_chunk) is_chunk in
+    chunk_prefix_unique words chunk.length size begins.inside le (chunk.kind, begins.is_chunk) is_chunk in
     let kind : chunk_kind (take chunk.length words) ≡ chunk.kind =
-      chunk_kind_is chunk.kind (take chunk.length words) begins.is_chunk in
+    chunk_kind_is chunk.kind (take chunk.length words) begins.is_chunk in
     subst (λ (n : ℕ). chunk ≡ description (take n words)) same
     (same_chunk (sym kind) (begins.before ∙ ap words_before (sym kind)) (sym (length-take-le chunk.length words begins.inside)) begins.base)
 
@@ -62,7 +62,7 @@ pub has_object : {memory : Memory} {words firsts addresses : List ℕ} (heap : I
 has_object {memory = memory} {words = words} heap index lt =
     let object = get_or (objects memory) index no_object in
     let is_chunk : IsChunk object.chunk =
-      All_at (λ o. IsChunk o.chunk) (objects memory) index no_object lt (objects_keep IsChunk memory.chunks heap.partition.each) in
+    All_at (λ o. IsChunk o.chunk) (objects memory) index no_object lt (objects_keep IsChunk memory.chunks heap.partition.each) in
     record {
       stands = subst (λ (w : List ℕ). StandsIn w object) heap.partition.whole (All_at (StandsIn (concat memory.chunks)) (objects memory) index no_object lt (objects_stand memory.chunks));
       is_chunk = is_chunk;
@@ -135,7 +135,7 @@ pub header_there : {words : List ℕ} {object : Object} (here : HasObject words 
 header_there {words = words} {object = object} here =
     let some : 0 < length object.chunk = omega (arith, length-chunk object.chunk here.is_chunk) in
     let same : slice_index words object.first ≡ slice_index object.chunk 0 =
-      ap (λ (n : ℕ). slice_index words n) (omega arith) ∙ word_there here 0 some in
+    ap (λ (n : ℕ). slice_index words n) (omega arith) ∙ word_there here 0 some in
     rw same (plain_header object.chunk here.plain)
 
 -- ---- the heap of an index
@@ -158,8 +158,8 @@ listed_of order base special words firsts addresses index few within aligned =
 pub plain_memory_is : (order : Order) (base special : ℕ) (words : List ℕ) (memory : Memory) → IsPlainMemory order base special words memory → memory ≡ memory_of order base special words
 plain_memory_is order base special words memory plain =
     same_memory plain.in_order plain.begins plain.special_address (sym (cut-partition words memory.chunks plain.parts.partition)) where
-  same_memory : {o p : Order} {a b c d : ℕ} {x y : List (List ℕ)} → o ≡ p → a ≡ b → c ≡ d → x ≡ y → let one : Memory = record { order = o; base = a; special = c; chunks = x } in one ≡ record { order = p; base = b; special = d; chunks = y }
-  same_memory e f g h = cc
+      same_memory : {o p : Order} {a b c d : ℕ} {x y : List (List ℕ)} → o ≡ p → a ≡ b → c ≡ d → x ≡ y → let one : Memory = record { order = o; base = a; special = c; chunks = x } in one ≡ record { order = p; base = b; special = d; chunks = y }
+      same_memory e f g h = cc
 
 -- where the special objects array is missing, there is no such memory
 pub special_missing : (order : Order) (base special : ℕ) (words : List ℕ) → find (memory_of order base special words) special ≡ None → (memory : Memory) → IsPlainMemory order base special words memory → ⊥

@@ -1,5 +1,5 @@
 -- An index that grows chunk by chunk.
-use Rattle.std.proofs.Common.{◌≡◌, ℕ, zero, suc, ◌+◌, ◌-◌, ◌*◌, ◌<◌, ◌≤◌, Bool, true, false, cond, List, [], ◌∷◌, ◌++◌, map, length, take, drop, refl, sym, ap, subst, ◌∙◌, arith, inl, inr, zero-add, add-zero, add_assoc, take-add}
+use Rattle.std.proofs.Common.{◌≡◌, ℕ, ◌+◌, ◌*◌, ◌<◌, ◌≤◌, true, false, cond, List, [], ◌∷◌, ◌++◌, map, length, take, drop, refl, sym, ap, subst, ◌∙◌, arith, zero-add, add-zero, add_assoc, take-add}
 use Rattle.std.specs.List.{concat, AllByRecursion}
 use Rattle.std.proofs.lemmas.List.{length-append, append_assoc, append-nil, map-append, take_all, take-append-drop, append_cancel_left, take_at, length-drop, length-take-le}
 use Rattle.sqz_object.specs.declared.chunk.Chunk.{Chunk}
@@ -7,7 +7,6 @@ use Rattle.sqz_object.specs.declared.chunk.Kind.{Kind}
 use Rattle.sqz_object.specs.declared.chunk.Kind.TheVariants.{Three, Two, Free, Short}
 use Rattle.sqz_object.specs.Reading.{BeginsWith}
 use Rattle.sqz_object.specs.Chunk.{IsChunk, IsChunkOf, is_object, before}
-use Rattle.sqz_object.specs.Partition.{IsPartition}
 use Rattle.sqz_object.proofs.ChunkLemmas.{chunk_front_unique}
 use Rattle.sqz_image.specs.Plain.{is_plain_chunk}
 use Rattle.sqz_image.specs.Objects.{Object, objects_of, moved_on, address_in}
@@ -34,7 +33,7 @@ moved_on-moved_on : (m n : ℕ) (objects : List Object) → map (moved_on m) (ma
 moved_on-moved_on m n [] = refl
 moved_on-moved_on m n (object ∷ objects) =
     let same : moved_on m (moved_on n object) ≡ moved_on (m + n) object =
-      ap (λ (k : ℕ). record { first = k; chunk = object.chunk }) (sym (add_assoc m n object.first)) in
+    ap (λ (k : ℕ). record { first = k; chunk = object.chunk }) (sym (add_assoc m n object.first)) in
     rw (moved_on-moved_on m n objects) (ap (λ (o : Object). o ∷ map (moved_on (m + n)) objects) same)
 
 pub objects_of-append : (xs ys : List (List ℕ)) → objects_of (xs ++ ys) ≡ objects_of xs ++ map (moved_on (length (concat xs))) (objects_of ys)
@@ -121,11 +120,11 @@ step_object words base place firsts addresses chunk so_far begins plain used =
       chunks = so_far.chunks ++ here ∷ [];
       parts = HasPlainPartition-push words place chunk.length so_far.chunks so_far.parts (chunk.kind, begins.is_chunk) plain;
       first_words =
-        ap (λ (xs : List ℕ). xs ++ place ∷ []) so_far.first_words ∙ ap (λ (n : ℕ). map (λ (o : Object). o.first) (objects_of so_far.chunks) ++ n ∷ []) (sym at)
-        ∙ sym (map-append (λ (o : Object). o.first) (objects_of so_far.chunks) (object ∷ [])) ∙ ap (λ (os : List Object). map (λ o. o.first) os) (sym same);
+          ap (λ (xs : List ℕ). xs ++ place ∷ []) so_far.first_words ∙ ap (λ (n : ℕ). map (λ (o : Object). o.first) (objects_of so_far.chunks) ++ n ∷ []) (sym at)
+          ∙ sym (map-append (λ (o : Object). o.first) (objects_of so_far.chunks) (object ∷ [])) ∙ ap (λ (os : List Object). map (λ o. o.first) os) (sym same);
       object_addresses =
-        ap (λ (xs : List ℕ). xs ++ (base + 4 * place) ∷ []) so_far.object_addresses ∙ ap (λ (n : ℕ). map (address_in base) (objects_of so_far.chunks) ++ n ∷ []) (sym address)
-        ∙ sym (map-append (address_in base) (objects_of so_far.chunks) (object ∷ [])) ∙ ap (λ (os : List Object). map (address_in base) os) (sym same);
+          ap (λ (xs : List ℕ). xs ++ (base + 4 * place) ∷ []) so_far.object_addresses ∙ ap (λ (n : ℕ). map (address_in base) (objects_of so_far.chunks) ++ n ∷ []) (sym address)
+          ∙ sym (map-append (address_in base) (objects_of so_far.chunks) (object ∷ [])) ∙ ap (λ (os : List Object). map (address_in base) os) (sym same);
     }
 
 -- ---- where it starts and ends
@@ -166,21 +165,21 @@ tail_after (f ∷ front) (chunk ∷ chunks) rest fronts each plain e =
     let joined : chunk ++ concat chunks ≡ f ++ (concat front ++ rest) = e ∙ append_assoc f (concat front) rest in
     let same : chunk ≡ f = chunk_front_unique chunk (concat chunks) f (concat front ++ rest) each.0 fronts.0 joined in
     let others : concat chunks ≡ concat front ++ rest =
-      append_cancel_left f (concat chunks) (concat front ++ rest) (ap (λ (t : List ℕ). t ++ concat chunks) (sym same) ∙ joined) in
+    append_cancel_left f (concat chunks) (concat front ++ rest) (ap (λ (t : List ℕ). t ++ concat chunks) (sym same) ∙ joined) in
     tail_after front chunks rest fronts.1 each.1 plain.1 others
 
 no_tail : (words : List ℕ) (place : ℕ) → place < length words → ((count : ℕ) → IsChunk (take count (drop place words)) → is_plain_chunk (take count (drop place words)) ≡ true → ⊥) → Tail (drop place words) → ⊥
 no_tail words place lt none tail =
     in_cases tail.chunks tail.each tail.plain tail.whole where
-  in_cases : (chunks : List (List ℕ)) → AllByRecursion IsChunk chunks → AllByRecursion (λ chunk. is_plain_chunk chunk ≡ true) chunks → concat chunks ≡ drop place words → ⊥
-  in_cases [] each plain whole = omega (arith, ap length whole, length-drop place words)
-  in_cases (chunk ∷ chunks) each plain whole =
-      let front : take (length chunk) (drop place words) ≡ chunk =
-        ap (take (length chunk)) (sym whole) ∙ take_at chunk (concat chunks) (length chunk) refl in
-      none (length chunk) (subst IsChunk (sym front) each.0) (ap is_plain_chunk front ∙ plain.0)
+      in_cases : (chunks : List (List ℕ)) → AllByRecursion IsChunk chunks → AllByRecursion (λ chunk. is_plain_chunk chunk ≡ true) chunks → concat chunks ≡ drop place words → ⊥
+      in_cases [] each plain whole = omega (arith, ap length whole, length-drop place words)
+      in_cases (chunk ∷ chunks) each plain whole =
+          let front : take (length chunk) (drop place words) ≡ chunk =
+          ap (take (length chunk)) (sym whole) ∙ take_at chunk (concat chunks) (length chunk) refl in
+          none (length chunk) (subst IsChunk (sym front) each.0) (ap is_plain_chunk front ∙ plain.0)
 
 pub no_partition : (words : List ℕ) (base place : ℕ) (firsts addresses : List ℕ) → IsIndexedUpTo words base place firsts addresses → place < length words → ((count : ℕ) → IsChunk (take count (drop place words)) → is_plain_chunk (take count (drop place words)) ≡ true → ⊥) → (chunks : List (List ℕ)) → HasPlainPartition words chunks → ⊥
 no_partition words base place firsts addresses so_far lt none chunks parts =
     no_tail words place lt none
     (tail_after so_far.chunks chunks (drop place words) so_far.parts.partition.each parts.partition.each parts.plain
-      (parts.partition.whole ∙ sym (take-append-drop place words) ∙ ap (λ (t : List ℕ). t ++ drop place words) (sym so_far.parts.partition.whole)))
+    (parts.partition.whole ∙ sym (take-append-drop place words) ∙ ap (λ (t : List ℕ). t ++ drop place words) (sym so_far.parts.partition.whole)))

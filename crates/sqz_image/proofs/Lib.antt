@@ -9,3 +9,5 @@ pub mod ReadingLoop
 pub mod WritingLoop
 pub mod Spelling
 pub mod Pieces
+pub mod HoldsLemmas
+pub mod Parts

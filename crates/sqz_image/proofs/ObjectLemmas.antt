@@ -1,10 +1,10 @@
 -- The objects of chunks: where they stand, in which order, and how they are found.
-use Rattle.std.proofs.Common.{◌≡◌, ◌≢◌, ℕ, zero, suc, ◌+◌, ◌-◌, ◌*◌, ◌<◌, ◌≤◌, Bool, true, false, cond, eqb, List, [], ◌∷◌, ◌++◌, map, length, get_or, take, drop, Option, Some, None, refl, sym, ap, subst, ◌∙◌, arith, inl, inr}
+use Rattle.std.proofs.Common.{◌≡◌, ◌≢◌, ℕ, zero, suc, ◌+◌, ◌*◌, ◌<◌, ◌≤◌, Bool, true, false, cond, eqb, List, [], ◌∷◌, ◌++◌, map, length, get_or, take, drop, Option, Some, None, refl, sym, ap, subst, ◌∙◌, arith, inl, inr}
 use Rattle.std.specs.Option.{option_map}
 use Rattle.std.specs.List.{concat, AllByRecursion}
-use Rattle.std.proofs.lemmas.Bool.{cases_Bool, eqb-true, eqb-false, ne_eqb, eq-eqb}
-use Rattle.std.proofs.lemmas.List.{length-append, length-map, get_or-map, take_at, drop_at, map-append, take-append-le, drop-append-le, drop-drop}
-use Rattle.sqz_object.specs.Chunk.{IsChunk, IsChunkOf, is_object, before, fields}
+use Rattle.std.proofs.lemmas.Bool.{cases_Bool, ne_eqb, eq-eqb}
+use Rattle.std.proofs.lemmas.List.{length-append, length-map, take_at, drop_at, drop-drop}
+use Rattle.sqz_object.specs.Chunk.{IsChunk, is_object, before}
 use Rattle.sqz_object.proofs.ChunkLemmas.{chunk_has_header, chunk_kind_is}
 use Rattle.sqz_image.specs.Objects.{Object, objects_of, moved_on, address_in, find_in}
 use Rattle.sqz_image.proofs.CutLemmas.{length-chunk}
@@ -19,7 +19,7 @@ stands_on front rest object h =
     record {
       inside = let le = h.inside in omega (arith, length-append front rest);
       there =
-        ap (take (length object.chunk)) (sym (drop-drop object.first (length front) (front ++ rest)) ∙ ap (drop object.first) (drop_at front rest (length front) refl)) ∙ h.there;
+          ap (take (length object.chunk)) (sym (drop-drop object.first (length front) (front ++ rest)) ∙ ap (drop object.first) (drop_at front rest (length front) refl)) ∙ h.there;
     }
 
 All-map : {X Y : Type 0} (P : Y → Type 0) (f : X → Y) (xs : List X) → AllByRecursion (λ x. P (f x)) xs → AllByRecursion P (map f xs)
@@ -48,7 +48,7 @@ objects_stand (chunk ∷ chunks) =
     All-if (StandsIn (chunk ++ concat chunks)) (is_object chunk) (record { first = 0; chunk = chunk }) (map (moved_on (length chunk)) (objects_of chunks))
     (stands_first chunk (concat chunks))
     (All-map (StandsIn (chunk ++ concat chunks)) (moved_on (length chunk)) (objects_of chunks)
-      (All-weaker (StandsIn (concat chunks)) _ (objects_of chunks) (stands_on chunk (concat chunks)) (objects_stand chunks)))
+    (All-weaker (StandsIn (concat chunks)) _ (objects_of chunks) (stands_on chunk (concat chunks)) (objects_stand chunks)))
 
 -- what holds of each chunk holds of each object's chunk
 pub objects_keep : (P : List ℕ → Type 0) (chunks : List (List ℕ)) → AllByRecursion P chunks → AllByRecursion (λ object. P object.chunk) (objects_of chunks)

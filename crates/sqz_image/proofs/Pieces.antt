@@ -1,5 +1,5 @@
 -- How many words pieces have together.
-use Rattle.std.proofs.Common.{◌≡◌, ℕ, ◌+◌, ◌<◌, ◌≤◌, List, [], ◌∷◌, ◌++◌, map, length, get_or, take, drop, refl, sym, ap, ◌∙◌, arith}
+use Rattle.std.proofs.Common.{◌≡◌, ℕ, ◌+◌, ◌<◌, ◌≤◌, List, [], ◌∷◌, ◌++◌, map, length, get_or, take, drop, sym, ap, ◌∙◌, arith}
 use Rattle.std.specs.List.{concat}
 use Rattle.std.proofs.lemmas.List.{length-append, map_more, map-append, take-append-drop}
 
@@ -18,7 +18,7 @@ piece_more words pieces index d lt =
 pub pieces_within : {X : Type 0} (words : X → List ℕ) (pieces : List X) (index : ℕ) → length (concat (map words (take index pieces))) ≤ length (concat (map words pieces))
 pieces_within {X} words pieces index =
     let whole : length (concat (map words pieces)) ≡ length (concat (map words (take index pieces))) + length (concat (map words (drop index pieces))) =
-      ap (λ (xs : List X). length (concat (map words xs))) (sym (take-append-drop index pieces))
-      ∙ ap (λ (xs : List (List ℕ)). length (concat xs)) (map-append words (take index pieces) (drop index pieces))
-      ∙ length-concat-append (map words (take index pieces)) (map words (drop index pieces)) in
+    ap (λ (xs : List X). length (concat (map words xs))) (sym (take-append-drop index pieces))
+    ∙ ap (λ (xs : List (List ℕ)). length (concat xs)) (map-append words (take index pieces) (drop index pieces))
+    ∙ length-concat-append (map words (take index pieces)) (map words (drop index pieces)) in
     omega arith

@@ -1,7 +1,7 @@
 -- Plain chunks, by their headers.
-use Rattle.std.proofs.Common.{◌≡◌, ℕ, zero, suc, ◌+◌, ◌%◌, ◌<◌, ◌≤◌, ◌⊎◌, Bool, true, false, List, [], ◌∷◌, ◌++◌, length, take, drop, slice_index, refl, sym, ap, subst, ◌∙◌, arith, inl, inr}
+use Rattle.std.proofs.Common.{◌≡◌, ℕ, zero, suc, ◌<◌, true, false, List, ◌∷◌, take, drop, slice_index, refl, sym, ap, ◌∙◌, arith, inl, inr}
 use Rattle.std.proofs.lemmas.Bool.{false≢true}
-use Rattle.std.proofs.lemmas.List.{take-append-drop, get_or-take, length-take}
+use Rattle.std.proofs.lemmas.List.{take-append-drop, get_or-take}
 use Rattle.sqz_object.specs.declared.chunk.Chunk.{Chunk}
 use Rattle.sqz_object.specs.declared.chunk.Kind.{Kind}
 use Rattle.sqz_object.specs.declared.chunk.Kind.TheVariants.{Three, Two, Free, Short}
@@ -29,8 +29,8 @@ plain_by_header words chunk begins =
 pub no_plain_chunk : (words : List ℕ) (chunk : Chunk) → BeginsWith words chunk → is_plain_header chunk.kind (base_of chunk.base) ≡ false → (count : ℕ) → IsChunk (take count words) → is_plain_chunk (take count words) ≡ true → ⊥
 no_plain_chunk words chunk begins not_plain count is_chunk plain =
     let same : take count words ≡ take chunk.length words =
-      chunk_front_unique (take count words) (drop count words) (take chunk.length words) (drop chunk.length words) is_chunk (chunk.kind, begins.is_chunk)
-      (take-append-drop count words ∙ sym (take-append-drop chunk.length words)) in
+    chunk_front_unique (take count words) (drop count words) (take chunk.length words) (drop chunk.length words) is_chunk (chunk.kind, begins.is_chunk)
+    (take-append-drop count words ∙ sym (take-append-drop chunk.length words)) in
     false≢true (sym not_plain ∙ sym (plain_by_header words chunk begins) ∙ ap is_plain_chunk (sym same) ∙ plain)
 
 -- words whose first one has type 0 or 1 begin with no plain chunk
@@ -38,7 +38,7 @@ pub no_plain_type : (words : List ℕ) (p : ℕ) → header_type (slice_index wo
 no_plain_type words p low zero is_chunk plain = false≢true plain
 no_plain_type words p low (suc count) is_chunk plain =
     let first : slice_index (take (suc count) (drop p words)) 0 ≡ slice_index words p =
-      get_or-take (suc count) (drop p words) 0 0 (omega arith) ∙ slice_index-drop words p in
+    get_or-take (suc count) (drop p words) 0 0 (omega arith) ∙ slice_index-drop words p in
     let type = plain_header (take (suc count) (drop p words)) plain in
     elim type [
       | inl free ↦ let e = sym (ap header_type first) ∙ free in omega arith

@@ -1,5 +1,5 @@
 -- From a file to its image and back.
-use Rattle.std.proofs.Common.{◌≡◌, ℕ, ◌+◌, ◌*◌, ◌/◌, ◌%◌, ◌^◌, ◌<◌, ◌≤◌, Bool, true, false, not, ◌||◌, cond, eqb, ltb, List, length, take, drop, slice_index, Option, Some, None, refl, sym, ap, subst, ◌∙◌, arith, inl, inr}
+use Rattle.std.proofs.Common.{◌≡◌, ℕ, ◌+◌, ◌*◌, ◌%◌, ◌^◌, ◌<◌, ◌≤◌, Bool, true, false, not, ◌||◌, cond, eqb, ltb, List, length, take, drop, slice_index, Option, Some, None, refl, sym, ap, subst, ◌∙◌, arith, inl, inr}
 use Rattle.std.proofs.lemmas.Bool.{eqb-true, ltb-false, cases_lt}
 use Rattle.std.proofs.lemmas.List.{take_all, length-drop, length-take, get_or-take, get_or_past}
 use Rattle.sqz_object.specs.declared.order.Order.{Order}
@@ -10,10 +10,9 @@ use Rattle.sqz_object.proofs.WordLemmas.{length-words_of, words_of-lt}
 use Rattle.sqz_image.specs.declared.fault.Fault.{Fault}
 use Rattle.sqz_image.specs.declared.fault.Fault.TheVariants.{TooShort, BadHeaderSize, BadDataSize, BadBase, Truncated}
 use Rattle.sqz_image.specs.File.{header_size, order_of, header_of, stated_header_size, data_size, base_address, special_address, data_of}
-use Rattle.sqz_image.specs.Objects.{Memory, SavedImage, find}
-use Rattle.sqz_image.specs.Refusals.{header_fault, fault_in_order, file_fault, HasChunks, Holds}
-use Rattle.sqz_image.specs.Plain.{IsPlain, HoldsPlain, HasPlainHeader}
-use Rattle.sqz_image.specs.Index.{HasPlainPartition}
+use Rattle.sqz_image.specs.Objects.{Memory, SavedImage}
+use Rattle.sqz_image.specs.Refusals.{header_fault, fault_in_order, file_fault}
+use Rattle.sqz_image.specs.Plain.{HoldsPlain, HasPlainHeader}
 use Rattle.sqz_image.specs.Memory.{IsPlainMemory}
 
 none_is_some : {A : Type 0} (x : A) → Some x ≡ None → ⊥
@@ -51,9 +50,9 @@ pub IsSoundHeader-from_no_fault : (header : List ℕ) (bytes : ℕ) → header_f
 unfolding faults
 IsSoundHeader-from_no_fault header bytes e =
     let parts =
-      no_fault_parts (eqb (stated_header_size header) header_size) (eqb (data_size header % 4) 0)
-      (not (eqb (base_address header % 4) 0) || ltb (2 ^ 32) (base_address header + data_size header))
-      (ltb bytes (header_size + data_size header)) e in
+    no_fault_parts (eqb (stated_header_size header) header_size) (eqb (data_size header % 4) 0)
+    (not (eqb (base_address header % 4) 0) || ltb (2 ^ 32) (base_address header + data_size header))
+    (ltb bytes (header_size + data_size header)) e in
     let base = or_parts (not (eqb (base_address header % 4) 0)) (ltb (2 ^ 32) (base_address header + data_size header)) parts.2 in
     record {
       multiple = eqb-true _ _ parts.1;

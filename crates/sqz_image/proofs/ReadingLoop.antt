@@ -1,12 +1,11 @@
 -- A loop of reads: what it has read so far, and how it ends.
-use Rattle.std.proofs.Common.{◌≡◌, ◌≢◌, ℕ, ◌+◌, ◌<◌, List, [], ◌++◌, append-nil, length, take, Ok, Err, Result, sym, ap, ◌∙◌, refl, inl, inr, subst, arith}
-use Rattle.std.proofs.lemmas.Bool.Decides.{nat_tests}
+use Rattle.std.proofs.Common.{◌≡◌, ℕ, ◌+◌, List, ◌++◌, take, Ok, Err, Result, sym, ap, ◌∙◌, refl, inl, inr, subst}
 use Rattle.std.specs.Io.KnownBytes.{Consumes}
-use Rattle.std.proofs.KnownBytes.{Consumes-nil, Consumes-trans, Consumes-kept}
+use Rattle.std.proofs.KnownBytes.{Consumes-trans, Consumes-kept}
 use Rattle.sqz_image.specs.declared.device.DeviceFault.{DeviceFault}
 use Rattle.sqz_image.specs.declared.fault.Fault.TheVariants.{OutOfMemory, ReadFailed}
-use Rattle.sqz_image.specs.Devices.{SourceState, IsRead, one_more, turn_limit, MeetsLimit, count_after, ReadsWhole, ReadStops}
-use Rattle.sqz_image.proofs.Turns.{one_more-count_after, count_after-le, MeetsLimit-all}
+use Rattle.sqz_image.specs.Devices.{SourceState, IsRead, one_more, turn_limit, MeetsLimit, count_after, ReadStops}
+use Rattle.sqz_image.proofs.Turns.{one_more-count_after, MeetsLimit-all}
 
 -- so many reads gave these bytes, each of them some
 pub record HasRead (old now : SourceState) (file : List ℕ) (turns : ℕ) : Type 0 where

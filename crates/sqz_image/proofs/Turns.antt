@@ -1,5 +1,5 @@
 -- Counts of calls.
-use Rattle.std.proofs.Common.{◌≡◌, ℕ, ◌+◌, ◌^◌, ◌-◌, ◌<◌, ◌≤◌, min, ◌⊎◌, inl, inr, arith}
+use Rattle.std.proofs.Common.{◌≡◌, ℕ, ◌+◌, arith}
 use Rattle.std.proofs.lemmas.Bool.Decides.{nat_tests}
 use Rattle.sqz_image.specs.Devices.{one_more, turn_limit, MeetsLimit, count_after}
 
@@ -8,9 +8,6 @@ one_more-count_after count turns = grind (arith, nat_tests)
 
 pub count_after-count_after : (count before after : ℕ) → count_after (count_after count before) after ≡ count_after count (before + after)
 count_after-count_after count before after = grind (arith, nat_tests)
-
-pub count_after-le : (count turns : ℕ) → count_after count turns ≤ count + turns
-count_after-le count turns = grind (arith, nat_tests)
 
 -- as many calls as the limit allows
 pub MeetsLimit-all : (count : ℕ) → MeetsLimit count (count_after count turn_limit)

@@ -1,12 +1,11 @@
 -- A loop of writes: what it has written so far, and how it ends.
-use Rattle.std.proofs.Common.{◌≡◌, ◌≢◌, ℕ, ◌+◌, ◌-◌, ◌<◌, ◌≤◌, List, [], ◌++◌, append-nil, append_assoc, take-append-drop, length, take, drop, Ok, Err, sym, ap, ◌∙◌, refl, inl, inr, subst, arith}
+use Rattle.std.proofs.Common.{◌≡◌, ◌≢◌, ℕ, ◌+◌, ◌-◌, ◌<◌, List, [], ◌++◌, append-nil, append_assoc, take-append-drop, length, take, drop, Ok, sym, ap, ◌∙◌, refl, inl, inr, subst, arith}
 use Rattle.std.proofs.lemmas.List.{take_rest}
-use Rattle.std.proofs.KnownBytes.{Appends-nil, Appends-trans, Appends-kept}
-use Rattle.sqz_image.specs.declared.device.DeviceFault.{DeviceFault}
+use Rattle.std.proofs.KnownBytes.{Appends-nil, Appends-trans}
 use Rattle.sqz_image.specs.declared.fault.Fault.{Fault}
 use Rattle.sqz_image.specs.declared.fault.Fault.TheVariants.{WriteFailed}
-use Rattle.sqz_image.specs.Devices.{SinkState, IsWrite, IsFlush, one_more, turn_limit, MeetsLimit, count_after, Sends, SendStops, WritesWhole, WriteStops}
-use Rattle.sqz_image.proofs.Turns.{one_more-count_after, count_after-count_after, count_after-le, MeetsLimit-all}
+use Rattle.sqz_image.specs.Devices.{SinkState, IsWrite, turn_limit, MeetsLimit, count_after, Sends, SendStops, WriteStops}
+use Rattle.sqz_image.proofs.Turns.{count_after-count_after, MeetsLimit-all}
 
 -- ---- one write
 

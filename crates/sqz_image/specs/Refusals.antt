@@ -7,7 +7,7 @@ use Rattle.sqz_object.specs.Partition.{IsPartition, IsStuck}
 use Rattle.sqz_image.specs.declared.fault.Fault.{Fault}
 use Rattle.sqz_image.specs.declared.fault.Fault.TheVariants.{TooShort, BadVersion, BadHeaderSize, BadDataSize, BadBase, Truncated, ZeroSize, HeaderMismatch, Overrun, BadSpecialObjects}
 use Rattle.sqz_image.specs.File.{header_size, order_of, header_of, stated_header_size, data_size, base_address, special_address, data_of}
-use Rattle.sqz_image.specs.Objects.{Memory, SavedImage, find}
+use Rattle.sqz_image.specs.Objects.{SavedImage, find}
 
 -- the first of the refusals 3 to 6 that applies, by the header words and the number of the file's bytes
 abbrev pub header_fault : List ℕ → ℕ → Option Fault

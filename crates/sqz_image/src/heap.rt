@@ -42,7 +42,13 @@ impl Model for Heap {
 impl Heap {
     /// The object memory with these data words; None where they are no plain chunks, or no object has
     /// the address of the special objects array.
-    pub(crate) fn of(alloc: Global, order: Order, base: u32, special: u32, words: Vec<u32>) -> Result<Option<Self>, AllocError>
+    pub(crate) fn of(
+        alloc: Global,
+        order: Order,
+        base: u32,
+        special: u32,
+        words: Vec<u32>,
+    ) -> Result<Option<Self>, AllocError>
         requires few { length words.items < 2 ^ 30 }
         requires within { base + 4 * length words.items ≤ 2 ^ 32 }
         requires aligned { base % 4 ≡ 0 }

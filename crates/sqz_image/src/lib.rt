@@ -16,10 +16,10 @@ mod read_whole;
 mod reading;
 mod search;
 mod words;
-mod writing;
 mod write_sink;
 mod write_whole;
 mod write_words;
+mod writing;
 
 pub use device::{DeviceFault, Sink, Source};
 pub use fault::{Fault, Slot};
@@ -30,6 +30,9 @@ pub use memory_source::MemorySource;
 pub use read_source::ReadSource;
 pub use read_whole::read_all;
 pub use reading::read_first;
-pub use writing::write_image;
 pub use write_sink::WriteSink;
 pub use write_whole::write_all;
+pub use writing::write_image;
+
+#[cfg(test)]
+mod tests;

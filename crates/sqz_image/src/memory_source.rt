@@ -49,6 +49,7 @@ impl Source for MemorySource {
 
     ghost state = { λ s. record { left = Some (drop s.given s.bytes.items); reads = s.reads; empty_reads = s.empty_reads; failed = s.failed } };
 
+    #[tactic(auto, using(crate::proofs::Parts::drop_parts))]
     fn read(&mut self, into: &mut [u8]) -> Result<usize, DeviceFault>
         ensures read { IsRead (⟦<MemorySource as Source>⟧.state self.old)
             (⟦<MemorySource as Source>⟧.state self.new) into.new result }

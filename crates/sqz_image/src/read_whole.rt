@@ -37,6 +37,7 @@ pub fn read_all<R: Source>(alloc: Global, source: &mut R) -> Result<Vec<u8>, Fau
         }
         append(&mut file, &piece[..count])?;
     }
+    // The last turn: what it gives is not looked at, since no turn is left to come to the end.
     let _ = source.read(&mut piece);
     Err(Fault::ReadFailed)
 }

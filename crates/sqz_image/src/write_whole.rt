@@ -1,6 +1,6 @@
 //! All of some bytes to a sink.
 
-ghost use Rattle.std.specs.Prelude.{◌≡◌, ◌-◌, ◌<◌, ◌≤◌, OnOk, IfErr};
+ghost use Rattle.std.specs.Prelude.{◌<◌, OnOk, IfErr};
 ghost use Rattle.sqz_image.specs.Devices.{WritesWhole, WriteStops, Sends, SendStops};
 
 use crate::device::Sink;

@@ -14,7 +14,7 @@ use sqz_object::{Order, put_word};
 const BLOCK_WORDS: usize = 1 << 14;
 
 /// The bytes of so many words.
-const BLOCK: usize = 1 << 16;
+const BLOCK: usize = 4 * BLOCK_WORDS;
 
 /// Writes the header words and then the words of each piece, in this byte order, and then flushes. It
 /// takes no memory.

@@ -16,7 +16,12 @@ use crate::write_words::write_words;
 ///
 /// Fails with `WriteFailed` where a write or the flush fails, and where 2^32 writes were made. Bytes
 /// from the front on, perhaps all, were then taken.
-pub fn write_image<W: Sink>(image: &Image, special: u32, pieces: &[Vec<u32>], sink: &mut W) -> Result<(), Fault>
+pub fn write_image<W: Sink>(
+    image: &Image,
+    special: u32,
+    pieces: &[Vec<u32>],
+    sink: &mut W,
+) -> Result<(), Fault>
     requires few { length (concat (map (λ v. v.items) pieces.now)) < 2 ^ 30 }
     ensures whole { OnOk result (WritesWhole (W.state sink.old) (W.state sink.new)
         (file_with image.now.memory.order image.now.header special (map (λ v. v.items) pieces.now))) }

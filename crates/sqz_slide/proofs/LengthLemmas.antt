@@ -1,7 +1,7 @@
 -- An object keeps its length when it moves, so that the live objects have as many words after as before.
-use Rattle.std.proofs.Common.{◌≡◌, ℕ, ◌+◌, ◌-◌, ◌<◌, ◌≤◌, Bool, true, false, List, [], ◌∷◌, ◌++◌, map, length, take, drop, refl, sym, ap, ◌∙◌, arith}
+use Rattle.std.proofs.Common.{◌≡◌, ℕ, ◌+◌, ◌<◌, Bool, true, false, List, [], ◌∷◌, map, length, take, drop, refl, sym, ap, ◌∙◌, arith}
 use Rattle.std.specs.List.{concat, AllByRecursion}
-use Rattle.std.proofs.lemmas.List.{length-append, length-map, length-drop, length-take, take-append-drop}
+use Rattle.std.proofs.lemmas.List.{length-append, length-map, length-drop, length-take}
 use Rattle.std.proofs.lemmas.List.Sums.{sum_by-cons}
 use Rattle.sqz_object.specs.declared.chunk.Kind.{Kind}
 use Rattle.sqz_object.specs.declared.chunk.Kind.TheVariants.{Three, Two, Free, Short}
@@ -31,7 +31,7 @@ pub length-moved : (memory : Memory) (marks : List Bool) (chunk : List ℕ) → 
 length-moved memory marks chunk (kind, h) =
     let is : chunk_kind chunk ≡ kind = chunk_kind_is kind chunk h in
     let header : length (moved_header memory marks (chunk_kind chunk) chunk) ≡ before chunk + 1 =
-      ap (λ (k : Kind). length (moved_header memory marks k chunk)) is ∙ length-moved_header memory marks kind chunk h ∙ ap (λ (k : Kind). words_before k + 1) (sym is) in
+    ap (λ (k : Kind). length (moved_header memory marks k chunk)) is ∙ length-moved_header memory marks kind chunk h ∙ ap (λ (k : Kind). words_before k + 1) (sym is) in
     let room : before chunk < length chunk = rw is (chunk_has_header kind chunk h) in
     omega (arith, length-append (moved_header memory marks (chunk_kind chunk) chunk) (moved_fields memory marks chunk), length-moved_fields memory marks chunk, length-drop (before chunk + 1) chunk)
 

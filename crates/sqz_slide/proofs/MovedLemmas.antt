@@ -1,7 +1,7 @@
 -- The words of plain objects after the move, one by one, and of all live objects up to one.
 use Rattle.std.proofs.Common.{◌≡◌, ℕ, ◌+◌, ◌-◌, ◌<◌, ◌≤◌, Bool, true, false, List, [], ◌∷◌, ◌++◌, map, length, get_or, take, drop, slice_index, refl, ap, ◌∙◌, arith}
 use Rattle.std.specs.List.{concat}
-use Rattle.std.proofs.lemmas.List.{append-nil, length-append, length-map, length-take-le, length-drop, get_or-take, get_or-drop, get_or-map, get_or_append_left, get_or-append_right, map_push}
+use Rattle.std.proofs.lemmas.List.{append-nil, length-map, length-take-le, get_or-take, get_or-drop, get_or-map, get_or_append_left, get_or-append_right, map_push}
 use Rattle.std.proofs.lemmas.List.Folds.{concat-append}
 use Rattle.sqz_object.specs.declared.chunk.Kind.{Kind}
 use Rattle.sqz_object.specs.declared.chunk.Kind.TheVariants.{Short}
@@ -11,7 +11,6 @@ use Rattle.sqz_trace.specs.Slots.{traced}
 use Rattle.sqz_trace.specs.Live.{marked}
 use Rattle.sqz_trace.proofs.SlotLemmas.{IsPlainObject, traced_inside}
 use Rattle.sqz_regions.proofs.MarkedLemmas.{marked_more_yes, marked_more_no, marked_all}
-use Rattle.sqz_slide.proofs.LengthLemmas.{length-moved_fields}
 use Rattle.sqz_slide.specs.Moved.{moved_field, moved_header, moved_fields, moved, moved_objects}
 
 -- the header word of a plain object does not change
@@ -29,7 +28,6 @@ moved_plain memory marks chunk plain =
 length-moved_traced : (memory : Memory) (marks : List Bool) (chunk : List ℕ) → IsPlainObject chunk → length (map (moved_field memory marks) (take (traced chunk) (fields chunk))) ≡ traced chunk
 length-moved_traced memory marks chunk plain =
     length-map (take (traced chunk) (fields chunk)) (moved_field memory marks) ∙ length-take-le (traced chunk) (fields chunk) (traced_inside chunk plain)
-
 
 -- a traced field
 pub moved_fields_traced : (memory : Memory) (marks : List Bool) (chunk : List ℕ) (k : ℕ) → IsPlainObject chunk → k < traced chunk → get_or (moved_fields memory marks chunk) k 0 ≡ moved_field memory marks (slice_index (fields chunk) k)

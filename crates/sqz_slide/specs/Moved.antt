@@ -2,8 +2,8 @@
 use Rattle.std.specs.Prelude.{ℕ, ◌+◌, ◌%◌, Bool, List, [], ◌∷◌, ◌++◌, map, take, drop, Option, Some, None}
 use Rattle.sqz_object.specs.declared.chunk.Kind.{Kind}
 use Rattle.sqz_object.specs.declared.chunk.Kind.TheVariants.{Three, Two, Free, Short}
-use Rattle.sqz_object.specs.Chunk.{chunk_kind, before, fields}
-use Rattle.sqz_image.specs.Objects.{Memory, Object}
+use Rattle.sqz_object.specs.Chunk.{chunk_kind, fields}
+use Rattle.sqz_image.specs.Objects.{Memory}
 use Rattle.sqz_trace.specs.Slots.{class_address, traced}
 use Rattle.sqz_trace.specs.Edges.{named_by}
 use Rattle.sqz_trace.specs.Live.{live}

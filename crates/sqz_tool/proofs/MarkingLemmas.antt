@@ -88,8 +88,8 @@ module _ (memory : Memory) (object slot : ℕ) (old : List Bool) (queue : List �
         added = so_far.added;
         measure = so_far.measure;
       } where
-    none_is_some : (index : ℕ) → None ≡ Some index → ⊥
-    none_is_some index e = cc
+        none_is_some : (index : ℕ) → None ≡ Some index → ⊥
+        none_is_some index e = cc
 
   -- the next slot names an object that has its mark
   pub slot_names_marked : (found : ℕ) → named_by memory (slice_index (slot_words (chunk_at memory object)) slot) ≡ Some found → is_marked marks found ≡ true → MarksSlots memory object (slot + 1) old queue marks worklist
@@ -109,8 +109,8 @@ module _ (memory : Memory) (object slot : ℕ) (old : List Bool) (queue : List �
         added = so_far.added;
         measure = so_far.measure;
       } where
-    some_is : (i j : ℕ) → Some i ≡ Some j → i ≡ j
-    some_is i j e = cc
+        some_is : (i j : ℕ) → Some i ≡ Some j → i ≡ j
+        some_is i j e = cc
 
   -- the next slot names an object that gets its mark now
   pub slot_names_new : (found : ℕ) → object < object_count memory → slot < length (slot_words (chunk_at memory object)) → found < length marks → named_by memory (slice_index (slot_words (chunk_at memory object)) slot) ≡ Some found → is_marked marks found ≡ false → MarksSlots memory object (slot + 1) old queue (set marks found true) (worklist ++ found ∷ [])
@@ -142,10 +142,11 @@ module _ (memory : Memory) (object slot : ℕ) (old : List Bool) (queue : List �
         ];
         measure = omega (arith, unmarked-set marks found in_range new, so_far.measure, length-append worklist (found ∷ []));
       } where
-    some_is : (i j : ℕ) → Some i ≡ Some j → i ≡ j
-    some_is i j e = cc
-    edge : HasEdge memory object found
-    edge = record { inside = inside; slot = slot; is_slot = is_slot; names = named }
+        some_is : (i j : ℕ) → Some i ≡ Some j → i ≡ j
+        some_is i j e = cc
+
+        edge : HasEdge memory object found
+        edge = record { inside = inside; slot = slot; is_slot = is_slot; names = named }
 
 -- ---- between two steps
 
@@ -174,10 +175,10 @@ starts memory special found lt =
     let blank = replicate (object_count memory) false in
     let long : special < length blank = omega (arith, length-replicate (object_count memory) false) in
     let only : (index : ℕ) → is_marked (set blank special true) index ≡ true → index ≡ special =
-      λ index marked. elim (is_marked-set blank special index marked) [
-        | inl same ↦ same
-        | inr before ↦ absurd (none_marked (object_count memory) index before)
-      ] in
+    λ index marked. elim (is_marked-set blank special index marked) [
+      | inl same ↦ same
+      | inr before ↦ absurd (none_marked (object_count memory) index before)
+    ] in
     record {
       sized = length-set blank special true ∙ length-replicate (object_count memory) false;
       special = λ index is. subst (λ (i : ℕ). is_marked (set blank special true) i ≡ true) (some_is special index (sym found ∙ is)) (get_or-set_same blank special true false long);
@@ -188,8 +189,8 @@ starts memory special found lt =
       ];
       closed = λ index marked. inl (inl (sym (only index marked)));
     } where
-  some_is : (i j : ℕ) → Some i ≡ Some j → i ≡ j
-  some_is i j e = cc
+      some_is : (i j : ℕ) → Some i ≡ Some j → i ≡ j
+      some_is i j e = cc
 
 -- ---- one object more
 
@@ -230,8 +231,8 @@ goes_on memory object marks rest new longer marking step =
         | inr (edge, there) ↦ inl there
       ];
     } where
-  from_object : (next : ℕ) → HasEdge memory object next → is_marked new next ≡ true
-  from_object next edge = step.targets edge.slot next edge.is_slot edge.names
+      from_object : (next : ℕ) → HasEdge memory object next → is_marked new next ≡ true
+      from_object next edge = step.targets edge.slot next edge.is_slot edge.names
 
 -- ---- the end
 
@@ -243,14 +244,15 @@ all_marked memory special marks found marking =
       start = special;
       is_special = found;
       has_start = marking.special special found;
-      closed = record { along = λ from to marked edge. elim (marking.closed from marked) [ | inl none ↦ absurd none | inr all ↦ all to edge ] };
+      closed = record { along = λ from to marked edge. elim (marking.closed from marked) [ inl none ↦ absurd none | inr all ↦ all to edge ] };
       reached = λ index marked. reached_from index (marking.sound index marked);
     }) where
-  some_is : (i j : ℕ) → Some i ≡ Some j → i ≡ j
-  some_is i j e = cc
-  reached_from : (index : ℕ) → IsReachable memory index → (path : List ℕ) × Leads memory special path index
-  reached_from index reached =
-      (reached.path, subst (λ (i : ℕ). Leads memory i reached.path index) (some_is reached.start special (sym reached.is_special ∙ found)) reached.leads)
+      some_is : (i j : ℕ) → Some i ≡ Some j → i ≡ j
+      some_is i j e = cc
+
+      reached_from : (index : ℕ) → IsReachable memory index → (path : List ℕ) × Leads memory special path index
+      reached_from index reached =
+          (reached.path, subst (λ (i : ℕ). Leads memory i reached.path index) (some_is reached.start special (sym reached.is_special ∙ found)) reached.leads)
 
 -- what stands on the worklist is an object
 pub marked_is_object : (memory : Memory) (marks : List Bool) (worklist : List ℕ) (index : ℕ) → IsMarking memory marks worklist → IsIn index worklist → index < object_count memory

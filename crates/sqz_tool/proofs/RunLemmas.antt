@@ -47,7 +47,7 @@ bytes_are image marks special special_object words chunks found special_is words
     let size : length (concat (words ∷ [])) ≡ live_words image.memory marks = ap length words_whole ∙ length-moved_objects image.memory marks chunks in
     let address : special ≡ new_special image.memory marks = special_is ∙ ap (place_or image.memory marks image.memory.special) (sym found) in
     let header : renewed image.header (4 * length (concat (words ∷ []))) special ≡ compacted_header image marks =
-      ap (λ (n : ℕ). renewed image.header (4 * n) special) size ∙ ap (renewed image.header (4 * live_words image.memory marks)) address in
+    ap (λ (n : ℕ). renewed image.header (4 * n) special) size ∙ ap (renewed image.header (4 * live_words image.memory marks)) address in
     ap (λ (h : List ℕ). spelling_of image.memory.order (h ++ concat (words ∷ []))) header ∙ ap (λ (d : List ℕ). spelling_of image.memory.order (compacted_header image marks ++ d)) words_whole
 
 pub few_words : (memory : Memory) (marks : List Bool) (words : List ℕ) → AllByRecursion IsChunk memory.chunks → words ≡ concat (moved_objects memory marks) → live_words memory marks < 2 ^ 30 → length (concat (words ∷ [])) < 2 ^ 30

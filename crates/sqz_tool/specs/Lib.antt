@@ -2,3 +2,5 @@ pub mod Marking
 pub mod Compacted
 pub mod Verdict
 pub mod Headline
+pub mod CommandLine
+pub mod Exits

@@ -1,14 +1,22 @@
-//! Compacts an image: reads it, finds its reachable objects, and writes them slid together.
+//! Compacts an image: reads it, finds its reachable objects, and writes them slid together; and the
+//! program that does so with files.
 #![tactic(auto)]
 
+mod arguments;
+mod command;
 mod compaction;
 mod defects;
+mod exits;
+pub mod laws;
 mod marking;
+mod output_file;
 mod placing;
+mod printing;
 mod running;
 mod sliding;
 mod summary;
 mod tracing;
 
+pub use command::{program, refuse};
 pub use running::run;
 pub use summary::Summary;

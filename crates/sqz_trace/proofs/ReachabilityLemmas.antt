@@ -1,5 +1,6 @@
 -- Marks that have the special objects array, that go along each edge, and of which each has a path, are reachability.
-use Rattle.std.proofs.Common.{◌≡◌, ℕ, Bool, true, List, [], ◌∷◌, length, Some, subst}
+use Rattle.std.proofs.Common.{◌≡◌, ℕ, Bool, true, false, List, [], ◌∷◌, length, Some, refl, sym, subst, ◌∙◌}
+use Rattle.std.proofs.lemmas.List.{ext_get_or}
 use Rattle.sqz_image.specs.Objects.{Memory, object_count, find}
 use Rattle.sqz_trace.specs.Edges.{HasEdge}
 use Rattle.sqz_trace.specs.Reachability.{Leads, is_marked, IsReachability}
@@ -34,3 +35,14 @@ IsReachability-from_tracing memory marks t =
           let same : t.start ≡ r.start = let a = t.is_special in let b = r.is_special in cc in
           marked_at_goal memory marks t.closed r.start r.path index (subst (λ (start : ℕ). is_marked marks start ≡ true) same t.has_start) r.leads;
     }
+
+same_mark : (one other : Bool) → (one ≡ true → other ≡ true) → (other ≡ true → one ≡ true) → one ≡ other
+same_mark true other f g = sym (f refl)
+same_mark false true f g = g refl
+same_mark false false f g = refl
+
+-- there is one reachability
+pub IsReachability-unique : (memory : Memory) (one other : List Bool) → IsReachability memory one → IsReachability memory other → one ≡ other
+IsReachability-unique memory one other p q =
+    ext_get_or false one other (p.sized ∙ sym q.sized)
+    (λ index lt. same_mark (is_marked one index) (is_marked other index) (λ m. q.complete index (p.sound index m)) (λ m. p.complete index (q.sound index m)))

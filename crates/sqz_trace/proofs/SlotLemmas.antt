@@ -1,13 +1,12 @@
 -- The slots of plain objects: those with one header word that are no contexts and no methods.
-use Rattle.std.proofs.Common.{◌≡◌, ℕ, zero, suc, ◌+◌, ◌-◌, ◌%◌, ◌<◌, ◌≤◌, min, ◌⊎◌, Bool, true, false, not, ◌&&◌, ◌||◌, cond, eqb, ltb, leb, List, [], ◌∷◌, ◌++◌, map, length, get_or, take, drop, slice_index, refl, sym, ap, subst, ◌∙◌, arith, inl, inr}
-use Rattle.std.proofs.lemmas.Bool.{cases_Bool, or_cases, and_parts, eqb-true, ltb-true, false≢true}
+use Rattle.std.proofs.Common.{◌≡◌, ℕ, suc, ◌<◌, ◌≤◌, Bool, true, false, not, cond, eqb, ltb, leb, List, [], ◌∷◌, map, length, take, slice_index, refl, ap, ◌∙◌, arith, inl, inr}
+use Rattle.std.proofs.lemmas.Bool.{or_cases, and_parts, eqb-true, false≢true}
 use Rattle.std.proofs.lemmas.Bool.Decides.{nat_tests}
 use Rattle.std.proofs.lemmas.List.{length-take-le, get_or-take}
-use Rattle.sqz_object.specs.declared.chunk.Kind.{Kind}
 use Rattle.sqz_object.specs.declared.chunk.Kind.TheVariants.{Short}
-use Rattle.sqz_object.specs.Chunk.{header_type, is_object, chunk_kind, before, format, compact_index, fields}
+use Rattle.sqz_object.specs.Chunk.{header_type, is_object, chunk_kind, format, fields}
 use Rattle.sqz_object.proofs.ChunkLemmas.{kind_of-short}
-use Rattle.sqz_image.specs.Plain.{is_plain_chunk, is_plain_format, is_context_index}
+use Rattle.sqz_image.specs.Plain.{is_plain_chunk}
 use Rattle.sqz_trace.specs.Slots.{is_context, is_method, traced, SlotWord, field_slots, slots, slot_words}
 
 -- what a plain object is not

@@ -1,5 +1,5 @@
 -- What the slots of an object name.
-use Rattle.std.specs.Prelude.{◌≡◌, ℕ, ◌<◌, List, length, slice_index, Option, Some, None}
+use Rattle.std.specs.Prelude.{◌≡◌, ℕ, ◌<◌, length, slice_index, Option, Some, None}
 use Rattle.sqz_object.specs.declared.value.Value.{Value}
 use Rattle.sqz_object.specs.declared.value.Value.TheVariants.{Int, Pointer, Odd}
 use Rattle.sqz_object.specs.Value.{value_of}

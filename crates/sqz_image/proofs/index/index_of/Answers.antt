@@ -1,4 +1,3 @@
-use Rattle.std.proofs.Common.{arith, ◌∙◌, sym}
 use Rattle.sqz_image.proofs.IndexLemmas.{start, step_free, step_object, no_partition, whole_index}
 use Rattle.sqz_image.proofs.index.index_of.Goals as goal
 use Rattle.sqz_image.proofs.index.index_of.Goals.{in-Free, in_default-kind+in_ok-push-in_default-kind+in_ok-push-in_default-kind-2}

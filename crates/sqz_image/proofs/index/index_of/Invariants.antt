@@ -1,4 +1,4 @@
-use Rattle.std.proofs.Common.{◌≤◌, ◌-◌, length}
+use Rattle.std.proofs.Common.{◌-◌, length}
 use Rattle.sqz_image.proofs.IndexLemmas.{IsIndexedUpTo}
 use Rattle.sqz_image.proofs.index.index_of.Given as goal
 

@@ -1,4 +1,4 @@
-use Rattle.std.proofs.Common.{sym, ◌∙◌, arith}
+use Rattle.std.proofs.Common.{sym, ◌∙◌}
 use Rattle.sqz_image.proofs.PlainLemmas.{no_plain_type, no_plain_chunk, plain_by_header}
 use Rattle.sqz_image.proofs.plain.plain_chunk_at.Goals as goal
 

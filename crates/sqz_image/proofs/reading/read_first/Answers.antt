@@ -1,8 +1,8 @@
-use Rattle.std.proofs.Common.{◌≡◌, ◌<◌, ◌≤◌, ◌+◌, ◌*◌, ◌^◌, ℕ, List, length, slice_index, take, drop, arith, refl, sym, ap, ◌∙◌, None, Some}
+use Rattle.std.proofs.Common.{◌≡◌, slice_index, drop, arith, refl, ap, ◌∙◌}
 use Rattle.std.proofs.lemmas.List.{take_rest}
 use Rattle.sqz_object.specs.declared.order.Order.TheVariants.{Little}
 use Rattle.sqz_object.specs.Bytes.{words_of}
-use Rattle.sqz_image.proofs.ReadingLemmas.{HasBounds, plain_bounds, holds_plain, plain_memory}
+use Rattle.sqz_image.proofs.ReadingLemmas.{HasBounds, plain_bounds, plain_memory}
 use Rattle.sqz_image.proofs.reading.read_first.Goals as goal
 use Rattle.sqz_image.proofs.reading.read_first.Goals.{In_ok-words}
 

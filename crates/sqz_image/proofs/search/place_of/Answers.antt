@@ -1,4 +1,4 @@
-use Rattle.std.proofs.Common.{Ok, Err, ◌<◌, ◌≤◌, inl, inr, arith}
+use Rattle.std.proofs.Common.{Ok, Err, inl, inr, arith}
 use Rattle.std.proofs.lemmas.Bool.{cases_lt}
 use Rattle.std.proofs.lemmas.List.Sorted.{searched}
 use Rattle.sqz_image.proofs.search.place_of.Goals as goal

@@ -1,4 +1,4 @@
-use Rattle.std.proofs.Common.{◌≡◌, ◌∷◌, ◌++◌, [], ◌<◌, ◌≤◌, List, ℕ, length, take, slice_index, ap, sym, ◌∙◌, arith}
+use Rattle.std.proofs.Common.{◌∷◌, ◌++◌, [], ◌<◌, List, ℕ, length, take, ap, sym, ◌∙◌, arith}
 use Rattle.std.proofs.lemmas.List.{take_more, take_all}
 use Rattle.sqz_object.specs.Bytes.{words_of}
 use Rattle.sqz_object.proofs.WordLemmas.{length-words_of, words_of-at}

@@ -1,4 +1,4 @@
-use Rattle.std.proofs.Common.{◌≡◌, ◌+◌, ◌≤◌, ℕ, List, length, map, take, get_or, ap, ◌∙◌, sym, arith}
+use Rattle.std.proofs.Common.{◌≡◌, ◌+◌, length, map, take, ap, arith}
 use Rattle.std.specs.List.{concat}
 use Rattle.sqz_image.proofs.Pieces.{piece_more, pieces_within}
 use Rattle.sqz_image.proofs.writing.word_count.Goals as goal

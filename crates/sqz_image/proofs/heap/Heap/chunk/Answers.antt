@@ -1,6 +1,4 @@
-use Rattle.std.proofs.Common.{◌≡◌, ℕ, length, drop, slice_index, refl, ap, subst, sym, arith}
-use Rattle.sqz_object.specs.Chunk.{header_type}
-use Rattle.sqz_object.specs.Reading.{BeginsWith, HasNoChunk}
+use Rattle.std.proofs.Common.{arith}
 use Rattle.sqz_image.proofs.HeapLemmas.{listed_is, has_object, chunk_there, no_fault_there, header_there}
 use Rattle.sqz_image.proofs.heap.Heap.chunk.Goals as goal
 

@@ -1,4 +1,4 @@
-use Rattle.std.proofs.Common.{arith, refl, sym, ◌∙◌, None, Some}
+use Rattle.std.proofs.Common.{arith, sym, None, Some}
 use Rattle.sqz_image.proofs.HeapLemmas.{listed_of, length_addresses, few_objects, addresses_sorted, find_by_search, special_missing, plain_memory_of}
 use Rattle.sqz_image.proofs.heap.Heap.of.Goals as goal
 

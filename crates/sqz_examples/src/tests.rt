@@ -1,0 +1,7 @@
+//! The worked images, run from a source to a sink.
+
+mod answers;
+mod devices;
+mod files;
+mod program;
+mod unsupported;

@@ -1,0 +1,69 @@
+//! Files of given data words, and a run over one.
+
+ghost use Rattle.std.specs.Prelude.{◌<◌, length};
+
+use sqz_image::{Fault, MemorySink, MemorySource};
+use sqz_object::{Order, put_word};
+use sqz_tool::{Summary, run};
+use std::alloc::{AllocError, Global};
+use std::process::Abort;
+use std::test::Fail;
+
+/// The bytes of a file with these data words.
+pub fn file_of(
+    alloc: Global,
+    order: Order,
+    base: u32,
+    words: &[u32],
+    special: u32,
+) -> Result<Vec<u8>, AllocError>
+    requires { length words.now < 1000 }
+{
+    let mut file = Vec::new(alloc);
+    let size = 4 * words.len() as u32;
+    let header = [
+        6502, 64, size, base, special, 0, 0, 0, 0, 0, 0, 0, 0, 0, 0, 0,
+    ];
+    for word in &header {
+        file.extend_from_slice(&put_word(order, *word))?;
+    }
+    for word in words {
+        file.extend_from_slice(&put_word(order, *word))?;
+    }
+    Ok(file)
+}
+
+/// What a run over a file answers, and what it wrote.
+#[derive(Drop)]
+pub struct Outcome {
+    pub answer: Result<Summary, Fault>,
+    pub sink: MemorySink,
+}
+
+/// A run over a file, with room for all it may write.
+pub fn run_over<R>(rt: &R, alloc: Global, file: Vec<u8>) -> Result<Outcome, Fail> {
+    let mut source = MemorySource::new(file, 100, None);
+    let mut sink = MemorySink::new(alloc, 4096, None)?;
+    let answer = run(rt, alloc, &mut source, &mut sink);
+    Ok(Outcome { answer, sink })
+}
+
+/// Asserts that little-endian words are compacted to others, and answers the numbers of the run.
+pub fn assert_compacts<R: Abort + AllocGlobal>(
+    rt: &R,
+    base: u32,
+    words: &[u32],
+    special: u32,
+    answer: &[u32],
+    new_special: u32,
+) -> Result<Summary, Fail>
+    requires words { length words.now < 1000 }
+    requires answer { length answer.now < 1000 }
+{
+    let file = file_of(rt.alloc(), Order::Little, base, words, special)?;
+    let wanted = file_of(rt.alloc(), Order::Little, base, answer, new_special)?;
+    let outcome = run_over(rt, rt.alloc(), file)?;
+    let summary = outcome.answer?;
+    assert_eq!(rt; outcome.sink.contents(), wanted.as_slice());
+    Ok(summary)
+}

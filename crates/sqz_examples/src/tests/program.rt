@@ -1,0 +1,133 @@
+//! The program, over files.
+
+use super::files::file_of;
+use sqz_image::MemorySink;
+use sqz_object::Order;
+use sqz_tool::program;
+use std::fs::File;
+use std::io::{Read, Write};
+use std::process::Abort;
+use std::rt::Files;
+use std::test::Fail;
+
+/// What the program ended with and printed.
+#[derive(Drop)]
+struct Ended {
+    exit: u8,
+    out: MemorySink,
+    err: MemorySink,
+}
+
+/// Runs the program with these words after its name.
+fn run_program<R: Abort + AllocGlobal + Files>(rt: &R, words: &[&str]) -> Result<Ended, Fail> {
+    let mut line = Vec::new(rt.alloc());
+    line.push(String::from_str(rt.alloc(), "sqzcompact")?)?;
+    for word in words {
+        line.push(String::from_str(rt.alloc(), word)?)?;
+    }
+    let mut out = MemorySink::new(rt.alloc(), 4096, None)?;
+    let mut err = MemorySink::new(rt.alloc(), 4096, None)?;
+    let exit = program(rt, rt.alloc(), &line, &mut out, &mut err);
+    Ok(Ended { exit, out, err })
+}
+
+/// Asserts that the program ended so, with this line on standard error and nothing else printed.
+fn assert_faults<R: Abort + AllocGlobal + Files>(
+    rt: &R,
+    words: &[&str],
+    exit: u8,
+    line: &str,
+) -> Result<(), Fail> {
+    let ended = run_program(rt, words)?;
+    assert_eq!(rt; ended.exit, exit);
+    assert_eq!(rt; ended.err.contents(), line.as_bytes());
+    assert!(rt; ended.out.contents().is_empty());
+    Ok(())
+}
+
+/// Makes a file with the image of three objects, of which one is dead, in this byte order.
+fn make_image<R: AllocGlobal + Files>(rt: &R, path: &str, order: Order) -> Result<(), Fail> {
+    let words = [0x1007, 0x320F, 1, 1, 0x320B, 0x1000];
+    let image = file_of(rt.alloc(), order, 0x1000, &words, 0x1010)?;
+    File::create(rt, path)?.write_all(&image)?;
+    Ok(())
+}
+
+/// Asserts that a file holds the image without its dead object.
+fn assert_compacted<R: Abort + AllocGlobal + Files>(rt: &R, path: &str) -> Result<(), Fail> {
+    let words = [0x1007, 0x320B, 0x1000];
+    let wanted = file_of(rt.alloc(), Order::Little, 0x1000, &words, 0x1004)?;
+    let mut found = Vec::new(rt.alloc());
+    File::open(rt, path)?.read_to_end(&mut found)?;
+    assert_eq!(rt; found.as_slice(), wanted.as_slice());
+    Ok(())
+}
+
+#[test]
+fn compacts_into_another_file(rt: HostRuntime) -> Result<(), Fail> {
+    make_image(&rt, "whole.image", Order::Little)?;
+    let ended = run_program(&rt, &["whole.image", "compacted.image"])?;
+    assert_eq!(rt; ended.exit, 0);
+    assert!(rt; ended.out.contents().is_empty() && ended.err.contents().is_empty());
+    assert_compacted(&rt, "compacted.image")
+}
+
+#[test]
+fn compacts_in_place(rt: HostRuntime) -> Result<(), Fail> {
+    make_image(&rt, "both.image", Order::Little)?;
+    let ended = run_program(&rt, &["both.image", "both.image"])?;
+    assert_eq!(rt; ended.exit, 0);
+    assert_compacted(&rt, "both.image")
+}
+
+#[test]
+fn refuses_and_makes_nothing(rt: HostRuntime) -> Result<(), Fail> {
+    make_image(&rt, "big.image", Order::Big)?;
+    assert_faults(
+        &rt,
+        &["big.image", "none.image"],
+        1,
+        "fault 22: not yet supported\n",
+    )?;
+    assert!(rt; File::open(&rt, "none.image").is_err());
+    Ok(())
+}
+
+#[test]
+fn reports_a_missing_input(rt: HostRuntime) -> Result<(), Fail> {
+    assert_faults(
+        &rt,
+        &["missing.image", "never.image"],
+        3,
+        "fault 16: cannot read the image\n",
+    )?;
+    assert!(rt; File::open(&rt, "never.image").is_err());
+    Ok(())
+}
+
+#[test]
+fn reports_an_output_that_cannot_be_made(rt: HostRuntime) -> Result<(), Fail> {
+    make_image(&rt, "sound.image", Order::Little)?;
+    assert_faults(
+        &rt,
+        &["sound.image", "missing/out.image"],
+        3,
+        "fault 17: cannot write the output\n",
+    )
+}
+
+#[test]
+fn wants_an_output(rt: HostRuntime) -> Result<(), Fail> {
+    let ended = run_program(&rt, &["whole.image"])?;
+    assert_eq!(rt; ended.exit, 2);
+    assert!(rt; ended.out.contents().is_empty() && !ended.err.contents().is_empty());
+    Ok(())
+}
+
+#[test]
+fn helps(rt: HostRuntime) -> Result<(), Fail> {
+    let ended = run_program(&rt, &["--help"])?;
+    assert_eq!(rt; ended.exit, 0);
+    assert!(rt; !ended.out.contents().is_empty() && ended.err.contents().is_empty());
+    Ok(())
+}

@@ -1,0 +1,89 @@
+//! The program.
+
+ghost use Rattle.std.specs.Prelude.{◌≡◌, ◌≢◌, ◌<◌, ◌≤◌, [], map, string_bytes};
+ghost use Rattle.clap.specs.Words.{fault_of, kind_of};
+ghost use Rattle.sqz_tool.specs.CommandLine.{command_line};
+ghost use Rattle.sqz_tool.specs.Exits.{IsExitBy, exit_of, exit_of_kind};
+
+use crate::arguments::{Arguments, read_arguments};
+use crate::exits::{BAD_ARGUMENTS, DONE, exit_of};
+use crate::output_file::OutputFile;
+use crate::printing::print;
+use crate::running::run;
+use crate::summary::Summary;
+use clap::Error;
+use clap::error::ErrorKind;
+use sqz_image::{Fault, ReadSource, Sink};
+use std::alloc::Global;
+use std::fs::File;
+use std::rt::Files;
+
+/// Does all that the command line asks for, and answers what the program is to end with: 0 where the
+/// image was written, 1 where the image is at fault, 2 where the words are, 3 where a file could not
+/// be read or written, and 4 where memory was refused. The first word is the program's name; `out`
+/// and `err` stand for standard output and standard error.
+///
+/// A file is made, or emptied, only when the first bytes of the answer are there. A fault is printed
+/// as one line on `err`, and the help on `out`. Where one of the two fails, the answer is the same.
+pub fn program<T: Files, C: Sink, E: Sink>(
+    rt: &T,
+    alloc: Global,
+    words: &[String],
+    out: &mut C,
+    err: &mut E,
+) -> u8
+    ensures exits { result ≤ 4 }
+    ensures refused { let kinds = fault_of command_line (map string_bytes words.now) in
+        kinds ≢ [] → IsExitBy kinds result }
+    ensures silent { result ≡ 0 → err.new ≡ err.old }
+    ensures quiet { 0 < result → out.new ≡ out.old }
+{
+    match read_arguments(alloc, words) {
+        Ok(arguments) => match compact(rt, alloc, arguments) {
+            Ok(_) => DONE,
+            Err(fault) => refuse(&fault, err),
+        },
+        Err(error) => explain(&error, out, err),
+    }
+}
+
+/// Compacts the image in one file into another.
+///
+/// Fails as `run` does, with `ReadFailed` also where the image cannot be opened, and with
+/// `WriteFailed` also where the other file cannot be made. Unless it fails with `WriteFailed`, that
+/// file is then as it was.
+fn compact<T: Files>(rt: &T, alloc: Global, arguments: Arguments<'_>) -> Result<Summary, Fault> {
+    let Ok(file) = File::open(rt, arguments.input) else {
+        return Err(Fault::ReadFailed);
+    };
+    let mut source = ReadSource::new(file);
+    let mut sink = OutputFile::new(rt, arguments.output);
+    run(rt, alloc, &mut source, &mut sink)
+}
+
+/// Prints the line of a fault, and answers what the program is to end with.
+pub fn refuse<E: Sink>(fault: &Fault, err: &mut E) -> u8
+    ensures { result ≡ exit_of fault.now }
+{
+    print(err, format_args!("fault {}: {fault}\n", fault.number()));
+    exit_of(fault)
+}
+
+/// Prints what is said in place of arguments, and answers what the program is to end with.
+fn explain<C: Sink, E: Sink>(error: &Error, out: &mut C, err: &mut E) -> u8
+    ensures exit { result ≡ exit_of_kind (kind_of error.now) }
+    ensures silent { result ≡ 0 → err.new ≡ err.old }
+    ensures quiet { 0 < result → out.new ≡ out.old }
+{
+    match error.kind() {
+        ErrorKind::OutOfMemory => refuse(&Fault::OutOfMemory, err),
+        ErrorKind::DisplayHelp | ErrorKind::DisplayVersion => {
+            print(out, error);
+            DONE
+        }
+        _ => {
+            print(err, error);
+            BAD_ARGUMENTS
+        }
+    }
+}

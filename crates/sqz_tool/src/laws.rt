@@ -1,0 +1,17 @@
+//! Laws about the definitions, each the contract of a function that does nothing.
+
+ghost use Rattle.std.specs.Prelude.{◌≡◌, ℕ, List, Bool};
+ghost use Rattle.sqz_image.specs.Objects.{SavedImage};
+ghost use Rattle.sqz_image.specs.Plain.{IsPlain};
+ghost use Rattle.sqz_tool.specs.Verdict.{IsAccepted};
+ghost use Rattle.sqz_tool.specs.Headline.{IsNotYet};
+
+/// A file is accepted with one image and one set of live objects at most, so it has one compaction.
+pub fn one_answer()
+    ensures { (file : List ℕ) (one other : SavedImage) (marks flags : List Bool) → IsAccepted file one marks → IsAccepted file other flags → (one ≡ other) × (marks ≡ flags) }
+{}
+
+/// No file with a compaction is one that is not yet supported.
+pub fn answered_or_not_yet()
+    ensures { (file : List ℕ) (image : SavedImage) (marks : List Bool) → IsAccepted file image marks → IsPlain file image → IsNotYet file → ⊥ }
+{}
