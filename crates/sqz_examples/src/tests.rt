@@ -2,6 +2,7 @@
 
 mod answers;
 mod devices;
+mod fault_lines;
 mod files;
 mod program;
 mod unsupported;

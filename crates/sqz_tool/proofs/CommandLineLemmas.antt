@@ -1,6 +1,6 @@
 -- What holds of a command with two words that have to be there.
-use Rattle.std.proofs.Common.{◌≡◌, ◌<◌, ◌∙◌, ap, refl, sym, arith, inl, inr, ℕ, zero, suc, true, false, List, [], ◌∷◌, length, slice_index, codes, is_some}
-use Rattle.std.specs.List.{slice_index_or, All}
+use Rattle.std.proofs.Common.{◌≡◌, ◌<◌, ◌∙◌, ap, refl, sym, arith, inl, inr, zero, suc, true, false, List, [], ◌∷◌, slice_index, codes, is_some}
+use Rattle.std.specs.List.{All}
 use Rattle.std.specs.Str.{bytes_eq}
 use Rattle.std.proofs.lemmas.Slice.Eq.{bytes_eq-Decides}
 use Rattle.clap.specs.Words.{AddsArg, App, HasMatchesOf, IsParsedFrom, Text, app_of, args_of, fault_of, first_of, first_value, found_of, groups_of, is_simple, is_simple_and_free, matches_of}

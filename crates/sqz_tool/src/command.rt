@@ -1,6 +1,6 @@
 //! The program.
 
-ghost use Rattle.std.specs.Prelude.{◌≡◌, ◌≢◌, ◌<◌, ◌≤◌, [], map, string_bytes};
+ghost use Rattle.std.specs.Prelude.{◌≡◌, ◌≢◌, ◌<◌, ◌≤◌, [], map, string_bytes, IsOk, MatchResult};
 ghost use Rattle.clap.specs.Words.{fault_of, kind_of};
 ghost use Rattle.sqz_tool.specs.CommandLine.{command_line};
 ghost use Rattle.sqz_tool.specs.Exits.{IsExitBy, exit_of, exit_of_kind};
@@ -35,14 +35,12 @@ pub fn program<T: Files, C: Sink, E: Sink>(
     ensures exits { result ≤ 4 }
     ensures refused { let kinds = fault_of command_line (map string_bytes words.now) in
         kinds ≢ [] → IsExitBy kinds result }
+    ensures taken { fault_of command_line (map string_bytes words.now) ≡ [] → out.new ≡ out.old }
     ensures silent { result ≡ 0 → err.new ≡ err.old }
     ensures quiet { 0 < result → out.new ≡ out.old }
 {
     match read_arguments(alloc, words) {
-        Ok(arguments) => match compact(rt, alloc, arguments) {
-            Ok(_) => DONE,
-            Err(fault) => refuse(&fault, err),
-        },
+        Ok(arguments) => finish(compact(rt, alloc, arguments), err),
         Err(error) => explain(&error, out, err),
     }
 }
@@ -59,6 +57,18 @@ fn compact<T: Files>(rt: &T, alloc: Global, arguments: Arguments<'_>) -> Result<
     let mut source = ReadSource::new(file);
     let mut sink = OutputFile::new(rt, arguments.output);
     run(rt, alloc, &mut source, &mut sink)
+}
+
+/// Prints the line of the fault that stopped a run, if one did, and answers what the program is to end
+/// with.
+fn finish<E: Sink>(outcome: Result<Summary, Fault>, err: &mut E) -> u8
+    ensures exit { MatchResult outcome (λ _. result ≡ 0) (λ fault. result ≡ exit_of fault) }
+    ensures silent { IsOk outcome → err.new ≡ err.old }
+{
+    match outcome {
+        Ok(_) => DONE,
+        Err(fault) => refuse(&fault, err),
+    }
 }
 
 /// Prints the line of a fault, and answers what the program is to end with.

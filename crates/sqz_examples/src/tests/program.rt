@@ -117,10 +117,19 @@ fn reports_an_output_that_cannot_be_made(rt: HostRuntime) -> Result<(), Fail> {
 }
 
 #[test]
-fn wants_an_output(rt: HostRuntime) -> Result<(), Fail> {
-    let ended = run_program(&rt, &["whole.image"])?;
-    assert_eq!(rt; ended.exit, 2);
-    assert!(rt; ended.out.contents().is_empty() && !ended.err.contents().is_empty());
+fn wants_two_paths(rt: HostRuntime) -> Result<(), Fail> {
+    let some: [&[&str]; 4] = [
+        &[],
+        &["whole.image"],
+        &["whole.image", "never.image", "more"],
+        &["--other", "whole.image", "never.image"],
+    ];
+    for words in some {
+        let ended = run_program(&rt, words)?;
+        assert_eq!(rt; ended.exit, 2, "at {words:?}");
+        assert!(rt; ended.out.contents().is_empty(), "at {words:?}");
+        assert!(rt; !ended.err.contents().is_empty(), "at {words:?}");
+    }
     Ok(())
 }
 
