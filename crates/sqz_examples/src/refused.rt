@@ -2,7 +2,8 @@
 //!
 //! An image is given as in [`crate::compacted`].
 
-ghost use Rattle.std.specs.Prelude.{[], ◌∷◌, take, slice_set};
+ghost use Rattle.std.specs.Prelude.{[], ◌∷◌, ◌++◌, take, slice_set};
+ghost use Rattle.std.specs.List.{repeat};
 ghost use Rattle.sqz_object.specs.declared.order.Order.TheVariants.{Little};
 ghost use Rattle.sqz_object.specs.Bytes.{spelling_of};
 ghost use Rattle.sqz_image.specs.declared.fault.Fault.TheVariants.{TooShort, BadVersion, BadHeaderSize, BadDataSize, BadBase, Truncated, ZeroSize, HeaderMismatch, Overrun, BadSpecialObjects, NoClass, BadMethod, BadContext, BadPointer};
@@ -54,6 +55,43 @@ pub fn cut_in_data()
     ensures { IsRefused
         (take 87 (file_of Little (0x1007 ∷ 0x320F ∷ 1 ∷ 1 ∷ 0x320B ∷ 0x1000 ∷ []) 0x1010))
         Truncated }
+{}
+
+/// A file that ends within its header is too short, whatever its version.
+pub fn short_of_another_version()
+    ensures { let words = words_at 0x1000 (0x1007 ∷ 0x320F ∷ 1 ∷ 1 ∷ 0x320B ∷ 0x1000 ∷ []) 0x1010 in
+        IsRefused (take 63 (spelling_of Little (slice_set words 0 6504))) TooShort }
+{}
+
+/// Of two faults the version is the first.
+pub fn other_version_and_header_size()
+    ensures { let words = words_at 0x1000 (0x1007 ∷ 0x320F ∷ 1 ∷ 1 ∷ 0x320B ∷ 0x1000 ∷ []) 0x1010 in
+        IsRefused (spelling_of Little (slice_set (slice_set words 0 6504) 1 68)) BadVersion }
+{}
+
+/// The size of the header comes before that of the data.
+pub fn other_header_size_and_uneven_data_size()
+    ensures { let words = words_at 0x1000 (0x1007 ∷ 0x320F ∷ 1 ∷ 1 ∷ 0x320B ∷ 0x1000 ∷ []) 0x1010 in
+        IsRefused (spelling_of Little (slice_set (slice_set words 1 68) 2 22)) BadHeaderSize }
+{}
+
+/// The size of the data comes before their address.
+pub fn uneven_data_size_and_base()
+    ensures { let words = words_at 0x1000 (0x1007 ∷ 0x320F ∷ 1 ∷ 1 ∷ 0x320B ∷ 0x1000 ∷ []) 0x1010 in
+        IsRefused (spelling_of Little (slice_set (slice_set words 2 22) 3 0x1002)) BadDataSize }
+{}
+
+/// The address of the data comes before their end.
+pub fn uneven_base_of_truncated_data()
+    ensures { let words = words_at 0x1000 (0x1007 ∷ 0x320F ∷ 1 ∷ 1 ∷ 0x320B ∷ 0x1000 ∷ []) 0x1010 in
+        IsRefused (take 87 (spelling_of Little (slice_set words 3 0x1002))) BadBase }
+{}
+
+/// The header is at the front of the file, and nowhere else.
+pub fn behind_512_bytes()
+    ensures { IsRefused
+        (repeat 512 (0x23 ∷ []) ++ file_of Little (0x1007 ∷ 0x320F ∷ 1 ∷ 1 ∷ 0x320B ∷ 0x1000 ∷ []) 0x1010)
+        BadVersion }
 {}
 
 /// A chunk that states no words is not read.

@@ -4,5 +4,6 @@ mod answers;
 mod devices;
 mod fault_lines;
 mod files;
+mod headers;
 mod program;
 mod unsupported;

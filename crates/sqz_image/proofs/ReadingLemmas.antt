@@ -1,18 +1,18 @@
 -- From a file to its image and back.
-use Rattle.std.proofs.Common.{◌≡◌, ℕ, ◌+◌, ◌*◌, ◌%◌, ◌^◌, ◌<◌, ◌≤◌, Bool, true, false, not, ◌||◌, cond, eqb, ltb, List, length, take, drop, slice_index, Option, Some, None, refl, sym, ap, subst, ◌∙◌, arith, inl, inr}
+use Rattle.std.proofs.Common.{◌≡◌, ℕ, ◌+◌, ◌*◌, ◌/◌, ◌%◌, ◌^◌, ◌<◌, ◌≤◌, Bool, true, false, not, ◌||◌, cond, eqb, ltb, List, length, take, drop, slice_index, Option, Some, None, refl, sym, ap, subst, ◌∙◌, arith, inl, inr}
 use Rattle.std.proofs.lemmas.Bool.{eqb-true, ltb-false, cases_lt}
-use Rattle.std.proofs.lemmas.List.{take_all, length-drop, length-take, get_or-take, get_or_past}
+use Rattle.std.proofs.lemmas.List.{length-drop, length-take, get_or-take, get_or_past}
 use Rattle.sqz_object.specs.declared.order.Order.{Order}
-use Rattle.sqz_object.specs.declared.order.Order.TheVariants.{Little, Big}
 use Rattle.sqz_object.specs.Bytes.{words_of}
 use Rattle.sqz_object.specs.Partition.{IsPartition}
 use Rattle.sqz_object.proofs.WordLemmas.{length-words_of, words_of-lt}
 use Rattle.sqz_image.specs.declared.fault.Fault.{Fault}
-use Rattle.sqz_image.specs.declared.fault.Fault.TheVariants.{TooShort, BadHeaderSize, BadDataSize, BadBase, Truncated}
+use Rattle.sqz_image.specs.declared.fault.Fault.TheVariants.{TooShort, BadVersion, BadHeaderSize, BadDataSize, BadBase, Truncated}
 use Rattle.sqz_image.specs.File.{header_size, order_of, header_of, stated_header_size, data_size, base_address, special_address, data_of}
-use Rattle.sqz_image.specs.Objects.{Memory, SavedImage}
+use Rattle.sqz_image.specs.Objects.{SavedImage}
 use Rattle.sqz_image.specs.Refusals.{header_fault, fault_in_order, file_fault}
-use Rattle.sqz_image.specs.Plain.{HoldsPlain, HasPlainHeader}
+use Rattle.sqz_image.specs.Numbers.{number_of_fault}
+use Rattle.sqz_image.specs.Plain.{HoldsPlain}
 use Rattle.sqz_image.specs.Memory.{IsPlainMemory}
 
 none_is_some : {A : Type 0} (x : A) → Some x ≡ None → ⊥
@@ -81,79 +81,104 @@ front_fits file count bytes i =
       | inr past ↦ rw (get_or_past (take count file) i 0 (omega (arith, length-take count file))) (omega arith)
     ]
 
--- what the numbers of a plain header allow
+some_is : {A : Type 0} {x y : A} → Some x ≡ Some y → x ≡ y
+some_is e = cc
+
+-- what the numbers of a sound header allow
 pub record HasBounds (words : List ℕ) (base : ℕ) : Type 0 where
   pub few : length words < 2 ^ 30
   pub within : base + 4 * length words ≤ 2 ^ 32
   pub aligned : base % 4 ≡ 0
 
-pub plain_bounds : (file header : List ℕ) → ((i : ℕ) → slice_index file i < 256) → HasPlainHeader file header → HasBounds (words_of Little (drop header_size file)) (slice_index header 3)
-plain_bounds file header bytes plain =
-    let fits : data_size header < 2 ^ 32 = rw plain.words (words_of-lt Little (take header_size file) (front_fits file header_size bytes) 2) in
-    let sound : IsSoundHeader header (length file) = subst (λ (h : List ℕ). IsSoundHeader h (length file)) (sym plain.words) (sound_header file Little plain.sound plain.order) in
-    let words = length-words_of Little (drop header_size file) in
-    let rest = length-drop header_size file in
-    let ends = plain.ends in
-    record {
-      few = let m = sound.multiple in omega arith;
-      within = let m = sound.multiple in let w = sound.within in omega arith;
-      aligned = sound.aligned;
-    }
+module _ (file header : List ℕ) (order : Order) (sound : file_fault file ≡ None) (begins : order_of file ≡ Some order) (is_header : header ≡ header_of order file) where
+  sound_words : IsSoundHeader header (length file)
+  sound_words = subst (λ (h : List ℕ). IsSoundHeader h (length file)) (sym is_header) (sound_header file order sound begins)
 
--- the data of a file that ends with them
-data_is : (file header : List ℕ) → HasPlainHeader file header → data_of Little file ≡ words_of Little (drop header_size file)
-data_is file header plain =
-    let ends : length file ≡ header_size + data_size (header_of Little file) = plain.ends ∙ ap (λ (h : List ℕ). header_size + data_size h) plain.words in
-    ap (words_of Little) (take_all (data_size (header_of Little file)) (drop header_size file) (omega (arith, ends, length-drop header_size file)))
+  -- the data are all there
+  pub data_inside : header_size + data_size header ≤ length file
+  data_inside = sound_words.room
 
--- the image of a plain memory
-pub holds_plain : (file header : List ℕ) (memory : Memory) → HasPlainHeader file header → IsPlainMemory Little (slice_index header 3) (slice_index header 4) (words_of Little (drop header_size file)) memory → HoldsPlain file (record { header = header; memory = memory })
-holds_plain file header memory plain is =
-    let order_is = is.in_order in
-    record {
-      holds = record {
-        parts = record {
-          sound = plain.sound;
-          order = plain.order ∙ ap (λ (o : Order). Some o) (sym order_is);
-          header = plain.words ∙ ap (λ (o : Order). header_of o file) (sym order_is);
-          base = is.begins;
-          special = is.special_address;
-          chunks = subst (λ (w : List ℕ). IsPartition w memory.chunks) (sym (data_is file header plain) ∙ ap (λ (o : Order). data_of o file) (sym order_is)) is.parts.partition;
+  -- the words that the header's number of bytes spell
+  pub data_is : words_of order (take (data_size header) (drop header_size file)) ≡ data_of order file
+  data_is = ap (λ (h : List ℕ). words_of order (take (data_size h) (drop header_size file))) is_header
+
+  pub data_bounds : ((i : ℕ) → slice_index file i < 256) → HasBounds (data_of order file) (base_address header)
+  data_bounds bytes =
+      let fits : data_size header < 2 ^ 32 = rw is_header (words_of-lt order (take header_size file) (front_fits file header_size bytes) 2) in
+      let bytes_of_data = take (data_size header) (drop header_size file) in
+      let size : length bytes_of_data ≡ data_size header = length-take (data_size header) (drop header_size file) ∙ (omega (arith, length-drop header_size file, data_inside)) in
+      let words : length (data_of order file) ≡ data_size header / 4 = ap length (sym data_is) ∙ length-words_of order bytes_of_data ∙ ap (λ (n : ℕ). n / 4) size in
+      let m = sound_words.multiple in
+      let w = sound_words.within in
+      record {
+        few = omega arith;
+        within = omega arith;
+        aligned = sound_words.aligned;
+      }
+
+  -- the image of a plain memory
+  pub holds_plain : (image : SavedImage) → image.header ≡ header → IsPlainMemory order (base_address header) (special_address header) (data_of order file) image.memory → HoldsPlain file image
+  holds_plain image same is =
+      let order_is = is.in_order in
+      record {
+        holds = record {
+          parts = record {
+            sound = sound;
+            order = begins ∙ ap (λ (o : Order). Some o) (sym order_is);
+            header = same ∙ is_header ∙ ap (λ (o : Order). header_of o file) (sym order_is);
+            base = is.begins ∙ ap base_address (sym same);
+            special = is.special_address ∙ ap special_address (sym same);
+            chunks = subst (λ (w : List ℕ). IsPartition w image.memory.chunks) (ap (λ (o : Order). data_of o file) (sym order_is)) is.parts.partition;
+          };
+          special = is.found;
         };
-        special = is.found;
-      };
-      plain = record { order = order_is; ends = plain.ends; chunks = is.parts.plain };
-    }
+        plain = is.parts.plain;
+      }
 
--- the memory of a plain image
-pub plain_memory : (file header : List ℕ) (image : SavedImage) → HasPlainHeader file header → HoldsPlain file image → IsPlainMemory Little (slice_index header 3) (slice_index header 4) (words_of Little (drop header_size file)) image.memory
-plain_memory file header image plain is =
-    let order_is = is.plain.order in
-    let same : image.header ≡ header = is.holds.parts.header ∙ ap (λ (o : Order). header_of o file) order_is ∙ sym plain.words in
-    record {
-      in_order = order_is;
-      begins = is.holds.parts.base ∙ ap base_address same;
-      special_address = is.holds.parts.special ∙ ap special_address same;
-      parts = record {
-        partition = subst (λ (w : List ℕ). IsPartition w image.memory.chunks) (ap (λ (o : Order). data_of o file) order_is ∙ data_is file header plain) is.holds.parts.chunks;
-        plain = is.plain.chunks;
-      };
-      found = is.holds.special;
-    }
+  -- the memory of a plain image
+  pub plain_memory : (image : SavedImage) → HoldsPlain file image → IsPlainMemory order (base_address header) (special_address header) (data_of order file) image.memory
+  plain_memory image is =
+      let order_is : image.memory.order ≡ order = some_is (sym is.holds.parts.order ∙ begins) in
+      let same : image.header ≡ header = is.holds.parts.header ∙ ap (λ (o : Order). header_of o file) order_is ∙ sym is_header in
+      record {
+        in_order = order_is;
+        begins = is.holds.parts.base ∙ ap base_address same;
+        special_address = is.holds.parts.special ∙ ap special_address same;
+        parts = record {
+          partition = subst (λ (w : List ℕ). IsPartition w image.memory.chunks) (ap (λ (o : Order). data_of o file) order_is) is.holds.parts.chunks;
+          plain = is.plain;
+        };
+        found = is.holds.special;
+      }
 
--- ---- files that hold no plain image
+-- ---- the refusals 1 to 6 are these
 
-pub no_image_at_fault : (file : List ℕ) (fault : Fault) → file_fault file ≡ Some fault → (image : SavedImage) → HoldsPlain file image → ⊥
-no_image_at_fault file fault e image is = none_is_some fault (sym e ∙ is.holds.parts.sound)
+low : (one other : Fault) → number_of_fault one ≤ 6 → Some one ≡ Some other → number_of_fault other ≤ 6
+low one other le e = subst (λ (f : Fault). number_of_fault f ≤ 6) (some_is e) le
 
-some_is : {A : Type 0} {x y : A} → Some x ≡ Some y → x ≡ y
-some_is e = cc
+faults_low : (size multiple base room : Bool) (fault : Fault) → faults size multiple base room ≡ Some fault → number_of_fault fault ≤ 6
+unfolding faults
+faults_low false multiple base room fault e = low BadHeaderSize fault (omega arith) e
+faults_low true false base room fault e = low BadDataSize fault (omega arith) e
+faults_low true true true room fault e = low BadBase fault (omega arith) e
+faults_low true true false true fault e = low Truncated fault (omega arith) e
+faults_low true true false false fault e = absurd (none_is_some fault (sym e))
 
-pub no_image_big : (file : List ℕ) → order_of file ≡ Some Big → (image : SavedImage) → HoldsPlain file image → ⊥
-no_image_big file e image is =
-    let order : Big ≡ Little = some_is (sym e ∙ is.holds.parts.order) ∙ is.plain.order in cc
+header_fault_low : (header : List ℕ) (bytes : ℕ) (fault : Fault) → header_fault header bytes ≡ Some fault → number_of_fault fault ≤ 6
+unfolding faults
+header_fault_low header bytes fault e =
+    faults_low (eqb (stated_header_size header) header_size) (eqb (data_size header % 4) 0)
+    (not (eqb (base_address header % 4) 0) || ltb (2 ^ 32) (base_address header + data_size header))
+    (ltb bytes (header_size + data_size header)) fault e
 
-pub no_image_longer : (file header : List ℕ) → header ≡ header_of Little file → (length file ≡ header_size + data_size header → ⊥) → (image : SavedImage) → HoldsPlain file image → ⊥
-no_image_longer file header e other image is =
-    let same : image.header ≡ header = is.holds.parts.header ∙ ap (λ (o : Order). header_of o file) is.plain.order ∙ sym e in
-    other (is.plain.ends ∙ ap (λ (h : List ℕ). header_size + data_size h) same)
+in_order_low : (file : List ℕ) (found : Option Order) (fault : Fault) → fault_in_order found file ≡ Some fault → number_of_fault fault ≤ 6
+in_order_low file None fault e = low BadVersion fault (omega arith) e
+in_order_low file (Some order) fault e = header_fault_low (header_of order file) (length file) fault e
+
+short_low : (short : Bool) (rest : Option Fault) (fault : Fault) → ((f : Fault) → rest ≡ Some f → number_of_fault f ≤ 6) → cond short (Some TooShort) rest ≡ Some fault → number_of_fault fault ≤ 6
+short_low true rest fault le e = low TooShort fault (omega arith) e
+short_low false rest fault le e = le fault e
+
+pub file_fault_low : (file : List ℕ) (fault : Fault) → file_fault file ≡ Some fault → number_of_fault fault ≤ 6
+file_fault_low file fault e =
+    short_low (ltb (length file) header_size) (fault_in_order (order_of file) file) fault (in_order_low file (order_of file)) e

@@ -1,13 +1,11 @@
--- The images that this version reads: little-endian, nothing after the data, one word headers and
--- free chunks alone, and no weak object, method or context.
-use Rattle.std.specs.Prelude.{◌≡◌, ℕ, ◌+◌, ◌==◌, ◌||◌, ◌&&◌, not, nat_lt, Bool, true, false, List, [], ◌∷◌, length, Some, None}
+-- The images that this version reads: one word headers and free chunks alone, and no weak object,
+-- method or context.
+use Rattle.std.specs.Prelude.{◌≡◌, ℕ, ◌==◌, ◌||◌, ◌&&◌, not, nat_lt, Bool, true, false, List, [], ◌∷◌, None}
 use Rattle.std.specs.List.{AllByRecursion}
-use Rattle.sqz_object.specs.declared.order.Order.TheVariants.{Little}
 use Rattle.sqz_object.specs.declared.chunk.Kind.{Kind}
 use Rattle.sqz_object.specs.declared.chunk.Kind.TheVariants.{Free, Short}
 use Rattle.sqz_object.specs.declared.base.Base.{Base}
 use Rattle.sqz_object.specs.Chunk.{header_type, format, compact_index}
-use Rattle.sqz_image.specs.File.{header_size, data_size, order_of, header_of}
 use Rattle.sqz_image.specs.Objects.{SavedImage}
 use Rattle.sqz_image.specs.Refusals.{file_fault, Holds}
 
@@ -32,19 +30,16 @@ is_plain_header Free base = true
 is_plain_header Short base = is_plain_format base.format base.compact
 is_plain_header _ base = false
 
-pub record IsPlain (file : List ℕ) (image : SavedImage) : Type 0 where
-  pub order : image.memory.order ≡ Little
-  pub ends : length file ≡ header_size + data_size image.header
-  pub chunks : AllByRecursion (λ chunk. is_plain_chunk chunk ≡ true) image.memory.chunks
+-- each chunk of the image is plain
+abbrev pub IsPlain : SavedImage → Type 0
+IsPlain image = AllByRecursion (λ chunk. is_plain_chunk chunk ≡ true) image.memory.chunks
 
 -- the file holds a plain image
 pub record HoldsPlain (file : List ℕ) (image : SavedImage) : Type 0 where
   pub holds : Holds file image
-  pub plain : IsPlain file image
+  pub plain : IsPlain image
 
--- the file has a sound header in little-endian order, these words, and ends with the data
-pub record HasPlainHeader (file header : List ℕ) : Type 0 where
+-- the file's header is sound, but it holds no plain image
+pub record LacksPlainImage (file : List ℕ) : Type 0 where
   pub sound : file_fault file ≡ None
-  pub order : order_of file ≡ Some Little
-  pub words : header ≡ header_of Little file
-  pub ends : length file ≡ header_size + data_size header
+  pub none : (image : SavedImage) → HoldsPlain file image → ⊥

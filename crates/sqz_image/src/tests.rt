@@ -1,3 +1,5 @@
+//! Devices whole and failing, and words in either byte order.
+
 use super::*;
 use crate::write_words::write_words;
 use sqz_object::Order;

@@ -1,16 +1,15 @@
 -- Seeking a defect, slot by slot and object by object.
-use Rattle.std.proofs.Common.{◌≡◌, ℕ, zero, suc, ◌+◌, ◌<◌, ◌≤◌, Bool, true, false, cond, eqb, ◌&&◌, List, [], ◌∷◌, ◌++◌, map, length, get_or, take, drop, slice_index, Option, Some, None, refl, sym, ap, subst, ◌∙◌, arith, add-one, is_some}
-use Rattle.std.proofs.lemmas.Bool.{cases_Bool}
+use Rattle.std.proofs.Common.{◌≡◌, ℕ, ◌+◌, ◌<◌, ◌≤◌, Bool, true, false, cond, eqb, List, [], ◌∷◌, map, length, get_or, take, drop, slice_index, Option, Some, None, refl, sym, ap, ◌∙◌, add-one, is_some}
 use Rattle.std.proofs.lemmas.List.{drop_more, drop_all}
 use Rattle.sqz_object.specs.Value.{value_of}
-use Rattle.sqz_object.specs.Chunk.{header_type, compact_index, fields}
+use Rattle.sqz_object.specs.Chunk.{compact_index, fields}
 use Rattle.sqz_image.specs.declared.fault.Fault.{Fault}
 use Rattle.sqz_image.specs.declared.fault.Slot.{Slot}
-use Rattle.sqz_image.specs.Objects.{Memory, Object, objects, object_count, object_at, chunk_at, address_in}
+use Rattle.sqz_image.specs.Objects.{Memory, Object, objects, object_count, object_at, address_in}
 use Rattle.sqz_trace.specs.Slots.{SlotWord, traced, field_slots, slots}
 use Rattle.sqz_trace.specs.Live.{marked}
 use Rattle.sqz_trace.specs.Defects.{is_bad_value, bad_slot, bad_pointer, lacks_class, is_bad_method, is_bad_context, defect, first_some, first_defect}
-use Rattle.sqz_trace.proofs.SlotLemmas.{IsPlainObject, slots_plain, traced_inside}
+use Rattle.sqz_trace.proofs.SlotLemmas.{IsPlainObject, slots_plain}
 
 -- ---- the slots of one object
 

@@ -1,8 +1,8 @@
 -- What is known of the objects of a heap whose chunks are plain.
-use Rattle.std.proofs.Common.{◌≡◌, ℕ, ◌<◌, List, [], ◌∷◌, length, true}
+use Rattle.std.proofs.Common.{◌≡◌, ℕ, ◌<◌, [], true}
 use Rattle.std.specs.List.{AllByRecursion}
 use Rattle.sqz_object.specs.Chunk.{is_object}
-use Rattle.sqz_image.specs.Objects.{Memory, Object, objects, object_count, object_at, chunk_at}
+use Rattle.sqz_image.specs.Objects.{Memory, Object, objects, object_count, chunk_at}
 use Rattle.sqz_image.specs.Plain.{is_plain_chunk}
 use Rattle.sqz_image.proofs.ObjectLemmas.{All_at, objects_are_objects, objects_keep}
 use Rattle.sqz_trace.proofs.SlotLemmas.{IsPlainObject, plain_object}

@@ -1,13 +1,12 @@
 -- Marking with a worklist: what holds between two steps of it, and what that shows at its end.
-use Rattle.std.proofs.Common.{◌≡◌, ◌≢◌, ℕ, zero, suc, ◌+◌, ◌-◌, ◌<◌, ◌≤◌, ◌⊎◌, Bool, true, false, not, cond, List, [], ◌∷◌, ◌++◌, length, get_or, set, take, drop, slice_index, Option, Some, None, refl, sym, ap, subst, ◌∙◌, arith, inl, inr}
+use Rattle.std.proofs.Common.{◌≡◌, ℕ, zero, suc, ◌+◌, ◌<◌, ◌⊎◌, Bool, true, false, List, [], ◌∷◌, ◌++◌, length, set, take, drop, slice_index, Some, None, refl, sym, ap, subst, ◌∙◌, arith, inl, inr}
 use Rattle.std.specs.Prelude.{replicate}
-use Rattle.std.proofs.lemmas.Bool.{cases_Bool, cases_lt, false≢true}
-use Rattle.std.proofs.lemmas.List.{length-set, length-append, length-replicate, get_or-set_same, get_or-set_other, take_at}
+use Rattle.std.proofs.lemmas.Bool.{cases_lt}
+use Rattle.std.proofs.lemmas.List.{length-set, length-append, length-replicate, get_or-set_same, take_at}
 use Rattle.sqz_image.specs.Objects.{Memory, object_count, chunk_at, find}
 use Rattle.sqz_trace.specs.Slots.{slot_words}
 use Rattle.sqz_trace.specs.Edges.{named_by, HasEdge}
 use Rattle.sqz_trace.specs.Reachability.{is_marked, Leads, IsReachable, IsReachability}
-use Rattle.sqz_trace.proofs.EdgeLemmas.{named_by-lt}
 use Rattle.sqz_trace.proofs.ReachabilityLemmas.{IsReachability-from_tracing}
 use Rattle.sqz_tool.specs.Marking.{IsIn, unmarked, MarksSlots}
 

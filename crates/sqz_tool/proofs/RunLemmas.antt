@@ -1,18 +1,19 @@
 -- From the parts of a run to what it did.
-use Rattle.std.proofs.Common.{◌≡◌, ℕ, ◌+◌, ◌*◌, ◌^◌, ◌<◌, ◌≤◌, ◌⊎◌, Bool, true, false, List, [], ◌∷◌, ◌++◌, map, length, slice_index, Option, Some, None, Result, Ok, Err, refl, sym, ap, subst, ◌∙◌, arith, inl, inr, is_some, is_none}
+use Rattle.std.proofs.Common.{◌≡◌, ℕ, ◌*◌, ◌^◌, ◌<◌, ◌≤◌, ◌⊎◌, Bool, true, false, List, [], ◌∷◌, ◌++◌, length, Option, Some, None, refl, sym, ap, subst, ◌∙◌, arith, inl, inr, is_some}
 use Rattle.std.specs.List.{concat, AllByRecursion}
-use Rattle.std.specs.Io.KnownBytes.{Consumes}
 use Rattle.std.proofs.lemmas.List.{append-nil}
 use Rattle.sqz_object.specs.Chunk.{IsChunk}
 use Rattle.sqz_object.specs.Bytes.{spelling_of}
 use Rattle.sqz_image.specs.declared.fault.Fault.{Fault}
 use Rattle.sqz_image.specs.declared.fault.Fault.TheVariants.{OutOfMemory, ReadFailed, WriteFailed, NotYet}
-use Rattle.sqz_image.specs.File.{data_size, renewed, file_with}
-use Rattle.sqz_image.specs.Objects.{Memory, SavedImage, object_count, find}
-use Rattle.sqz_image.specs.Plain.{IsPlain, HoldsPlain}
+use Rattle.sqz_image.specs.File.{renewed, file_with}
+use Rattle.sqz_image.specs.Objects.{Memory, SavedImage, find}
+use Rattle.sqz_image.specs.Numbers.{number_of_fault}
+use Rattle.sqz_image.specs.Refusals.{file_fault}
+use Rattle.sqz_image.specs.Plain.{HoldsPlain, LacksPlainImage}
 use Rattle.sqz_image.specs.Devices.{SourceState, SinkState, ReadsWhole, ReadStops, WritesWhole, WriteStops}
+use Rattle.sqz_image.proofs.ReadingLemmas.{file_fault_low}
 use Rattle.sqz_trace.specs.Reachability.{IsReachability}
-use Rattle.sqz_trace.specs.Live.{live}
 use Rattle.sqz_trace.specs.Defects.{first_defect}
 use Rattle.sqz_regions.specs.Places.{place, live_words}
 use Rattle.sqz_slide.specs.Moved.{place_or, moved_objects}
@@ -20,7 +21,7 @@ use Rattle.sqz_slide.proofs.LengthLemmas.{length-moved_objects}
 use Rattle.sqz_tool.specs.declared.summary.Summary.{Summary}
 use Rattle.sqz_tool.specs.Compacted.{new_special, compacted_header, compacted_data, compacted}
 use Rattle.sqz_tool.specs.Verdict.{IsAccepted}
-use Rattle.sqz_tool.specs.Headline.{summary_of, IsCompaction, HasDefectIn, Compacts, HasPlainDefect, IsNotYet, IsUnsupported, IsOutOfMemory, StopsReading, StopsWriting, Refuses}
+use Rattle.sqz_tool.specs.Headline.{IsCompaction, HasDefectIn, Compacts, RefusesFile, Refuses}
 
 none_from_not_some : {A : Type 0} (found : Option A) → is_some found ≡ false → found ≡ None
 none_from_not_some None e = refl
@@ -70,9 +71,24 @@ pub refuses_memory : (from to : SourceState) (old new : SinkState) (fault : Faul
 refuses_memory from to old new fault file untouched read memory =
     subst (Refuses from to old new) (sym memory) (record { front = file; taken = read.bytes; untouched = untouched })
 
-pub refuses_unreadable : (from to : SourceState) (old new : SinkState) (file : List ℕ) → new ≡ old → ReadsWhole from to file → ((image : SavedImage) → HoldsPlain file image → ⊥) → Refuses from to old new NotYet
-refuses_unreadable from to old new file untouched read none =
-    record { file = file; read = read; not_yet = inl none; untouched = untouched }
+pub refuses_unreadable : (from to : SourceState) (old new : SinkState) (file : List ℕ) → new ≡ old → ReadsWhole from to file → LacksPlainImage file → Refuses from to old new NotYet
+refuses_unreadable from to old new file untouched read lacks =
+    record { file = file; read = read; not_yet = inl lacks; untouched = untouched }
+
+-- a refusal of a file is none of memory, of a device, or of what is not yet supported
+low_refuses : (from to : SourceState) (old new : SinkState) (fault : Fault) → number_of_fault fault ≤ 6 → RefusesFile from to old new fault → Refuses from to old new fault
+low_refuses from to old new NotYet le r = absurd (omega (arith, le))
+low_refuses from to old new OutOfMemory le r = absurd (omega (arith, le))
+low_refuses from to old new ReadFailed le r = absurd (omega (arith, le))
+low_refuses from to old new WriteFailed le r = absurd (omega (arith, le))
+low_refuses from to old new _ le r = r
+
+pub refuses_file : (from to : SourceState) (old new : SinkState) (fault : Fault) (file : List ℕ) → new ≡ old → ReadsWhole from to file → (fault ≡ OutOfMemory) ⊎ (file_fault file ≡ Some fault) → Refuses from to old new fault
+refuses_file from to old new fault file untouched read why =
+    elim why [
+      | inl memory ↦ refuses_memory from to old new fault file untouched read memory
+      | inr refused ↦ low_refuses from to old new fault (file_fault_low file fault refused) (record { file = file; read = read; refused = refused; untouched = untouched })
+    ]
 
 pub refuses_image : (from to : SourceState) (old new : SinkState) (fault : Fault) (file : List ℕ) (image : SavedImage) → new ≡ old → ReadsWhole from to file → HoldsPlain file image → (fault ≡ OutOfMemory) ⊎ ((fault ≡ NotYet) × HasDefectIn image) → Refuses from to old new fault
 refuses_image from to old new fault file image untouched read holds why =

@@ -1,7 +1,8 @@
--- A file has one compaction at most, or is not supported, and never both.
-use Rattle.std.proofs.Common.{◌≡◌, ℕ, List, Bool, Some, None, refl, sym, ap, subst, ◌∙◌, inl, inr}
+-- A file has one compaction, one refusal or no support, and never two of these.
+use Rattle.std.proofs.Common.{◌≡◌, ℕ, List, Bool, Some, None, sym, ap, subst, ◌∙◌, inl, inr}
 use Rattle.sqz_image.specs.declared.fault.Fault.{Fault}
 use Rattle.sqz_image.specs.Objects.{SavedImage}
+use Rattle.sqz_image.specs.Refusals.{file_fault}
 use Rattle.sqz_image.specs.Plain.{IsPlain}
 use Rattle.sqz_image.proofs.HoldsLemmas.{Holds-unique}
 use Rattle.sqz_trace.specs.Reachability.{IsReachability}
@@ -18,12 +19,23 @@ IsAccepted-unique file one other marks flags p q =
 none_is_some : (fault : Fault) → None ≡ Some fault → ⊥
 none_is_some fault e = cc
 
+-- the refusal of a file with a sound header
+no_refusal : (file : List ℕ) (fault : Fault) → file_fault file ≡ None → file_fault file ≡ Some fault → ⊥
+no_refusal file fault sound refused = none_is_some fault (sym sound ∙ refused)
+
+pub refused-not_accepted : (file : List ℕ) (fault : Fault) → file_fault file ≡ Some fault → (image : SavedImage) (marks : List Bool) → IsAccepted file image marks → ⊥
+refused-not_accepted file fault refused image marks p = no_refusal file fault p.holds.parts.sound refused
+
+pub refused-supported : (file : List ℕ) (fault : Fault) → file_fault file ≡ Some fault → IsNotYet file → ⊥
+refused-supported file fault refused (inl lacks) = no_refusal file fault lacks.sound refused
+refused-supported file fault refused (inr defect) = no_refusal file fault defect.holds.holds.parts.sound refused
+
 no_defect_too : (file : List ℕ) (image : SavedImage) (marks : List Bool) → IsAccepted file image marks → HasPlainDefect file → ⊥
 no_defect_too file image marks p d =
     let same = Holds-unique file image d.image p.holds d.holds.holds in
     let marks_same = IsReachability-unique d.image.memory marks d.defect.marks (subst (λ (i : SavedImage). IsReachability i.memory marks) same p.reachable) d.defect.reachable in
     none_is_some d.defect.fault (sym p.sound ∙ ap (λ (i : SavedImage). first_defect i.memory marks) same ∙ ap (first_defect d.image.memory) marks_same ∙ d.defect.defect)
 
-pub IsAccepted-supported : (file : List ℕ) (image : SavedImage) (marks : List Bool) → IsAccepted file image marks → IsPlain file image → IsNotYet file → ⊥
-IsAccepted-supported file image marks p plain (inl none) = none image (record { holds = p.holds; plain = plain })
+pub IsAccepted-supported : (file : List ℕ) (image : SavedImage) (marks : List Bool) → IsAccepted file image marks → IsPlain image → IsNotYet file → ⊥
+IsAccepted-supported file image marks p plain (inl lacks) = lacks.none image (record { holds = p.holds; plain = plain })
 IsAccepted-supported file image marks p plain (inr defect) = no_defect_too file image marks p defect

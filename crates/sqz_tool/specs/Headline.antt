@@ -6,7 +6,8 @@ use Rattle.sqz_image.specs.declared.fault.Fault.{Fault}
 use Rattle.sqz_image.specs.declared.fault.Fault.TheVariants.{OutOfMemory, ReadFailed, WriteFailed, NotYet}
 use Rattle.sqz_image.specs.File.{data_size, file_with}
 use Rattle.sqz_image.specs.Objects.{SavedImage, object_count}
-use Rattle.sqz_image.specs.Plain.{IsPlain, HoldsPlain}
+use Rattle.sqz_image.specs.Refusals.{file_fault}
+use Rattle.sqz_image.specs.Plain.{IsPlain, HoldsPlain, LacksPlainImage}
 use Rattle.sqz_image.specs.Devices.{SourceState, SinkState, ReadsWhole, ReadStops, WritesWhole, WriteStops}
 use Rattle.sqz_trace.specs.Reachability.{IsReachability}
 use Rattle.sqz_trace.specs.Live.{live}
@@ -50,7 +51,7 @@ pub record Compacts (from to : SourceState) (old new : SinkState) (summary : Sum
   pub image : SavedImage
   pub marks : List Bool
   pub accepted : IsAccepted file image marks
-  pub plain : IsPlain file image
+  pub plain : IsPlain image
   pub written : WritesWhole old new (compacted image marks)
   pub counted : summary ≡ summary_of image marks
 
@@ -60,16 +61,23 @@ pub record HasPlainDefect (file : List ℕ) : Type 0 where
   pub holds : HoldsPlain file image
   pub defect : HasDefectIn image
 
--- the files that this version does not take: those that hold no plain image, and those in which a
--- reachable object has a defect
+-- the files that this version does not take: those with a sound header that hold no plain image, and
+-- those in which a reachable object has a defect
 abbrev pub IsNotYet : List ℕ → Type 0
-IsNotYet file = ((image : SavedImage) → HoldsPlain file image → ⊥) ⊎ HasPlainDefect file
+IsNotYet file = LacksPlainImage file ⊎ HasPlainDefect file
 
 -- the source gave a file that this version does not take, and the sink is as it was
 pub record IsUnsupported (from to : SourceState) (old new : SinkState) : Type 0 where
   pub file : List ℕ
   pub read : ReadsWhole from to file
   pub not_yet : IsNotYet file
+  pub untouched : new ≡ old
+
+-- the source gave a file of which this is the first refusal that applies, and the sink is as it was
+pub record RefusesFile (from to : SourceState) (old new : SinkState) (fault : Fault) : Type 0 where
+  pub file : List ℕ
+  pub read : ReadsWhole from to file
+  pub refused : file_fault file ≡ Some fault
   pub untouched : new ≡ old
 
 -- memory was refused: bytes from the front of what was left may be gone, and the sink is as it was
@@ -90,13 +98,13 @@ pub record StopsWriting (from to : SourceState) (old new : SinkState) : Type 0 w
   pub image : SavedImage
   pub marks : List Bool
   pub accepted : IsAccepted file image marks
-  pub plain : IsPlain file image
+  pub plain : IsPlain image
   pub stops : WriteStops old new (compacted image marks) WriteFailed
 
--- what was done where the run was refused, by the refusal; there are no others
+-- what was done where the run was refused, by the refusal: all others are of the file
 abbrev pub Refuses : SourceState → SourceState → SinkState → SinkState → Fault → Type 0
 Refuses from to old new NotYet = IsUnsupported from to old new
 Refuses from to old new OutOfMemory = IsOutOfMemory from to old new
 Refuses from to old new ReadFailed = StopsReading from to old new
 Refuses from to old new WriteFailed = StopsWriting from to old new
-Refuses from to old new _ = ⊥
+Refuses from to old new fault = RefusesFile from to old new fault

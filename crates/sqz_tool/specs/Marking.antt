@@ -1,6 +1,6 @@
 -- What one step of marking does: the objects that an object's slots name get their marks.
-use Rattle.std.specs.Prelude.{◌≡◌, ℕ, suc, ◌+◌, ◌<◌, Bool, true, false, ◌⊎◌, List, [], ◌∷◌, ◌++◌, length, slice_index, Some}
-use Rattle.sqz_image.specs.Objects.{Memory, object_count, chunk_at}
+use Rattle.std.specs.Prelude.{◌≡◌, ℕ, suc, ◌+◌, ◌<◌, Bool, true, false, ◌⊎◌, List, [], ◌∷◌, length, slice_index, Some}
+use Rattle.sqz_image.specs.Objects.{Memory, chunk_at}
 use Rattle.sqz_trace.specs.Slots.{slot_words}
 use Rattle.sqz_trace.specs.Edges.{named_by, HasEdge}
 use Rattle.sqz_trace.specs.Reachability.{is_marked}

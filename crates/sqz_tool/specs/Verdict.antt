@@ -1,5 +1,5 @@
 -- Whether a file is accepted, and why it is refused.
-use Rattle.std.specs.Prelude.{◌≡◌, Bool, List, ℕ, Option, Some, None, ◌⊎◌}
+use Rattle.std.specs.Prelude.{◌≡◌, Bool, List, ℕ, Some, None, ◌⊎◌}
 use Rattle.sqz_image.specs.declared.fault.Fault.{Fault}
 use Rattle.sqz_image.specs.Objects.{SavedImage}
 use Rattle.sqz_image.specs.Refusals.{Holds, IsUnreadable}

@@ -1,10 +1,10 @@
 //! What is written of an image: its live objects in their new places.
 
-ghost use Rattle.std.specs.Prelude.{◌≡◌, ◌⊎◌, map, true, IfOk, IfErr};
+ghost use Rattle.std.specs.Prelude.{◌≡◌, ◌⊎◌, map, IfOk, IfErr};
 ghost use Rattle.std.specs.List.{AllByRecursion};
 ghost use Rattle.sqz_object.specs.Chunk.{IsChunk};
 ghost use Rattle.sqz_image.specs.declared.fault.Fault.TheVariants.{OutOfMemory, NotYet};
-ghost use Rattle.sqz_image.specs.Plain.{is_plain_chunk};
+ghost use Rattle.sqz_image.specs.Plain.{IsPlain};
 ghost use Rattle.sqz_tool.specs.Headline.{IsCompaction, HasDefectIn};
 
 use crate::defects::has_defect;
@@ -29,7 +29,7 @@ pub(crate) struct Compaction {
 /// for want of memory alone.
 pub(crate) fn compaction_of(alloc: Global, image: &Image) -> Result<Compaction, Fault>
     requires chunks { AllByRecursion IsChunk image.now.memory.chunks }
-    requires plain { AllByRecursion (λ chunk. is_plain_chunk chunk ≡ true) image.now.memory.chunks }
+    requires plain { IsPlain image.now }
     ensures compaction { IfOk result (λ c. IsCompaction image.now c.special (map (λ piece. piece.items) c.pieces.items) c.summary) }
     ensures refused { IfErr result (λ fault. (fault ≡ OutOfMemory) ⊎ ((fault ≡ NotYet) × HasDefectIn image.now)) }
 {

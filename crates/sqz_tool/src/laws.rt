@@ -1,7 +1,9 @@
 //! Laws about the definitions, each the contract of a function that does nothing.
 
-ghost use Rattle.std.specs.Prelude.{◌≡◌, ℕ, List, Bool};
+ghost use Rattle.std.specs.Prelude.{◌≡◌, ℕ, List, Bool, Some};
+ghost use Rattle.sqz_image.specs.declared.fault.Fault.{Fault};
 ghost use Rattle.sqz_image.specs.Objects.{SavedImage};
+ghost use Rattle.sqz_image.specs.Refusals.{file_fault};
 ghost use Rattle.sqz_image.specs.Plain.{IsPlain};
 ghost use Rattle.sqz_tool.specs.Verdict.{IsAccepted};
 ghost use Rattle.sqz_tool.specs.Headline.{IsNotYet};
@@ -13,5 +15,12 @@ pub fn one_answer()
 
 /// No file with a compaction is one that is not yet supported.
 pub fn answered_or_not_yet()
-    ensures { (file : List ℕ) (image : SavedImage) (marks : List Bool) → IsAccepted file image marks → IsPlain file image → IsNotYet file → ⊥ }
+    ensures { (file : List ℕ) (image : SavedImage) (marks : List Bool) → IsAccepted file image marks → IsPlain image → IsNotYet file → ⊥ }
+{}
+
+/// A file with one of the refusals of files is refused with that one: it has no compaction, and is
+/// none that is not yet supported.
+pub fn refused_alone()
+    ensures accepted { (file : List ℕ) (fault : Fault) → file_fault file ≡ Some fault → (image : SavedImage) (marks : List Bool) → IsAccepted file image marks → ⊥ }
+    ensures not_yet { (file : List ℕ) (fault : Fault) → file_fault file ≡ Some fault → IsNotYet file → ⊥ }
 {}

@@ -1,6 +1,7 @@
 //! Plain images, and what they are compacted to.
 
-use super::files::assert_compacts;
+use super::files::{assert_compacts, assert_file_compacts, file_of};
+use sqz_object::Order;
 use sqz_tool::Summary;
 use std::test::Fail;
 
@@ -17,6 +18,40 @@ fn dead_array(rt: HostRuntime) -> Result<(), Fail> {
         data_after: 12,
     };
     assert_eq!(rt; summary, wanted);
+    Ok(())
+}
+
+#[test]
+fn big_endian(rt: HostRuntime) -> Result<(), Fail> {
+    let words = [0x1007, 0x320F, 1, 1, 0x320B, 0x1000];
+    let file = file_of(rt.alloc(), Order::Big, BASE, &words, 0x1010)?;
+    let answer = [0x1007, 0x320B, 0x1000];
+    let wanted = file_of(rt.alloc(), Order::Big, BASE, &answer, 0x1004)?;
+    let summary = assert_file_compacts(&rt, file, &wanted)?;
+    let numbers = Summary {
+        objects: 3,
+        kept: 2,
+        data_before: 24,
+        data_after: 12,
+    };
+    assert_eq!(rt; summary, numbers);
+    Ok(())
+}
+
+#[test]
+fn bytes_after_data(rt: HostRuntime) -> Result<(), Fail> {
+    let words = [0x1007, 0x320B, 0x1000];
+    let wanted = file_of(rt.alloc(), Order::Little, BASE, &words, 0x1004)?;
+    let mut file = wanted.clone()?;
+    file.extend_from_slice(&[1, 2, 3, 4, 5])?;
+    let summary = assert_file_compacts(&rt, file, &wanted)?;
+    let numbers = Summary {
+        objects: 2,
+        kept: 2,
+        data_before: 12,
+        data_after: 12,
+    };
+    assert_eq!(rt; summary, numbers);
     Ok(())
 }
 

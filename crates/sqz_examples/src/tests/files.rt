@@ -48,6 +48,18 @@ pub fn run_over<R>(rt: &R, alloc: Global, file: Vec<u8>) -> Result<Outcome, Fail
     Ok(Outcome { answer, sink })
 }
 
+/// Asserts that a file is compacted to another, and answers the numbers of the run.
+pub fn assert_file_compacts<R: Abort + AllocGlobal>(
+    rt: &R,
+    file: Vec<u8>,
+    wanted: &[u8],
+) -> Result<Summary, Fail> {
+    let outcome = run_over(rt, rt.alloc(), file)?;
+    let summary = outcome.answer?;
+    assert_eq!(rt; outcome.sink.contents(), wanted);
+    Ok(summary)
+}
+
 /// Asserts that little-endian words are compacted to others, and answers the numbers of the run.
 pub fn assert_compacts<R: Abort + AllocGlobal>(
     rt: &R,
@@ -62,8 +74,17 @@ pub fn assert_compacts<R: Abort + AllocGlobal>(
 {
     let file = file_of(rt.alloc(), Order::Little, base, words, special)?;
     let wanted = file_of(rt.alloc(), Order::Little, base, answer, new_special)?;
+    assert_file_compacts(rt, file, &wanted)
+}
+
+/// Asserts that a run over a file is refused with this fault and writes nothing.
+pub fn assert_refused<R: Abort + AllocGlobal>(
+    rt: &R,
+    file: Vec<u8>,
+    fault: Fault,
+) -> Result<(), Fail> {
     let outcome = run_over(rt, rt.alloc(), file)?;
-    let summary = outcome.answer?;
-    assert_eq!(rt; outcome.sink.contents(), wanted.as_slice());
-    Ok(summary)
+    assert_eq!(rt; outcome.answer, Err(fault));
+    assert!(rt; outcome.sink.contents().is_empty());
+    Ok(())
 }

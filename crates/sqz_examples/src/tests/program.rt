@@ -45,10 +45,12 @@ fn assert_faults<R: Abort + AllocGlobal + Files>(
     Ok(())
 }
 
-/// Makes a file with the image of three objects, of which one is dead, in this byte order.
-fn make_image<R: AllocGlobal + Files>(rt: &R, path: &str, order: Order) -> Result<(), Fail> {
-    let words = [0x1007, 0x320F, 1, 1, 0x320B, 0x1000];
-    let image = file_of(rt.alloc(), order, 0x1000, &words, 0x1010)?;
+/// The words of an image of three objects, of which one is dead.
+const WHOLE: [u32; 6] = [0x1007, 0x320F, 1, 1, 0x320B, 0x1000];
+
+/// Makes a file with the image of three objects.
+fn make_image<R: AllocGlobal + Files>(rt: &R, path: &str) -> Result<(), Fail> {
+    let image = file_of(rt.alloc(), Order::Little, 0x1000, &WHOLE, 0x1010)?;
     File::create(rt, path)?.write_all(&image)?;
     Ok(())
 }
@@ -65,7 +67,7 @@ fn assert_compacted<R: Abort + AllocGlobal + Files>(rt: &R, path: &str) -> Resul
 
 #[test]
 fn compacts_into_another_file(rt: HostRuntime) -> Result<(), Fail> {
-    make_image(&rt, "whole.image", Order::Little)?;
+    make_image(&rt, "whole.image")?;
     let ended = run_program(&rt, &["whole.image", "compacted.image"])?;
     assert_eq!(rt; ended.exit, 0);
     assert!(rt; ended.out.contents().is_empty() && ended.err.contents().is_empty());
@@ -74,7 +76,7 @@ fn compacts_into_another_file(rt: HostRuntime) -> Result<(), Fail> {
 
 #[test]
 fn compacts_in_place(rt: HostRuntime) -> Result<(), Fail> {
-    make_image(&rt, "both.image", Order::Little)?;
+    make_image(&rt, "both.image")?;
     let ended = run_program(&rt, &["both.image", "both.image"])?;
     assert_eq!(rt; ended.exit, 0);
     assert_compacted(&rt, "both.image")
@@ -82,10 +84,27 @@ fn compacts_in_place(rt: HostRuntime) -> Result<(), Fail> {
 
 #[test]
 fn refuses_and_makes_nothing(rt: HostRuntime) -> Result<(), Fail> {
-    make_image(&rt, "big.image", Order::Big)?;
+    let mut image = file_of(rt.alloc(), Order::Little, 0x1000, &WHOLE, 0x1010)?;
+    image.truncate(87);
+    File::create(&rt, "cut.image")?.write_all(&image)?;
     assert_faults(
         &rt,
-        &["big.image", "none.image"],
+        &["cut.image", "none.image"],
+        1,
+        "fault 6: data are truncated\n",
+    )?;
+    assert!(rt; File::open(&rt, "none.image").is_err());
+    Ok(())
+}
+
+#[test]
+fn refuses_what_is_not_yet_supported(rt: HostRuntime) -> Result<(), Fail> {
+    let words = [0x1007, 0x320B, 0x1002];
+    let image = file_of(rt.alloc(), Order::Little, 0x1000, &words, 0x1004)?;
+    File::create(&rt, "bad_pointer.image")?.write_all(&image)?;
+    assert_faults(
+        &rt,
+        &["bad_pointer.image", "none.image"],
         1,
         "fault 22: not yet supported\n",
     )?;
@@ -107,7 +126,7 @@ fn reports_a_missing_input(rt: HostRuntime) -> Result<(), Fail> {
 
 #[test]
 fn reports_an_output_that_cannot_be_made(rt: HostRuntime) -> Result<(), Fail> {
-    make_image(&rt, "sound.image", Order::Little)?;
+    make_image(&rt, "sound.image")?;
     assert_faults(
         &rt,
         &["sound.image", "missing/out.image"],

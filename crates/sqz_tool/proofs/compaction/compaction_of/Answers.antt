@@ -1,4 +1,4 @@
-use Rattle.std.proofs.Common.{◌≡◌, ◌<◌, ◌*◌, ℕ, List, length, slice_index, refl, sym, ap, ◌∙◌, inr, arith}
+use Rattle.std.proofs.Common.{◌<◌, ◌*◌, ℕ, refl, ap, ◌∙◌, inr, arith}
 use Rattle.std.proofs.lemmas.List.{get_or_read}
 use Rattle.sqz_image.specs.Objects.{objects, object_count}
 use Rattle.sqz_image.proofs.ObjectLemmas.{find_in-lt}

@@ -1,4 +1,4 @@
-use Rattle.std.proofs.Common.{◌<◌, ◌≤◌, length, sym, ◌∙◌, arith}
+use Rattle.std.proofs.Common.{◌<◌, length, sym, ◌∙◌, arith}
 use Rattle.sqz_image.specs.Objects.{object_count}
 use Rattle.sqz_tool.proofs.HeapFacts.{is_plain_at}
 use Rattle.sqz_tool.proofs.DefectLemmas.{unmarked_here, sound_here, defect_here, no_object_left, first_defect_is}

@@ -1,4 +1,4 @@
-use Rattle.std.proofs.Common.{◌<◌, length, sym, arith}
+use Rattle.std.proofs.Common.{sym, arith}
 use Rattle.sqz_tool.proofs.MarkingLemmas.{slot_names_nothing, slot_names_marked, slot_names_new}
 use Rattle.sqz_tool.proofs.marking.mark_targets.Goals as goal
 use Rattle.sqz_tool.proofs.marking.mark_targets.Goals.{in-Some+then-not-marks-found+in_ok-push, in-Some+else-not-marks-found, in_default}

@@ -1,9 +1,9 @@
-use Rattle.std.proofs.Common.{◌≡◌, ◌<◌, ◌++◌, ◌∷◌, [], length, ℕ, List, Bool, true, false, Some, inl, refl, sym, ap, subst, ◌∙◌, arith}
+use Rattle.std.proofs.Common.{◌<◌, ◌∷◌, [], length, inl, refl, arith}
 use Rattle.std.proofs.lemmas.List.{nil_from_length}
 use Rattle.sqz_image.specs.Objects.{objects}
 use Rattle.sqz_image.proofs.ObjectLemmas.{find_in-lt}
 use Rattle.sqz_tool.proofs.HeapFacts.{is_plain_at}
-use Rattle.sqz_tool.proofs.MarkingLemmas.{IsMarking, starts, goes_on, all_marked, IsIn-back, marked_is_object, whole_slice}
+use Rattle.sqz_tool.proofs.MarkingLemmas.{starts, goes_on, all_marked, IsIn-back, marked_is_object, whole_slice}
 use Rattle.sqz_tool.proofs.marking.reachable.Goals as goal
 use Rattle.sqz_tool.proofs.marking.reachable.Goals.{In-Some}
 

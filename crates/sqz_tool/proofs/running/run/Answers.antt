@@ -1,6 +1,6 @@
-use Rattle.std.proofs.Common.{refl, sym, ap, ◌∙◌}
+use Rattle.std.proofs.Common.{refl}
 use Rattle.std.proofs.lemmas.Result.{err_from_is_err_and}
-use Rattle.sqz_tool.proofs.RunLemmas.{refuses_reading, refuses_memory, refuses_unreadable, refuses_image, refuses_writing, compacts}
+use Rattle.sqz_tool.proofs.RunLemmas.{refuses_image}
 use Rattle.sqz_tool.proofs.running.run.Goals as goal
 
 pub returns-in_err-compaction-clause-refuses : goal.returns-in_err-compaction-clause-refuses

@@ -1,4 +1,4 @@
-use Rattle.std.proofs.Common.{ℕ, sym, ap, ◌∙◌, arith}
+use Rattle.std.proofs.Common.{sym, ap, ◌∙◌}
 use Rattle.sqz_image.specs.Objects.{chunk_at}
 use Rattle.sqz_trace.specs.Edges.{named_by}
 use Rattle.sqz_trace.proofs.SlotLemmas.{slot_word_at}

@@ -1,11 +1,10 @@
-use Rattle.std.proofs.Common.{◌≡◌, ◌<◌, ◌≤◌, ℕ, cond, ltb, length, sym, ap, ◌∙◌, arith}
+use Rattle.std.proofs.Common.{◌≡◌, cond, ltb, length, sym, ap, ◌∙◌, arith}
 use Rattle.std.proofs.lemmas.Bool.{lt-ltb, le-ltb}
 use Rattle.sqz_object.specs.declared.base.Base.{Base}
 use Rattle.sqz_object.specs.declared.chunk.Chunk.{Chunk}
 use Rattle.sqz_object.specs.Value.{base_of}
 use Rattle.sqz_object.specs.Chunk.{format, fields}
 use Rattle.sqz_image.specs.Objects.{chunk_at}
-use Rattle.sqz_trace.specs.Slots.{traced}
 use Rattle.sqz_trace.proofs.SlotLemmas.{traced_plain, length_slot_words}
 use Rattle.sqz_tool.proofs.HeapFacts.{plain_object_at}
 use Rattle.sqz_tool.proofs.tracing.traced.Goals as goal
