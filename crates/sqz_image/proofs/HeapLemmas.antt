@@ -1,7 +1,7 @@
 -- What the parts of a heap say of the objects in its words.
 use Rattle.std.proofs.Common.{◌≡◌, ◌≢◌, ℕ, ◌+◌, ◌*◌, ◌%◌, ◌^◌, ◌<◌, ◌≤◌, ◌⊎◌, true, List, [], ◌∷◌, map, length, get_or, take, drop, slice_index, Option, Some, None, refl, sym, ap, subst, ◌∙◌, arith, inl, inr}
 use Rattle.std.specs.List.{concat, AllByRecursion}
-use Rattle.sqz_image.specs.Search.{IsPlaceOf}
+use Rattle.sqz_image.specs.Search.{IsPlaceOf, IsRising, IsFrom}
 use Rattle.std.proofs.lemmas.Bool.{or_cases, and_parts, eqb-true, cases_lt}
 use Rattle.std.proofs.lemmas.List.{length-map, get_or-map, length-take-le, get_or-take, get_or-drop, length-drop}
 use Rattle.sqz_object.specs.declared.chunk.Chunk.{Chunk}
@@ -47,7 +47,7 @@ abbrev no_object : Object
 no_object = record { first = 0; chunk = [] }
 
 -- what is kept of the memory that a view gives, about the memory that it is
-pub listed_is : {view memory : Memory} {words firsts addresses : List ℕ} {special_object : ℕ} → view ≡ memory → IsKept view words firsts addresses special_object → IsListed memory words firsts addresses
+pub listed_is : {view memory : Memory} {words firsts addresses offsets : List ℕ} {special_object : ℕ} → view ≡ memory → IsKept view words firsts addresses offsets special_object → IsListed memory words firsts addresses
 listed_is {words = words} {firsts = firsts} {addresses = addresses} is heap =
     subst (λ (m : Memory). IsListed m words firsts addresses) is heap.listed
 
@@ -89,17 +89,25 @@ pub few_objects : {memory : Memory} {words firsts addresses : List ℕ} (heap : 
 few_objects {memory = memory} heap =
     omega (arith, length-objects_of memory.chunks heap.partition.each, ap length heap.partition.whole, heap.few_words)
 
--- addresses rise
-pub addresses_order : {memory : Memory} {words firsts addresses : List ℕ} (heap : IsListed memory words firsts addresses) (i j : ℕ) → i < j → j < length addresses → get_or addresses i 0 < get_or addresses j 0
+pub few_addresses : {memory : Memory} {words firsts addresses : List ℕ} (heap : IsListed memory words firsts addresses) → length addresses ≤ 2 ^ 30
+few_addresses heap = omega (arith, length_addresses heap, few_objects heap)
+
+-- addresses rise from the base on
+addresses_order : {memory : Memory} {words firsts addresses : List ℕ} (heap : IsListed memory words firsts addresses) (i j : ℕ) → i < j → j < length addresses → get_or addresses i 0 < get_or addresses j 0
 addresses_order {memory = memory} {addresses = addresses} heap i j lt in_range =
     Rises_order memory.base addresses i j (subst (Rises memory.base) (sym heap.object_addresses) (addresses_rise memory.base memory.chunks heap.partition.each)) lt in_range
 
-pub addresses_sorted : {memory : Memory} {words firsts addresses : List ℕ} (heap : IsListed memory words firsts addresses) (i j : ℕ) → i ≤ j → j < length addresses → get_or addresses i 0 ≤ get_or addresses j 0
+pub addresses_sorted : {memory : Memory} {words firsts addresses : List ℕ} (heap : IsListed memory words firsts addresses) → IsRising addresses
 addresses_sorted {addresses = addresses} heap i j le in_range =
     elim (cases_lt i j) [
       | inl lt ↦ let less = addresses_order heap i j lt in_range in omega arith
       | inr ge ↦ let same : i ≡ j = omega arith in rw same (omega arith)
     ]
+
+pub addresses_above : {memory : Memory} {words firsts addresses : List ℕ} (heap : IsListed memory words firsts addresses) → IsFrom memory.base addresses
+addresses_above heap i lt =
+    let is = address_there heap i (omega (arith, length_addresses heap)) in
+    omega (arith, is)
 
 pub find_found : {memory : Memory} {words firsts addresses : List ℕ} (heap : IsListed memory words firsts addresses) (i address : ℕ) → i < length addresses → get_or addresses i 0 ≡ address → find memory address ≡ Some i
 find_found {memory = memory} {addresses = addresses} heap i address lt at =

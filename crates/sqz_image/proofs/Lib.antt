@@ -1,5 +1,6 @@
 pub mod ObjectLemmas
 pub mod CutLemmas
+pub mod OffsetLemmas
 pub mod HeapLemmas
 pub mod PlainLemmas
 pub mod IndexLemmas

@@ -5,6 +5,7 @@ use Rattle.sqz_object.specs.declared.order.Order.{Order}
 use Rattle.sqz_object.specs.Partition.{IsPartition, stated_length}
 use Rattle.sqz_image.specs.Plain.{is_plain_chunk}
 use Rattle.sqz_image.specs.Index.{HasPlainPartition}
+use Rattle.sqz_image.specs.Search.{IsOffsetTable}
 use Rattle.sqz_image.specs.Objects.{Memory, objects, address_in, find}
 
 -- words cut by the lengths that their headers state, as many times at most as is said
@@ -38,9 +39,10 @@ pub record IsListed (memory : Memory) (words firsts addresses : List ℕ) : Type
   pub within : memory.base + 4 * length words ≤ 2 ^ 32
   pub aligned : memory.base % 4 ≡ 0
 
--- and which object the special objects array is
-pub record IsKept (memory : Memory) (words firsts addresses : List ℕ) (special_object : ℕ) : Type 0 where
+-- and the table by which an address is found, and which object the special objects array is
+pub record IsKept (memory : Memory) (words firsts addresses offsets : List ℕ) (special_object : ℕ) : Type 0 where
   pub listed : IsListed memory words firsts addresses
+  pub table : IsOffsetTable addresses memory.base (length addresses) offsets
   pub found : find memory memory.special ≡ Some special_object
 
 -- the object memory with these data words, where they are plain chunks and the special objects array is there

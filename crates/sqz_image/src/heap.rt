@@ -8,7 +8,7 @@ ghost use Rattle.sqz_image.specs.Objects.{Memory, object_count, object_at, addre
 ghost use Rattle.sqz_image.specs.Memory.{IsPlainMemory};
 
 use crate::index::{Index, index_of};
-use crate::search::place_of;
+use crate::search::{block_offsets, place_of};
 use sqz_object::{Chunk, Order, chunk_at};
 use std::alloc::{AllocError, Global};
 use std::marker::Model;
@@ -26,6 +26,8 @@ pub struct Heap {
     firsts: Vec<u32>,
     /// The address of each object.
     addresses: Vec<u32>,
+    /// The block offset table of these addresses.
+    offsets: Vec<u32>,
 }
 
 impl Model for Heap {
@@ -36,7 +38,7 @@ impl Model for Heap {
 
     ghost view = { λ heap. memory_of heap.order heap.base heap.special heap.words.items };
 
-    ghost invariant = { λ heap. IsKept (memory_of heap.order heap.base heap.special heap.words.items) heap.words.items heap.firsts.items heap.addresses.items heap.special_object };
+    ghost invariant = { λ heap. IsKept (memory_of heap.order heap.base heap.special heap.words.items) heap.words.items heap.firsts.items heap.addresses.items heap.offsets.items heap.special_object };
 }
 
 impl Heap {
@@ -58,10 +60,11 @@ impl Heap {
         let Some(index) = index_of(alloc, &words, base)? else {
             return Ok(None);
         };
-        let Some(special_object) = place_of(&index.addresses, special) else {
+        let Index { firsts, addresses } = index;
+        let offsets = block_offsets(alloc, &addresses, base)?;
+        let Some(special_object) = place_of(&addresses, base, &offsets, special) else {
             return Ok(None);
         };
-        let Index { firsts, addresses } = index;
         Ok(Some(Heap {
             order,
             base,
@@ -70,6 +73,7 @@ impl Heap {
             words,
             firsts,
             addresses,
+            offsets,
         }))
     }
 
@@ -165,7 +169,7 @@ impl Heap {
     pub fn find(&self, address: u32) -> Option<u32>
         ensures { result ≡ find self.now address }
     {
-        place_of(&self.addresses, address)
+        place_of(&self.addresses, self.base, &self.offsets, address)
     }
 
     /// The special objects array.
