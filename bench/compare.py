@@ -3,13 +3,17 @@
 
 Usage: bench/compare.py [MIB ...]
 
-Each image is plain: objects of 1 to 20 words, a third of them dead, with integers and with pointers to
-objects near and far. Each line of the table is one run of the program and one of `cp`. The images are
-the same each time. No time is asserted.
+Each image is plain: objects of 1 to 20 words, a third of them dead, with integers and with
+pointers to objects near and far. Each line of the table is one run of the program and one of `cp`.
+The images are the same each time, and take about a second a MiB to make. No time is asserted.
+
+The peak is read from /proc each millisecond, so it is the least that it can have been; `-` stands
+where a command ended before it was read. Of a run of a few milliseconds most is the start of a
+process.
 """
 
 import array
-import multiprocessing
+import itertools
 import os
 import random
 import subprocess
@@ -34,72 +38,71 @@ def short_header(words):
     return 3 << 12 | 2 << 8 | words << 2 | 3
 
 
-def below(rng, count):
+def below(generator, count):
     """A number below the count."""
-    return int(rng.random() * count)
+    return int(generator.random() * count)
 
 
-def sizes_of_objects(rng, words):
+def sizes_of_objects(generator, words):
     """The sizes of objects that fill so many words: nil, the special objects array, and others."""
     sizes = [1, LARGEST]
     left = words - sum(sizes)
     while left > 0:
-        size = min(1 + below(rng, LARGEST), left)
+        size = min(1 + below(generator, LARGEST), left)
         sizes.append(size)
         left -= size
     return sizes
 
 
-def fields_of(firsts, sizes, index):
-    """The indexes of the object's fields among the data words."""
-    return range(firsts[index] + 1, firsts[index] + sizes[index])
+def name_live_objects(generator, data, fields, addresses, live):
+    """Puts the address of each live object but nil into a field of a live one before it."""
+    unused = list(fields[1])
+    for index in range(2, len(fields)):
+        if not live[index] or not unused:
+            continue
+        if generator.random() < 0.5:
+            other = below(generator, len(unused))
+            unused[other], unused[-1] = unused[-1], unused[other]
+        data[unused.pop()] = addresses[index]
+        unused.extend(fields[index])
 
 
-def random_field(rng, index, addresses, near):
-    """An integer, or the address of an object near or far among those with these addresses."""
-    kind = rng.random()
+def random_field(generator, addresses, place):
+    """An integer, or one of these addresses: from near this place among them, or from anywhere."""
+    kind = generator.random()
     if kind < 0.4:
-        return rng.getrandbits(31) << 1 | 1
+        return generator.getrandbits(31) << 1 | 1
     if kind < 0.7:
-        neighbour = near - NEAR + below(rng, 2 * NEAR + 1)
+        neighbour = place - NEAR + below(generator, 2 * NEAR + 1)
         return addresses[max(0, min(len(addresses) - 1, neighbour))]
-    return addresses[below(rng, len(addresses))]
+    return addresses[below(generator, len(addresses))]
+
+
+def fill_fields(generator, data, fields, addresses, live):
+    """Fills the fields that are empty; those of live objects name live ones alone."""
+    live_addresses = [address for address, alive in zip(addresses, live) if alive]
+    live_before = 0
+    for index in range(len(fields)):
+        among, place = (live_addresses, live_before) if live[index] else (addresses, index)
+        live_before += live[index]
+        for field in fields[index]:
+            if data[field] == 0:
+                data[field] = random_field(generator, among, place)
 
 
 def data_words(words):
-    """So many data words. Of the objects a third is dead; each other one is named by a live one."""
-    rng = random.Random(words)
-    sizes = sizes_of_objects(rng, words)
-    data = array.array("I", bytes(4 * words))
-    firsts = []
-    first = 0
-    for size in sizes:
-        data[first] = short_header(size)
-        firsts.append(first)
-        first += size
+    """So many data words, of objects of which a third is dead."""
+    generator = random.Random(words)
+    sizes = sizes_of_objects(generator, words)
+    firsts = [end - size for end, size in zip(itertools.accumulate(sizes), sizes)]
+    fields = [range(first + 1, first + size) for first, size in zip(firsts, sizes)]
     addresses = [BASE + 4 * first for first in firsts]
-    live = [index < 2 or rng.random() < 2 / 3 for index in range(len(sizes))]
-    live_addresses = [address for address, alive in zip(addresses, live) if alive]
-
-    # The fields that name no object yet, of the live objects so far.
-    unused = list(fields_of(firsts, sizes, 1))
-    for index in range(2, len(sizes)):
-        if not live[index] or not unused:
-            continue
-        if rng.random() < 0.5:
-            other = below(rng, len(unused))
-            unused[other], unused[-1] = unused[-1], unused[other]
-        data[unused.pop()] = addresses[index]
-        unused.extend(fields_of(firsts, sizes, index))
-
-    rank = 0
-    for index in range(len(sizes)):
-        among = live_addresses if live[index] else addresses
-        near = rank if live[index] else index
-        rank += live[index]
-        for field in fields_of(firsts, sizes, index):
-            if data[field] == 0:
-                data[field] = random_field(rng, index, among, near)
+    live = [index < 2 or generator.random() < 2 / 3 for index in range(len(sizes))]
+    data = array.array("I", bytes(4 * words))
+    for first, size in zip(firsts, sizes):
+        data[first] = short_header(size)
+    name_live_objects(generator, data, fields, addresses, live)
+    fill_fields(generator, data, fields, addresses, live)
     return data
 
 
@@ -115,15 +118,6 @@ def make_image(path, size):
         image.tofile(file)
 
 
-def in_child(function, *arguments):
-    """Calls a function in a process of its own, so that its memory does not count for others."""
-    child = multiprocessing.Process(target=function, args=arguments)
-    child.start()
-    child.join()
-    if child.exitcode != 0:
-        sys.exit("cannot make an image")
-
-
 class PeakMemory(threading.Thread):
     """Watches the most memory that a process had so far, a thousand times a second."""
 
@@ -134,6 +128,7 @@ class PeakMemory(threading.Thread):
         self.bytes = 0
 
     def run(self):
+        self.look()
         while not self.ended.wait(0.001):
             self.look()
 
@@ -161,26 +156,42 @@ def measure(command):
 
 
 def columns(size, measured):
+    """What was measured over a file of so many bytes, as a part of a line."""
     seconds, peak = measured
-    return f"{seconds:9.3f} {size / MIB / seconds:8.1f} {peak / MIB:9.1f} {peak / size:8.2f}"
+    memory = f"{peak / MIB:9.1f} {peak / size:8.2f}" if peak else f"{'-':>9} {'-':>8}"
+    return f"{seconds:9.3f} {size / MIB / seconds:8.1f} {memory}"
 
 
-def main():
-    sizes = [int(word) for word in sys.argv[1:]] or [1, 16, 64]
-    if subprocess.run([LAUNCHER, "--help"], stdout=subprocess.DEVNULL).returncode != 0:
-        sys.exit("the program was not built")
+def print_titles():
+    """Prints the two lines over the table."""
     titles = f"{'seconds':>9} {'MiB/s':>8} {'peak MiB':>9} {'of file':>8}"
     print(f"{'':>15} {'sqzcompact':<37}    cp")
     print(f"{'image':>5} {'MiB out':>9} {titles}  {titles}")
+
+
+def compare(mib, folder):
+    """Makes an image of so many MiB in the folder, and prints a line for each run over it."""
+    image, answer, copy = (os.path.join(folder, name) for name in ("image", "answer", "copy"))
+    make_image(image, mib * MIB)
+    for _ in range(RUNS):
+        compacted = measure([PROGRAM, image, answer])
+        copied = measure(["cp", image, copy])
+        out = os.path.getsize(answer) / MIB
+        sides = f"{columns(mib * MIB, compacted)}  {columns(mib * MIB, copied)}"
+        print(f"{mib:5} {out:9.2f} {sides}", flush=True)
+
+
+def main():
+    """Builds the program where that is needed, and compares it with `cp` on images of each size."""
+    words = sys.argv[1:] or ["1", "16", "64"]
+    if not all(word.isdecimal() and int(word) > 0 for word in words):
+        sys.exit(__doc__)
+    if subprocess.run([LAUNCHER, "--help"], stdout=subprocess.DEVNULL).returncode != 0:
+        sys.exit("the program was not built")
+    print_titles()
     with tempfile.TemporaryDirectory() as folder:
-        image, answer, copy = (os.path.join(folder, name) for name in ("image", "answer", "copy"))
-        for mib in sizes:
-            in_child(make_image, image, mib * MIB)
-            for _ in range(RUNS):
-                compacted = measure([PROGRAM, image, answer])
-                copied = measure(["cp", image, copy])
-                out = os.path.getsize(answer) / MIB
-                print(f"{mib:5} {out:9.2f} {columns(mib * MIB, compacted)}  {columns(mib * MIB, copied)}", flush=True)
+        for word in words:
+            compare(int(word), folder)
 
 
 if __name__ == "__main__":

@@ -1,5 +1,6 @@
 -- A file holds one image at most.
-use Rattle.std.proofs.Common.{◌≡◌, ℕ, List, Some, sym, ap, ◌∙◌}
+use Rattle.std.proofs.Common.{◌≡◌, ℕ, List, sym, ap, ◌∙◌}
+use Rattle.std.proofs.lemmas.Option.{same_Some}
 use Rattle.sqz_object.specs.declared.order.Order.{Order}
 use Rattle.sqz_image.specs.File.{header_of, base_address, special_address, data_of}
 use Rattle.sqz_image.specs.Objects.{SavedImage}
@@ -7,15 +8,12 @@ use Rattle.sqz_image.specs.Refusals.{HasChunks, Holds}
 use Rattle.sqz_image.proofs.CutLemmas.{cut-partition}
 use Rattle.sqz_image.specs.Memory.{cut}
 
-some_is : {A : Type 0} {x y : A} → Some x ≡ Some y → x ≡ y
-some_is e = cc
-
 same_image : {g h : List ℕ} {o p : Order} {a b c d : ℕ} {x y : List (List ℕ)} → g ≡ h → o ≡ p → a ≡ b → c ≡ d → x ≡ y → let one : SavedImage = record { header = g; memory = record { order = o; base = a; special = c; chunks = x } } in one ≡ record { header = h; memory = record { order = p; base = b; special = d; chunks = y } }
 same_image q r s t u = cc
 
 pub HasChunks-unique : (file : List ℕ) (one other : SavedImage) → HasChunks file one → HasChunks file other → one ≡ other
 HasChunks-unique file one other p q =
-    let order : one.memory.order ≡ other.memory.order = some_is (sym p.order ∙ q.order) in
+    let order : one.memory.order ≡ other.memory.order = same_Some _ _ (sym p.order ∙ q.order) in
     let header : one.header ≡ other.header = p.header ∙ ap (λ (o : Order). header_of o file) order ∙ sym q.header in
     same_image header order
     (p.base ∙ ap base_address header ∙ sym q.base)

@@ -1,5 +1,6 @@
 -- From a file to its image and back.
 use Rattle.std.proofs.Common.{◌≡◌, ℕ, ◌+◌, ◌*◌, ◌/◌, ◌%◌, ◌^◌, ◌<◌, ◌≤◌, Bool, true, false, not, ◌||◌, cond, eqb, ltb, List, length, take, drop, slice_index, Option, Some, None, refl, sym, ap, subst, ◌∙◌, arith, inl, inr}
+use Rattle.std.proofs.lemmas.Option.{none-some, same_Some}
 use Rattle.std.proofs.lemmas.Bool.{eqb-true, ltb-false, cases_lt}
 use Rattle.std.proofs.lemmas.List.{length-drop, length-take, get_or-take, get_or_past}
 use Rattle.sqz_object.specs.declared.order.Order.{Order}
@@ -15,19 +16,16 @@ use Rattle.sqz_image.specs.Numbers.{number_of_fault}
 use Rattle.sqz_image.specs.Plain.{HoldsPlain}
 use Rattle.sqz_image.specs.Memory.{IsPlainMemory}
 
-none_is_some : {A : Type 0} (x : A) → Some x ≡ None → ⊥
-none_is_some x e = cc
-
 -- the tests of a header in their order
 faults : Bool → Bool → Bool → Bool → Option Fault
 faults size multiple base room = cond (not size) (Some BadHeaderSize) (cond (not multiple) (Some BadDataSize) (cond base (Some BadBase) (cond room (Some Truncated) None)))
 
 no_fault_parts : (size multiple base room : Bool) → faults size multiple base room ≡ None → (size ≡ true) × (multiple ≡ true) × (base ≡ false) × (room ≡ false)
 unfolding faults
-no_fault_parts false multiple base room e = absurd (none_is_some BadHeaderSize e)
-no_fault_parts true false base room e = absurd (none_is_some BadDataSize e)
-no_fault_parts true true true room e = absurd (none_is_some BadBase e)
-no_fault_parts true true false true e = absurd (none_is_some Truncated e)
+no_fault_parts false multiple base room e = absurd (none-some BadHeaderSize (sym e))
+no_fault_parts true false base room e = absurd (none-some BadDataSize (sym e))
+no_fault_parts true true true room e = absurd (none-some BadBase (sym e))
+no_fault_parts true true false true e = absurd (none-some Truncated (sym e))
 no_fault_parts true true false false e = (refl, refl, refl, refl)
 
 -- what a header says in which nothing is wrong
@@ -65,7 +63,7 @@ in_order_parts : (file : List ℕ) (found : Option Order) (order : Order) → fo
 in_order_parts file found order is e = ap (λ (o : Option Order). fault_in_order o file) (sym is) ∙ e
 
 long_enough : (short : Bool) (rest : Option Fault) → cond short (Some TooShort) rest ≡ None → rest ≡ None
-long_enough true rest e = absurd (none_is_some TooShort e)
+long_enough true rest e = absurd (none-some TooShort (sym e))
 long_enough false rest e = e
 
 pub sound_header : (file : List ℕ) (order : Order) → file_fault file ≡ None → order_of file ≡ Some order → IsSoundHeader (header_of order file) (length file)
@@ -80,9 +78,6 @@ front_fits file count bytes i =
       | inl below ↦ rw (get_or-take count file i 0 below) (bytes i)
       | inr past ↦ rw (get_or_past (take count file) i 0 (omega (arith, length-take count file))) (omega arith)
     ]
-
-some_is : {A : Type 0} {x y : A} → Some x ≡ Some y → x ≡ y
-some_is e = cc
 
 -- what the numbers of a sound header allow
 pub record HasBounds (words : List ℕ) (base : ℕ) : Type 0 where
@@ -138,7 +133,7 @@ module _ (file header : List ℕ) (order : Order) (sound : file_fault file ≡ N
   -- the memory of a plain image
   pub plain_memory : (image : SavedImage) → HoldsPlain file image → IsPlainMemory order (base_address header) (special_address header) (data_of order file) image.memory
   plain_memory image is =
-      let order_is : image.memory.order ≡ order = some_is (sym is.holds.parts.order ∙ begins) in
+      let order_is : image.memory.order ≡ order = same_Some _ _ (sym is.holds.parts.order ∙ begins) in
       let same : image.header ≡ header = is.holds.parts.header ∙ ap (λ (o : Order). header_of o file) order_is ∙ sym is_header in
       record {
         in_order = order_is;
@@ -154,7 +149,7 @@ module _ (file header : List ℕ) (order : Order) (sound : file_fault file ≡ N
 -- ---- the refusals 1 to 6 are these
 
 low : (one other : Fault) → number_of_fault one ≤ 6 → Some one ≡ Some other → number_of_fault other ≤ 6
-low one other le e = subst (λ (f : Fault). number_of_fault f ≤ 6) (some_is e) le
+low one other le e = subst (λ (f : Fault). number_of_fault f ≤ 6) (same_Some _ _ e) le
 
 faults_low : (size multiple base room : Bool) (fault : Fault) → faults size multiple base room ≡ Some fault → number_of_fault fault ≤ 6
 unfolding faults
@@ -162,7 +157,7 @@ faults_low false multiple base room fault e = low BadHeaderSize fault (omega ari
 faults_low true false base room fault e = low BadDataSize fault (omega arith) e
 faults_low true true true room fault e = low BadBase fault (omega arith) e
 faults_low true true false true fault e = low Truncated fault (omega arith) e
-faults_low true true false false fault e = absurd (none_is_some fault (sym e))
+faults_low true true false false fault e = absurd (none-some fault e)
 
 header_fault_low : (header : List ℕ) (bytes : ℕ) (fault : Fault) → header_fault header bytes ≡ Some fault → number_of_fault fault ≤ 6
 unfolding faults

@@ -47,7 +47,6 @@ fn words_in_either_order(rt: HostRuntime) {
     assert_eq!(rt; word_at(&bytes, Order::Big, 1), 0x0F32_0080);
     assert_eq!(rt; put_word(Order::Little, 0x8000_320F), [0x0F, 0x32, 0, 0x80]);
     assert_eq!(rt; put_word(Order::Big, 0x8000_320F), [0x80, 0, 0x32, 0x0F]);
-    laws::four_bytes(Order::Little, [1, 2, 3, 4]);
 }
 
 #[test]

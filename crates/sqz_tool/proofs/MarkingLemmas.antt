@@ -1,5 +1,6 @@
 -- Marking with a worklist: what holds between two steps of it, and what that shows at its end.
 use Rattle.std.proofs.Common.{◌≡◌, ℕ, zero, suc, ◌+◌, ◌<◌, ◌⊎◌, Bool, true, false, List, [], ◌∷◌, ◌++◌, length, set, take, drop, slice_index, Some, None, refl, sym, ap, subst, ◌∙◌, arith, inl, inr}
+use Rattle.std.proofs.lemmas.Option.{none-some, same_Some}
 use Rattle.std.specs.Prelude.{replicate}
 use Rattle.std.proofs.lemmas.Bool.{cases_lt}
 use Rattle.std.proofs.lemmas.List.{length-set, length-append, length-replicate, get_or-set_same, take_at}
@@ -80,15 +81,13 @@ module _ (memory : Memory) (object slot : ℕ) (old : List Bool) (queue : List �
         keeps = so_far.keeps;
         targets = λ s index lt names. elim (cases_lt s slot) [
           | inl below ↦ so_far.targets s index below names
-          | inr above ↦ let same : s ≡ slot = omega arith in absurd (none_is_some index (sym none ∙ ap (λ (n : ℕ). named_by memory (slice_index (slot_words (chunk_at memory object)) n)) (sym same) ∙ names))
+          | inr above ↦ let same : s ≡ slot = omega arith in absurd (none-some index (sym none ∙ ap (λ (n : ℕ). named_by memory (slice_index (slot_words (chunk_at memory object)) n)) (sym same) ∙ names))
         ];
         only = so_far.only;
         queued = so_far.queued;
         added = so_far.added;
         measure = so_far.measure;
-      } where
-        none_is_some : (index : ℕ) → None ≡ Some index → ⊥
-        none_is_some index e = cc
+      }
 
   -- the next slot names an object that has its mark
   pub slot_names_marked : (found : ℕ) → named_by memory (slice_index (slot_words (chunk_at memory object)) slot) ≡ Some found → is_marked marks found ≡ true → MarksSlots memory object (slot + 1) old queue marks worklist
@@ -100,16 +99,14 @@ module _ (memory : Memory) (object slot : ℕ) (old : List Bool) (queue : List �
           | inl below ↦ so_far.targets s index below names
           | inr above ↦
               let same : s ≡ slot = omega arith in
-              let is : found ≡ index = some_is found index (sym named ∙ ap (λ (n : ℕ). named_by memory (slice_index (slot_words (chunk_at memory object)) n)) (sym same) ∙ names) in
+              let is : found ≡ index = same_Some found index (sym named ∙ ap (λ (n : ℕ). named_by memory (slice_index (slot_words (chunk_at memory object)) n)) (sym same) ∙ names) in
               subst (λ (i : ℕ). is_marked marks i ≡ true) is marked
         ];
         only = so_far.only;
         queued = so_far.queued;
         added = so_far.added;
         measure = so_far.measure;
-      } where
-        some_is : (i j : ℕ) → Some i ≡ Some j → i ≡ j
-        some_is i j e = cc
+      }
 
   -- the next slot names an object that gets its mark now
   pub slot_names_new : (found : ℕ) → object < object_count memory → slot < length (slot_words (chunk_at memory object)) → found < length marks → named_by memory (slice_index (slot_words (chunk_at memory object)) slot) ≡ Some found → is_marked marks found ≡ false → MarksSlots memory object (slot + 1) old queue (set marks found true) (worklist ++ found ∷ [])
@@ -121,7 +118,7 @@ module _ (memory : Memory) (object slot : ℕ) (old : List Bool) (queue : List �
           | inl below ↦ is_marked-keeps marks found index (so_far.targets s index below names)
           | inr above ↦
               let same : s ≡ slot = omega arith in
-              let is : found ≡ index = some_is found index (sym named ∙ ap (λ (n : ℕ). named_by memory (slice_index (slot_words (chunk_at memory object)) n)) (sym same) ∙ names) in
+              let is : found ≡ index = same_Some found index (sym named ∙ ap (λ (n : ℕ). named_by memory (slice_index (slot_words (chunk_at memory object)) n)) (sym same) ∙ names) in
               subst (λ (i : ℕ). is_marked (set marks found true) i ≡ true) is (get_or-set_same marks found true false in_range)
         ];
         only = λ index marked. elim (is_marked-set marks found index marked) [
@@ -141,9 +138,6 @@ module _ (memory : Memory) (object slot : ℕ) (old : List Bool) (queue : List �
         ];
         measure = omega (arith, unmarked-set marks found in_range new, so_far.measure, length-append worklist (found ∷ []));
       } where
-        some_is : (i j : ℕ) → Some i ≡ Some j → i ≡ j
-        some_is i j e = cc
-
         edge : HasEdge memory object found
         edge = record { inside = inside; slot = slot; is_slot = is_slot; names = named }
 
@@ -180,16 +174,14 @@ starts memory special found lt =
     ] in
     record {
       sized = length-set blank special true ∙ length-replicate (object_count memory) false;
-      special = λ index is. subst (λ (i : ℕ). is_marked (set blank special true) i ≡ true) (some_is special index (sym found ∙ is)) (get_or-set_same blank special true false long);
+      special = λ index is. subst (λ (i : ℕ). is_marked (set blank special true) i ≡ true) (same_Some special index (sym found ∙ is)) (get_or-set_same blank special true false long);
       sound = λ index marked. record { start = special; is_special = found; path = []; leads = sym (only index marked) };
       queued = λ index there. elim there [
         | inl same ↦ subst (λ (i : ℕ). is_marked (set blank special true) i ≡ true) same (get_or-set_same blank special true false long)
         | inr none ↦ absurd none
       ];
       closed = λ index marked. inl (inl (sym (only index marked)));
-    } where
-      some_is : (i j : ℕ) → Some i ≡ Some j → i ≡ j
-      some_is i j e = cc
+    }
 
 -- ---- one object more
 
@@ -246,12 +238,9 @@ all_marked memory special marks found marking =
       closed = record { along = λ from to marked edge. elim (marking.closed from marked) [ inl none ↦ absurd none | inr all ↦ all to edge ] };
       reached = λ index marked. reached_from index (marking.sound index marked);
     }) where
-      some_is : (i j : ℕ) → Some i ≡ Some j → i ≡ j
-      some_is i j e = cc
-
       reached_from : (index : ℕ) → IsReachable memory index → (path : List ℕ) × Leads memory special path index
       reached_from index reached =
-          (reached.path, subst (λ (i : ℕ). Leads memory i reached.path index) (some_is reached.start special (sym reached.is_special ∙ found)) reached.leads)
+          (reached.path, subst (λ (i : ℕ). Leads memory i reached.path index) (same_Some reached.start special (sym reached.is_special ∙ found)) reached.leads)
 
 -- what stands on the worklist is an object
 pub marked_is_object : (memory : Memory) (marks : List Bool) (worklist : List ℕ) (index : ℕ) → IsMarking memory marks worklist → IsIn index worklist → index < object_count memory

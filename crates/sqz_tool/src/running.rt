@@ -11,10 +11,10 @@ use std::alloc::Global;
 /// Reads all of the source, finds the objects of the image that are reachable from its special objects
 /// array, and writes the image with these alone, slid together in their order.
 ///
-/// Refused exactly with the first of `TooShort`, `BadVersion`, `BadHeaderSize`, `BadDataSize`,
-/// `BadBase` and `Truncated` that applies to the bytes; else with `NotYet` exactly where they hold no
-/// plain image or a reachable object of it has a defect; or with `OutOfMemory`, or with `ReadFailed`
-/// where the source failed or did not end. The sink is then as it was. Refused with `WriteFailed` where
+/// Refused with `OutOfMemory`, or with `ReadFailed` where the source failed or did not end; else exactly
+/// with the first of `TooShort`, `BadVersion`, `BadHeaderSize`, `BadDataSize`, `BadBase` and `Truncated`
+/// that applies to the bytes; else with `NotYet` exactly where they hold no plain image or a reachable
+/// object of it has a defect. The sink is then as it was. Refused with `WriteFailed` where
 /// the sink failed or took too little at a time: a front of the answer, perhaps all of it, then went
 /// out.
 pub fn run<T, R: Source, W: Sink>(

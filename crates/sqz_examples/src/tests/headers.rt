@@ -4,24 +4,19 @@ use super::files::assert_refused;
 use sqz_image::Fault;
 use sqz_object::{Order, put_word};
 use std::alloc::{AllocError, Global};
+use std::process::Abort;
 use std::test::Fail;
 
-/// What the first header words of a file say.
-#[derive(Clone, Copy)]
-struct Stated {
-    version: u32,
-    header_size: u32,
-    data_size: u32,
-    base: u32,
-}
+/// The first four header words of a file: its version, the sizes of header and data, and the base.
+type Stated = [u32; 4];
 
 /// What those of a sound file say.
-const SOUND: Stated = Stated {
-    version: 6502,
-    header_size: 64,
-    data_size: 24,
-    base: 0x1000,
-};
+const SOUND: Stated = [6502, 64, 24, 0x1000];
+
+/// The header words that follow these, and the data words.
+const REST: [u32; 18] = [
+    0x1010, 0, 0, 0, 0, 0, 0, 0, 0, 0, 0, 0, 0x1007, 0x320F, 1, 1, 0x320B, 0x1000,
+];
 
 /// The first so many bytes of a file of 88 whose header says this.
 fn file_that_states(
@@ -30,155 +25,51 @@ fn file_that_states(
     stated: &Stated,
     length: usize,
 ) -> Result<Vec<u8>, AllocError> {
-    let Stated {
-        version,
-        header_size,
-        data_size,
-        base,
-    } = *stated;
-    let words = [
-        version,
-        header_size,
-        data_size,
-        base,
-        0x1010,
-        0,
-        0,
-        0,
-        0,
-        0,
-        0,
-        0,
-        0,
-        0,
-        0,
-        0,
-        0x1007,
-        0x320F,
-        1,
-        1,
-        0x320B,
-        0x1000,
-    ];
     let mut file = Vec::new(alloc);
-    for word in &words {
+    for word in stated {
+        file.extend_from_slice(&put_word(order, *word))?;
+    }
+    for word in &REST {
         file.extend_from_slice(&put_word(order, *word))?;
     }
     file.truncate(length);
     Ok(file)
 }
 
-#[test]
-fn one_fault(rt: HostRuntime) -> Result<(), Fail> {
-    let files = [
-        (SOUND, 63, Fault::TooShort),
-        (SOUND, 0, Fault::TooShort),
-        (
-            Stated {
-                version: 6504,
-                ..SOUND
-            },
-            88,
-            Fault::BadVersion,
-        ),
-        (
-            Stated {
-                header_size: 68,
-                ..SOUND
-            },
-            88,
-            Fault::BadHeaderSize,
-        ),
-        (
-            Stated {
-                data_size: 22,
-                ..SOUND
-            },
-            88,
-            Fault::BadDataSize,
-        ),
-        (
-            Stated {
-                base: 0x1002,
-                ..SOUND
-            },
-            88,
-            Fault::BadBase,
-        ),
-        (
-            Stated {
-                base: 0xFFFF_FFEC,
-                ..SOUND
-            },
-            88,
-            Fault::BadBase,
-        ),
-        (SOUND, 87, Fault::Truncated),
-        (SOUND, 64, Fault::Truncated),
-    ];
+/// Asserts that so many bytes of a file that states this are refused, in either order.
+fn assert_refuses<R: Abort + AllocGlobal>(
+    rt: &R,
+    stated: &Stated,
+    length: usize,
+    fault: Fault,
+) -> Result<(), Fail> {
     for order in [Order::Little, Order::Big] {
-        for (stated, length, fault) in &files {
-            let file = file_that_states(rt.alloc(), order, stated, *length)?;
-            assert_refused(&rt, file, *fault)?;
-        }
+        let file = file_that_states(rt.alloc(), order, stated, length)?;
+        assert_refused(rt, file, fault)?;
     }
     Ok(())
 }
 
 #[test]
+fn one_fault(rt: HostRuntime) -> Result<(), Fail> {
+    assert_refuses(&rt, &SOUND, 0, Fault::TooShort)?;
+    assert_refuses(&rt, &SOUND, 63, Fault::TooShort)?;
+    assert_refuses(&rt, &[6504, 64, 24, 0x1000], 88, Fault::BadVersion)?;
+    assert_refuses(&rt, &[6502, 68, 24, 0x1000], 88, Fault::BadHeaderSize)?;
+    assert_refuses(&rt, &[6502, 64, 22, 0x1000], 88, Fault::BadDataSize)?;
+    assert_refuses(&rt, &[6502, 64, 24, 0x1002], 88, Fault::BadBase)?;
+    assert_refuses(&rt, &[6502, 64, 24, 0xFFFF_FFEC], 88, Fault::BadBase)?;
+    assert_refuses(&rt, &SOUND, 87, Fault::Truncated)?;
+    assert_refuses(&rt, &SOUND, 64, Fault::Truncated)
+}
+
+#[test]
 fn first_of_two_faults(rt: HostRuntime) -> Result<(), Fail> {
-    let files = [
-        (
-            Stated {
-                version: 6504,
-                ..SOUND
-            },
-            63,
-            Fault::TooShort,
-        ),
-        (
-            Stated {
-                version: 6504,
-                header_size: 68,
-                ..SOUND
-            },
-            88,
-            Fault::BadVersion,
-        ),
-        (
-            Stated {
-                header_size: 68,
-                data_size: 22,
-                ..SOUND
-            },
-            88,
-            Fault::BadHeaderSize,
-        ),
-        (
-            Stated {
-                data_size: 22,
-                base: 0x1002,
-                ..SOUND
-            },
-            88,
-            Fault::BadDataSize,
-        ),
-        (
-            Stated {
-                base: 0x1002,
-                ..SOUND
-            },
-            87,
-            Fault::BadBase,
-        ),
-    ];
-    for order in [Order::Little, Order::Big] {
-        for (stated, length, fault) in &files {
-            let file = file_that_states(rt.alloc(), order, stated, *length)?;
-            assert_refused(&rt, file, *fault)?;
-        }
-    }
-    Ok(())
+    assert_refuses(&rt, &[6504, 64, 24, 0x1000], 63, Fault::TooShort)?;
+    assert_refuses(&rt, &[6504, 68, 24, 0x1000], 88, Fault::BadVersion)?;
+    assert_refuses(&rt, &[6502, 68, 22, 0x1000], 88, Fault::BadHeaderSize)?;
+    assert_refuses(&rt, &[6502, 64, 22, 0x1002], 88, Fault::BadDataSize)?;
+    assert_refuses(&rt, &[6502, 64, 24, 0x1002], 87, Fault::BadBase)
 }
 
 #[test]
