@@ -5,7 +5,7 @@ Usage: bench/compare.py [MIB ...]
 
 Each image is plain: objects of 1 to 20 words, a third of them dead, with integers and with
 pointers to objects near and far. Each line of the table is one run of the program and one of `cp`.
-The images are the same each time, and take about a second a MiB to make. No time is asserted.
+The images are the same each time, and take half a second a MiB to make. No time is asserted.
 
 The peak is read from /proc each millisecond, so it is the least that it can have been; `-` stands
 where a command ended before it was read. Of a run of a few milliseconds most is the start of a
@@ -55,7 +55,7 @@ def sizes_of_objects(generator, words):
 
 
 def name_live_objects(generator, data, fields, addresses, live):
-    """Puts the address of each live object but nil into a field of a live one before it."""
+    """Puts the address of each live object behind the first two into a field of a live one below it."""
     unused = list(fields[1])
     for index in range(2, len(fields)):
         if not live[index] or not unused:
