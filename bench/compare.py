@@ -4,8 +4,12 @@
 Usage: bench/compare.py [MIB ...]
 
 Each image is plain: objects of 1 to 20 words, a third of them dead, with integers and with
-pointers to objects near and far. Each line of the table is one run of the program and one of `cp`.
-The images are the same each time, and take half a second a MiB to make. No time is asserted.
+pointers to objects near and far. In the first images of the table far is up to half a MiB away, at
+each size, so that its lines differ in the size alone. In the others, `anywhere` in the image, so that
+the larger of them has not only more pointers but pointers that miss the caches more often.
+
+Each line of the table is one run of the program and one of `cp`. The images are the same each time,
+and take half a second a MiB to make. No time is asserted.
 
 The peak is read from /proc each millisecond, so it is the least that it can have been; `-` stands
 where a command ended before it was read. Of a run of a few milliseconds most is the start of a
@@ -30,6 +34,8 @@ BASE = 0x1000
 HEADER_WORDS = 16
 LARGEST = 20
 NEAR = 50
+FAR = 12_500
+ANYWHERE = 1 << 30
 RUNS = 3
 
 
@@ -54,31 +60,30 @@ def sizes_of_objects(generator, words):
     return sizes
 
 
-def name_live_objects(generator, data, fields, addresses, live):
+def name_live_objects(generator, data, fields, addresses, live, far):
     """Puts the address of each live object behind the first two into a field of a live one below it."""
     unused = list(fields[1])
     for index in range(2, len(fields)):
         if not live[index] or not unused:
             continue
         if generator.random() < 0.5:
-            other = below(generator, len(unused))
+            other = len(unused) - 1 - below(generator, min(len(unused), far * LARGEST // 2))
             unused[other], unused[-1] = unused[-1], unused[other]
         data[unused.pop()] = addresses[index]
         unused.extend(fields[index])
 
 
-def random_field(generator, addresses, place):
-    """An integer, or one of these addresses: from near this place among them, or from anywhere."""
+def random_field(generator, addresses, place, far):
+    """An integer, or one of these addresses: from near this place among them, or from far away."""
     kind = generator.random()
     if kind < 0.4:
         return generator.getrandbits(31) << 1 | 1
-    if kind < 0.7:
-        neighbour = place - NEAR + below(generator, 2 * NEAR + 1)
-        return addresses[max(0, min(len(addresses) - 1, neighbour))]
-    return addresses[below(generator, len(addresses))]
+    reach = NEAR if kind < 0.7 else far
+    lowest = max(0, place - reach)
+    return addresses[lowest + below(generator, min(len(addresses), place + reach + 1) - lowest)]
 
 
-def fill_fields(generator, data, fields, addresses, live):
+def fill_fields(generator, data, fields, addresses, live, far):
     """Fills the fields that are empty; those of live objects name live ones alone."""
     live_addresses = [address for address, alive in zip(addresses, live) if alive]
     live_before = 0
@@ -87,11 +92,11 @@ def fill_fields(generator, data, fields, addresses, live):
         live_before += live[index]
         for field in fields[index]:
             if data[field] == 0:
-                data[field] = random_field(generator, among, place)
+                data[field] = random_field(generator, among, place, far)
 
 
-def data_words(words):
-    """So many data words, of objects of which a third is dead."""
+def data_words(words, far):
+    """So many data words, of objects of which a third is dead, and which name others so far away."""
     generator = random.Random(words)
     sizes = sizes_of_objects(generator, words)
     firsts = [end - size for end, size in zip(itertools.accumulate(sizes), sizes)]
@@ -101,17 +106,17 @@ def data_words(words):
     data = array.array("I", bytes(4 * words))
     for first, size in zip(firsts, sizes):
         data[first] = short_header(size)
-    name_live_objects(generator, data, fields, addresses, live)
-    fill_fields(generator, data, fields, addresses, live)
+    name_live_objects(generator, data, fields, addresses, live, far)
+    fill_fields(generator, data, fields, addresses, live, far)
     return data
 
 
-def make_image(path, size):
-    """Makes a file of so many bytes that holds an image."""
+def make_image(path, size, far):
+    """Makes a file of so many bytes that holds an image, whose objects name others so far away."""
     words = size // 4 - HEADER_WORDS
     special = BASE + 4
     header = [6502, 64, 4 * words, BASE, special] + [0] * (HEADER_WORDS - 5)
-    image = array.array("I", header) + data_words(words)
+    image = array.array("I", header) + data_words(words, far)
     if sys.byteorder == "big":
         image.byteswap()
     with open(path, "wb") as file:
@@ -165,20 +170,21 @@ def columns(size, measured):
 def print_titles():
     """Prints the two lines over the table."""
     titles = f"{'seconds':>9} {'MiB/s':>8} {'peak MiB':>9} {'of file':>8}"
-    print(f"{'':>15} {'sqzcompact':<37}    cp")
-    print(f"{'image':>5} {'MiB out':>9} {titles}  {titles}")
+    print(f"{'':>24} {'sqzcompact':<37}    cp")
+    print(f"{'far':>8} {'image':>5} {'MiB out':>9} {titles}  {titles}")
 
 
-def compare(mib, folder):
+def compare(mib, far, folder):
     """Makes an image of so many MiB in the folder, and prints a line for each run over it."""
     image, answer, copy = (os.path.join(folder, name) for name in ("image", "answer", "copy"))
-    make_image(image, mib * MIB)
+    make_image(image, mib * MIB, far)
+    reach = "anywhere" if far == ANYWHERE else "1/2 MiB"
     for _ in range(RUNS):
         compacted = measure([PROGRAM, image, answer])
         copied = measure(["cp", image, copy])
         out = os.path.getsize(answer) / MIB
         sides = f"{columns(mib * MIB, compacted)}  {columns(mib * MIB, copied)}"
-        print(f"{mib:5} {out:9.2f} {sides}", flush=True)
+        print(f"{reach:>8} {mib:5} {out:9.2f} {sides}", flush=True)
 
 
 def main():
@@ -190,8 +196,9 @@ def main():
         sys.exit("the program was not built")
     print_titles()
     with tempfile.TemporaryDirectory() as folder:
-        for word in words:
-            compare(int(word), folder)
+        for far in (FAR, ANYWHERE):
+            for word in words:
+                compare(int(word), far, folder)
 
 
 if __name__ == "__main__":

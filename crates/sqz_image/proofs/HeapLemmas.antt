@@ -1,8 +1,10 @@
 -- What the parts of a heap say of the objects in its words.
 use Rattle.std.proofs.Common.{◌≡◌, ◌≢◌, ℕ, ◌+◌, ◌*◌, ◌%◌, ◌^◌, ◌<◌, ◌≤◌, ◌⊎◌, true, List, [], ◌∷◌, map, length, get_or, take, drop, slice_index, Option, Some, None, refl, sym, ap, subst, ◌∙◌, arith, inl, inr}
 use Rattle.std.specs.List.{concat, AllByRecursion}
-use Rattle.sqz_image.specs.Search.{IsPlaceOf, IsRising, IsFrom}
-use Rattle.std.proofs.lemmas.Bool.{or_cases, and_parts, eqb-true, cases_lt}
+use Rattle.sqz_image.specs.Ranks.{IsPlaceOf, IsRising, IsRanked, IsTable}
+use Rattle.sqz_image.specs.declared.ranks.Block.{Block}
+use Rattle.std.proofs.lemmas.Simd.{map-map}
+use Rattle.std.proofs.lemmas.Bool.{or_cases, and_parts, eqb-true}
 use Rattle.std.proofs.lemmas.List.{length-map, get_or-map, length-take-le, get_or-take, get_or-drop, length-drop}
 use Rattle.sqz_object.specs.declared.chunk.Chunk.{Chunk}
 use Rattle.sqz_object.specs.declared.chunk.Kind.{Kind}
@@ -11,8 +13,8 @@ use Rattle.sqz_object.specs.Chunk.{IsChunk, header_type, before, words_before, c
 use Rattle.sqz_object.specs.Reading.{BeginsWith, HasNoChunk, description}
 use Rattle.sqz_object.proofs.ChunkLemmas.{chunk_kind_is, chunk_prefix_unique}
 use Rattle.sqz_image.specs.Plain.{is_plain_chunk}
-use Rattle.sqz_image.specs.Memory.{cut, memory_of, IsListed, IsKept, IsPlainMemory}
-use Rattle.sqz_image.specs.Objects.{Memory, Object, objects_of, objects, object_at, address_in, find}
+use Rattle.sqz_image.specs.Memory.{cut, memory_of, base_headers, IsListed, IsKept, IsPlainMemory}
+use Rattle.sqz_image.specs.Objects.{Memory, Object, objects_of, objects, object_at, header_index, address_in, find}
 use Rattle.sqz_object.specs.declared.order.Order.{Order}
 use Rattle.sqz_object.specs.Partition.{IsPartition}
 use Rattle.std.specs.Prelude.{is_some}
@@ -47,9 +49,9 @@ abbrev no_object : Object
 no_object = record { first = 0; chunk = [] }
 
 -- what is kept of the memory that a view gives, about the memory that it is
-pub listed_is : {view memory : Memory} {words firsts addresses offsets : List ℕ} {special_object : ℕ} → view ≡ memory → IsKept view words firsts addresses offsets special_object → IsListed memory words firsts addresses
-listed_is {words = words} {firsts = firsts} {addresses = addresses} is heap =
-    subst (λ (m : Memory). IsListed m words firsts addresses) is heap.listed
+pub listed_is : {view memory : Memory} {words firsts : List ℕ} {blocks : List Block} {special_object : ℕ} → view ≡ memory → IsKept view words firsts blocks special_object → IsListed memory words firsts
+listed_is {words = words} {firsts = firsts} is heap =
+    subst (λ (m : Memory). IsListed m words firsts) is heap.listed
 
 -- what the words of a heap have at one of its objects
 pub record HasObject (words : List ℕ) (object : Object) : Type 0 where
@@ -58,7 +60,7 @@ pub record HasObject (words : List ℕ) (object : Object) : Type 0 where
   pub plain : is_plain_chunk object.chunk ≡ true
   pub header : before object.chunk < length object.chunk
 
-pub has_object : {memory : Memory} {words firsts addresses : List ℕ} (heap : IsListed memory words firsts addresses) (index : ℕ) → index < length (objects memory) → HasObject words (object_at memory index)
+pub has_object : {memory : Memory} {words firsts : List ℕ} (heap : IsListed memory words firsts) (index : ℕ) → index < length (objects memory) → HasObject words (object_at memory index)
 has_object {memory = memory} {words = words} heap index lt =
     let object = get_or (objects memory) index no_object in
     let is_chunk : IsChunk object.chunk =
@@ -70,57 +72,79 @@ has_object {memory = memory} {words = words} heap index lt =
       header = before-chunk object.chunk is_chunk;
     }
 
-pub first_there : {memory : Memory} {words firsts addresses : List ℕ} (heap : IsListed memory words firsts addresses) (index : ℕ) → index < length (objects memory) → get_or firsts index 0 ≡ (object_at memory index).first
+pub first_there : {memory : Memory} {words firsts : List ℕ} (heap : IsListed memory words firsts) (index : ℕ) → index < length (objects memory) → get_or firsts index 0 ≡ (object_at memory index).first
 first_there {memory = memory} heap index lt =
     ap (λ (xs : List ℕ). get_or xs index 0) heap.first_words ∙ get_or-map (λ (o : Object). o.first) (objects memory) index no_object 0 lt
 
-pub address_there : {memory : Memory} {words firsts addresses : List ℕ} (heap : IsListed memory words firsts addresses) (index : ℕ) → index < length (objects memory) → get_or addresses index 0 ≡ address_in memory.base (object_at memory index)
-address_there {memory = memory} heap index lt =
-    ap (λ (xs : List ℕ). get_or xs index 0) heap.object_addresses ∙ get_or-map (address_in memory.base) (objects memory) index no_object 0 lt
-
 -- how many objects there are, by the parts
-pub length_firsts : {memory : Memory} {words firsts addresses : List ℕ} (heap : IsListed memory words firsts addresses) → length firsts ≡ length (objects memory)
+pub length_firsts : {memory : Memory} {words firsts : List ℕ} (heap : IsListed memory words firsts) → length firsts ≡ length (objects memory)
 length_firsts {memory = memory} heap = ap length heap.first_words ∙ length-map (objects memory) (λ (o : Object). o.first)
 
-pub length_addresses : {memory : Memory} {words firsts addresses : List ℕ} (heap : IsListed memory words firsts addresses) → length addresses ≡ length (objects memory)
-length_addresses {memory = memory} heap = ap length heap.object_addresses ∙ length-map (objects memory) (address_in memory.base)
-
-pub few_objects : {memory : Memory} {words firsts addresses : List ℕ} (heap : IsListed memory words firsts addresses) → length (objects memory) < 2 ^ 30
+pub few_objects : {memory : Memory} {words firsts : List ℕ} (heap : IsListed memory words firsts) → length (objects memory) < 2 ^ 30
 few_objects {memory = memory} heap =
     omega (arith, length-objects_of memory.chunks heap.partition.each, ap length heap.partition.whole, heap.few_words)
 
-pub few_addresses : {memory : Memory} {words firsts addresses : List ℕ} (heap : IsListed memory words firsts addresses) → length addresses ≤ 2 ^ 30
-few_addresses heap = omega (arith, length_addresses heap, few_objects heap)
+-- ---- the base headers
 
--- addresses rise from the base on
-addresses_order : {memory : Memory} {words firsts addresses : List ℕ} (heap : IsListed memory words firsts addresses) (i j : ℕ) → i < j → j < length addresses → get_or addresses i 0 < get_or addresses j 0
-addresses_order {memory = memory} {addresses = addresses} heap i j lt in_range =
-    Rises_order memory.base addresses i j (subst (Rises memory.base) (sym heap.object_addresses) (addresses_rise memory.base memory.chunks heap.partition.each)) lt in_range
+abbrev addresses : Memory → List ℕ
+addresses memory = map (address_in memory.base) (objects memory)
 
-pub addresses_sorted : {memory : Memory} {words firsts addresses : List ℕ} (heap : IsListed memory words firsts addresses) → IsRising addresses
-addresses_sorted {addresses = addresses} heap i j le in_range =
-    elim (cases_lt i j) [
-      | inl lt ↦ let less = addresses_order heap i j lt in_range in omega arith
-      | inr ge ↦ let same : i ≡ j = omega arith in rw same (omega arith)
-    ]
+length_headers : (memory : Memory) → length (base_headers memory) ≡ length (objects memory)
+length_headers memory = length-map (objects memory) header_index
 
-pub addresses_above : {memory : Memory} {words firsts addresses : List ℕ} (heap : IsListed memory words firsts addresses) → IsFrom memory.base addresses
-addresses_above heap i lt =
-    let is = address_there heap i (omega (arith, length_addresses heap)) in
-    omega (arith, is)
+addresses_of_headers : (memory : Memory) → map (λ index. memory.base + 4 * index) (base_headers memory) ≡ addresses memory
+addresses_of_headers memory = map-map (λ index. memory.base + 4 * index) header_index (objects memory)
 
-pub find_found : {memory : Memory} {words firsts addresses : List ℕ} (heap : IsListed memory words firsts addresses) (i address : ℕ) → i < length addresses → get_or addresses i 0 ≡ address → find memory address ≡ Some i
-find_found {memory = memory} {addresses = addresses} heap i address lt at =
-    find_in_at memory.base (objects memory) addresses i address heap.object_addresses (subst (Rises memory.base) (sym heap.object_addresses) (addresses_rise memory.base memory.chunks heap.partition.each)) lt at
+addresses_rising : {memory : Memory} {words firsts : List ℕ} (heap : IsListed memory words firsts) → Rises memory.base (addresses memory)
+addresses_rising {memory = memory} heap = addresses_rise memory.base memory.chunks heap.partition.each
 
-pub find_missing : {memory : Memory} {words firsts addresses : List ℕ} (heap : IsListed memory words firsts addresses) (address : ℕ) → ((i : ℕ) → i < length addresses → get_or addresses i 0 ≢ address) → find memory address ≡ None
-find_missing {memory = memory} {addresses = addresses} heap address none =
-    find_in_none memory.base (objects memory) addresses address heap.object_addresses none
+pub headers_rise : {memory : Memory} {words firsts : List ℕ} (heap : IsListed memory words firsts) → IsRising (base_headers memory)
+headers_rise {memory = memory} heap i j lt in_range =
+    let inside : j < length (objects memory) = omega (arith, length_headers memory) in
+    let earlier = get_or-map header_index (objects memory) i no_object 0 (omega arith) in
+    let later = get_or-map header_index (objects memory) j no_object 0 inside in
+    let first = get_or-map (address_in memory.base) (objects memory) i no_object 0 (omega arith) in
+    let second = get_or-map (address_in memory.base) (objects memory) j no_object 0 inside in
+    let order = Rises_order memory.base (addresses memory) i j (addresses_rising heap) lt (omega (arith, length-map (objects memory) (address_in memory.base))) in
+    omega (arith, earlier, later, first, second, order)
+
+-- ---- the object with an address
+
+-- the addresses of words, by their indexes
+module _ (base : ℕ) (indexes : List ℕ) where
+  abbrev address_at : ℕ → ℕ
+  address_at index = base + 4 * index
+
+  at_place : (i : ℕ) → i < length (map address_at indexes) → slice_index (map address_at indexes) i ≡ address_at (slice_index indexes i)
+  at_place i lt = get_or-map address_at indexes i 0 0 (omega (arith, length-map indexes address_at))
+
+  pub no_address : (address : ℕ) → ((index : ℕ) → address_at index ≢ address) → IsPlaceOf (map address_at indexes) address None
+  no_address address none i lt is = none (slice_index indexes i) (sym (at_place i lt) ∙ is)
+
+  pub place_of_address : (index address : ℕ) → address_at index ≡ address → (r : Option ℕ) → IsPlaceOf indexes index r → IsPlaceOf (map address_at indexes) address r
+  place_of_address index address same None missing =
+      λ i lt is. missing i (omega (arith, lt, length-map indexes address_at)) (omega (arith, at_place i lt, is, same))
+  place_of_address index address same (Some i) found =
+      let inside : i < length (map address_at indexes) = omega (arith, found.0, length-map indexes address_at) in
+      (inside, at_place i inside ∙ ap address_at found.1 ∙ same)
 
 -- what a search of the addresses says of the objects
-pub find_by_search : {memory : Memory} {words firsts addresses : List ℕ} (heap : IsListed memory words firsts addresses) (address : ℕ) (r : Option ℕ) → IsPlaceOf addresses address r → r ≡ find memory address
-find_by_search heap address (Some i) found = sym (find_found heap i address found.0 found.1)
-find_by_search heap address None missing = sym (find_missing heap address missing)
+pub find_by_search : {memory : Memory} {words firsts : List ℕ} (heap : IsListed memory words firsts) (address : ℕ) (r : Option ℕ) → IsPlaceOf (addresses memory) address r → r ≡ find memory address
+find_by_search {memory = memory} heap address (Some i) found =
+    sym (find_in_at memory.base (objects memory) (addresses memory) i address refl (addresses_rising heap) found.0 found.1)
+find_by_search {memory = memory} heap address None missing =
+    sym (find_in_none memory.base (objects memory) (addresses memory) address refl missing)
+
+-- the same of a look into a table of the base headers
+pub find_in_table : {memory : Memory} {words firsts : List ℕ} {blocks : List Block} (heap : IsListed memory words firsts) (address : ℕ) (r : Option ℕ) → IsRanked (base_headers memory) (length (base_headers memory)) blocks → ((indexes : List ℕ) → IsRanked indexes (length indexes) blocks → IsPlaceOf (map (λ index. memory.base + 4 * index) indexes) address r) → r ≡ find memory address
+find_in_table {memory = memory} heap address r ranked looked =
+    find_by_search heap address r (subst (λ (xs : List ℕ). IsPlaceOf xs address r) (addresses_of_headers memory) (looked (base_headers memory) ranked))
+
+pub few_headers : {memory : Memory} {words firsts : List ℕ} (heap : IsListed memory words firsts) → length (base_headers memory) < 2 ^ 30
+few_headers {memory = memory} heap = omega (arith, length_headers memory, few_objects heap)
+
+pub table_of : {memory : Memory} {words firsts : List ℕ} {blocks : List Block} (heap : IsListed memory words firsts) → IsRanked (base_headers memory) (length (base_headers memory)) blocks → IsTable blocks
+table_of {memory = memory} heap ranked = record { numbers = base_headers memory; few = few_headers heap; ranked = ranked }
 
 -- one word of an object, and the word of the heap that it is
 pub word_there : {words : List ℕ} {object : Object} (here : HasObject words object) (k : ℕ) → k < length object.chunk → get_or words (object.first + k) 0 ≡ slice_index object.chunk k
@@ -149,18 +173,22 @@ header_there {words = words} {object = object} here =
 -- ---- the heap of an index
 
 -- an index is what a heap keeps
-pub listed_of : (order : Order) (base special : ℕ) (words firsts addresses : List ℕ) → IsIndex words base firsts addresses → length words < 2 ^ 30 → base + 4 * length words ≤ 2 ^ 32 → base % 4 ≡ 0 → IsListed (memory_of order base special words) words firsts addresses
-listed_of order base special words firsts addresses index few within aligned =
+pub listed_of : (order : Order) (base special : ℕ) (words firsts headers : List ℕ) → IsIndex words firsts headers → length words < 2 ^ 30 → base + 4 * length words ≤ 2 ^ 32 → base % 4 ≡ 0 → IsListed (memory_of order base special words) words firsts
+listed_of order base special words firsts headers index few within aligned =
     let same : cut words ≡ index.chunks = cut-partition words index.chunks index.parts.partition in
     record {
       partition = subst (IsPartition words) (sym same) index.parts.partition;
       plain = subst (AllByRecursion (λ chunk. is_plain_chunk chunk ≡ true)) (sym same) index.parts.plain;
       first_words = index.first_words ∙ ap (λ (cs : List (List ℕ)). map (λ o. o.first) (objects_of cs)) (sym same);
-      object_addresses = index.object_addresses ∙ ap (λ (cs : List (List ℕ)). map (address_in base) (objects_of cs)) (sym same);
       few_words = few;
       within = within;
       aligned = aligned;
     }
+
+-- an index has the base headers of the memory
+pub headers_of : (order : Order) (base special : ℕ) (words firsts headers_read : List ℕ) → IsIndex words firsts headers_read → headers_read ≡ base_headers (memory_of order base special words)
+headers_of order base special words firsts headers_read index =
+    index.base_headers ∙ ap (λ (cs : List (List ℕ)). map header_index (objects_of cs)) (sym (cut-partition words index.chunks index.parts.partition))
 
 -- a plain memory of these words is the one that is kept
 pub plain_memory_is : (order : Order) (base special : ℕ) (words : List ℕ) (memory : Memory) → IsPlainMemory order base special words memory → memory ≡ memory_of order base special words
@@ -176,8 +204,8 @@ special_missing order base special words missing memory plain =
     let found : is_some (find (memory_of order base special words) special) ≡ true = ap (λ (m : Memory). is_some (find m m.special)) (sym is) ∙ plain.found in
     false≢true (ap is_some (sym missing) ∙ found)
 
-pub plain_memory_of : (order : Order) (base special special_object : ℕ) (words firsts addresses : List ℕ) → IsIndex words base firsts addresses → find (memory_of order base special words) special ≡ Some special_object → IsPlainMemory order base special words (memory_of order base special words)
-plain_memory_of order base special special_object words firsts addresses index found =
+pub plain_memory_of : (order : Order) (base special special_object : ℕ) (words firsts headers : List ℕ) → IsIndex words firsts headers → find (memory_of order base special words) special ≡ Some special_object → IsPlainMemory order base special words (memory_of order base special words)
+plain_memory_of order base special special_object words firsts headers index found =
     let same : cut words ≡ index.chunks = cut-partition words index.chunks index.parts.partition in
     record {
       in_order = refl;

@@ -1,25 +1,25 @@
 -- An index that grows chunk by chunk.
-use Rattle.std.proofs.Common.{◌≡◌, ℕ, ◌+◌, ◌*◌, ◌<◌, ◌≤◌, true, false, cond, List, [], ◌∷◌, ◌++◌, map, length, take, drop, refl, sym, ap, subst, ◌∙◌, arith, zero-add, add-zero, add_assoc, take-add}
+use Rattle.std.proofs.Common.{◌≡◌, ℕ, ◌+◌, ◌<◌, ◌≤◌, true, false, cond, List, [], ◌∷◌, ◌++◌, map, length, take, drop, refl, sym, ap, subst, ◌∙◌, arith, zero-add, add-zero, add_assoc, take-add}
 use Rattle.std.specs.List.{concat, AllByRecursion}
 use Rattle.std.proofs.lemmas.List.{length-append, append_assoc, append-nil, map-append, take_all, take-append-drop, append_cancel_left, take_at, length-drop, length-take-le}
 use Rattle.sqz_object.specs.declared.chunk.Chunk.{Chunk}
 use Rattle.sqz_object.specs.declared.chunk.Kind.{Kind}
 use Rattle.sqz_object.specs.declared.chunk.Kind.TheVariants.{Three, Two, Free, Short}
 use Rattle.sqz_object.specs.Reading.{BeginsWith}
-use Rattle.sqz_object.specs.Chunk.{IsChunk, IsChunkOf, is_object, before}
-use Rattle.sqz_object.proofs.ChunkLemmas.{chunk_front_unique}
+use Rattle.sqz_object.specs.Chunk.{IsChunk, IsChunkOf, is_object, before, words_before}
+use Rattle.sqz_object.proofs.ChunkLemmas.{chunk_front_unique, chunk_kind_is}
 use Rattle.sqz_image.specs.Plain.{is_plain_chunk}
-use Rattle.sqz_image.specs.Objects.{Object, objects_of, moved_on, address_in}
+use Rattle.sqz_image.specs.Objects.{Object, objects_of, moved_on, header_index}
 use Rattle.sqz_image.specs.Index.{HasPlainPartition, IsIndex}
 use Rattle.sqz_image.proofs.CutLemmas.{length-chunk}
 
 -- plain chunks reach up to a place, and these are the objects among them
-pub record IsIndexedUpTo (words : List ℕ) (base place : ℕ) (firsts addresses : List ℕ) : Type 0 where
+pub record IsIndexedUpTo (words : List ℕ) (place : ℕ) (firsts headers : List ℕ) : Type 0 where
   pub inside : place ≤ length words
   pub chunks : List (List ℕ)
   pub parts : HasPlainPartition (take place words) chunks
   pub first_words : firsts ≡ map (λ object. object.first) (objects_of chunks)
-  pub object_addresses : addresses ≡ map (address_in base) (objects_of chunks)
+  pub base_headers : headers ≡ map header_index (objects_of chunks)
 
 -- ---- one chunk more
 
@@ -75,7 +75,7 @@ HasPlainPartition-push words place count chunks parts is_chunk plain =
       plain = All-push (λ c. is_plain_chunk c ≡ true) chunks chunk parts.plain plain;
     }
 
--- the kind of a plain chunk says whether it is an object, and that its base header comes first
+-- the kind of a plain chunk says whether it is an object
 free_is_no_object : (kind : Kind) (chunk : List ℕ) → IsChunkOf kind chunk → kind ≡ Free → is_object chunk ≡ false
 free_is_no_object Free (free ∷ rest) h e = rw h.0 refl
 free_is_no_object Free [] h e = absurd h
@@ -83,9 +83,9 @@ free_is_no_object Three chunk h e = absurd cc
 free_is_no_object Two chunk h e = absurd cc
 free_is_no_object Short chunk h e = absurd cc
 
-plain_is_object : (kind : Kind) (chunk : List ℕ) → IsChunkOf kind chunk → is_plain_chunk chunk ≡ true → (kind ≡ Free → ⊥) → (is_object chunk ≡ true) × (before chunk ≡ 0)
+plain_is_object : (kind : Kind) (chunk : List ℕ) → IsChunkOf kind chunk → is_plain_chunk chunk ≡ true → (kind ≡ Free → ⊥) → is_object chunk ≡ true
 plain_is_object Free chunk h plain used = absurd (used refl)
-plain_is_object Short (base ∷ fields) h plain used = (rw h.0 refl, rw h.0 refl)
+plain_is_object Short (base ∷ fields) h plain used = rw h.0 refl
 plain_is_object Short [] h plain used = absurd h
 plain_is_object Two (class ∷ base ∷ fields) h plain used = absurd (let e : false ≡ true = rw h.0 at plain in cc)
 plain_is_object Two (class ∷ []) h plain used = absurd h
@@ -95,8 +95,8 @@ plain_is_object Three (size ∷ class ∷ []) h plain used = absurd h
 plain_is_object Three (size ∷ []) h plain used = absurd h
 plain_is_object Three [] h plain used = absurd h
 
-pub step_free : (words : List ℕ) (base place : ℕ) (firsts addresses : List ℕ) (chunk : Chunk) → IsIndexedUpTo words base place firsts addresses → BeginsWith (drop place words) chunk → is_plain_chunk (take chunk.length (drop place words)) ≡ true → chunk.kind ≡ Free → IsIndexedUpTo words base (place + chunk.length) firsts addresses
-step_free words base place firsts addresses chunk so_far begins plain free =
+pub step_free : (words : List ℕ) (place : ℕ) (firsts headers : List ℕ) (chunk : Chunk) → IsIndexedUpTo words place firsts headers → BeginsWith (drop place words) chunk → is_plain_chunk (take chunk.length (drop place words)) ≡ true → chunk.kind ≡ Free → IsIndexedUpTo words (place + chunk.length) firsts headers
+step_free words place firsts headers chunk so_far begins plain free =
     let here = take chunk.length (drop place words) in
     let same = objects_of-push_free so_far.chunks here (free_is_no_object chunk.kind here begins.is_chunk free) in
     record {
@@ -104,17 +104,17 @@ step_free words base place firsts addresses chunk so_far begins plain free =
       chunks = so_far.chunks ++ here ∷ [];
       parts = HasPlainPartition-push words place chunk.length so_far.chunks so_far.parts (chunk.kind, begins.is_chunk) plain;
       first_words = so_far.first_words ∙ ap (λ (os : List Object). map (λ o. o.first) os) (sym same);
-      object_addresses = so_far.object_addresses ∙ ap (λ (os : List Object). map (address_in base) os) (sym same);
+      base_headers = so_far.base_headers ∙ ap (λ (os : List Object). map header_index os) (sym same);
     }
 
-pub step_object : (words : List ℕ) (base place : ℕ) (firsts addresses : List ℕ) (chunk : Chunk) → IsIndexedUpTo words base place firsts addresses → BeginsWith (drop place words) chunk → is_plain_chunk (take chunk.length (drop place words)) ≡ true → (chunk.kind ≡ Free → ⊥) → IsIndexedUpTo words base (place + chunk.length) (firsts ++ place ∷ []) (addresses ++ (base + 4 * place) ∷ [])
-step_object words base place firsts addresses chunk so_far begins plain used =
+pub step_object : (words : List ℕ) (place : ℕ) (firsts headers : List ℕ) (chunk : Chunk) → IsIndexedUpTo words place firsts headers → BeginsWith (drop place words) chunk → is_plain_chunk (take chunk.length (drop place words)) ≡ true → (chunk.kind ≡ Free → ⊥) → IsIndexedUpTo words (place + chunk.length) (firsts ++ place ∷ []) (headers ++ (place + chunk.before) ∷ [])
+step_object words place firsts headers chunk so_far begins plain used =
     let here = take chunk.length (drop place words) in
-    let facts = plain_is_object chunk.kind here begins.is_chunk plain used in
-    let same = objects_of-push so_far.chunks here facts.0 in
+    let same = objects_of-push so_far.chunks here (plain_is_object chunk.kind here begins.is_chunk plain used) in
+    let before_header : chunk.before ≡ before here = begins.before ∙ ap words_before (sym (chunk_kind_is chunk.kind here begins.is_chunk)) in
     let at : length (concat so_far.chunks) ≡ place = ap length so_far.parts.partition.whole ∙ length-take-le place words so_far.inside in
     let object : Object = record { first = length (concat so_far.chunks); chunk = here } in
-    let address : address_in base object ≡ base + 4 * place = omega (arith, facts.1, at) in
+    let header : header_index object ≡ place + chunk.before = omega (arith, before_header, at) in
     record {
       inside = omega (arith, so_far.inside, begins.inside, length-drop place words);
       chunks = so_far.chunks ++ here ∷ [];
@@ -122,30 +122,30 @@ step_object words base place firsts addresses chunk so_far begins plain used =
       first_words =
           ap (λ (xs : List ℕ). xs ++ place ∷ []) so_far.first_words ∙ ap (λ (n : ℕ). map (λ (o : Object). o.first) (objects_of so_far.chunks) ++ n ∷ []) (sym at)
           ∙ sym (map-append (λ (o : Object). o.first) (objects_of so_far.chunks) (object ∷ [])) ∙ ap (λ (os : List Object). map (λ o. o.first) os) (sym same);
-      object_addresses =
-          ap (λ (xs : List ℕ). xs ++ (base + 4 * place) ∷ []) so_far.object_addresses ∙ ap (λ (n : ℕ). map (address_in base) (objects_of so_far.chunks) ++ n ∷ []) (sym address)
-          ∙ sym (map-append (address_in base) (objects_of so_far.chunks) (object ∷ [])) ∙ ap (λ (os : List Object). map (address_in base) os) (sym same);
+      base_headers =
+          ap (λ (xs : List ℕ). xs ++ (place + chunk.before) ∷ []) so_far.base_headers ∙ ap (λ (n : ℕ). map header_index (objects_of so_far.chunks) ++ n ∷ []) (sym header)
+          ∙ sym (map-append header_index (objects_of so_far.chunks) (object ∷ [])) ∙ ap (λ (os : List Object). map header_index os) (sym same);
     }
 
 -- ---- where it starts and ends
 
-pub start : (words : List ℕ) (base : ℕ) → IsIndexedUpTo words base 0 [] []
-start words base =
+pub start : (words : List ℕ) → IsIndexedUpTo words 0 [] []
+start words =
     record {
       inside = omega arith;
       chunks = [];
       parts = record { partition = record { each = tt; whole = refl }; plain = tt };
       first_words = refl;
-      object_addresses = refl;
+      base_headers = refl;
     }
 
-pub whole_index : (words : List ℕ) (base place : ℕ) (firsts addresses : List ℕ) → IsIndexedUpTo words base place firsts addresses → length words ≤ place → IsIndex words base firsts addresses
-whole_index words base place firsts addresses so_far le =
+pub whole_index : (words : List ℕ) (place : ℕ) (firsts headers : List ℕ) → IsIndexedUpTo words place firsts headers → length words ≤ place → IsIndex words firsts headers
+whole_index words place firsts headers so_far le =
     record {
       chunks = so_far.chunks;
       parts = subst (λ (w : List ℕ). HasPlainPartition w so_far.chunks) (take_all place words le) so_far.parts;
       first_words = so_far.first_words;
-      object_addresses = so_far.object_addresses;
+      base_headers = so_far.base_headers;
     }
 
 -- ---- there is no other way
@@ -178,8 +178,8 @@ no_tail words place lt none tail =
           ap (take (length chunk)) (sym whole) ∙ take_at chunk (concat chunks) (length chunk) refl in
           none (length chunk) (subst IsChunk (sym front) each.0) (ap is_plain_chunk front ∙ plain.0)
 
-pub no_partition : (words : List ℕ) (base place : ℕ) (firsts addresses : List ℕ) → IsIndexedUpTo words base place firsts addresses → place < length words → ((count : ℕ) → IsChunk (take count (drop place words)) → is_plain_chunk (take count (drop place words)) ≡ true → ⊥) → (chunks : List (List ℕ)) → HasPlainPartition words chunks → ⊥
-no_partition words base place firsts addresses so_far lt none chunks parts =
+pub no_partition : (words : List ℕ) (place : ℕ) (firsts headers : List ℕ) → IsIndexedUpTo words place firsts headers → place < length words → ((count : ℕ) → IsChunk (take count (drop place words)) → is_plain_chunk (take count (drop place words)) ≡ true → ⊥) → (chunks : List (List ℕ)) → HasPlainPartition words chunks → ⊥
+no_partition words place firsts headers so_far lt none chunks parts =
     no_tail words place lt none
     (tail_after so_far.chunks chunks (drop place words) so_far.parts.partition.each parts.partition.each parts.plain
     (parts.partition.whole ∙ sym (take-append-drop place words) ∙ ap (λ (t : List ℕ). t ++ drop place words) (sym so_far.parts.partition.whole)))

@@ -1,6 +1,6 @@
 pub mod ObjectLemmas
 pub mod CutLemmas
-pub mod OffsetLemmas
+pub mod RankLemmas
 pub mod HeapLemmas
 pub mod PlainLemmas
 pub mod IndexLemmas

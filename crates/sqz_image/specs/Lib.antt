@@ -5,6 +5,6 @@ pub mod Refusals
 pub mod Plain
 pub mod Devices
 pub mod Memory
-pub mod Search
+pub mod Ranks
 pub mod Index
 pub mod MemoryDevices

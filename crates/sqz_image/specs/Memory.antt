@@ -5,8 +5,9 @@ use Rattle.sqz_object.specs.declared.order.Order.{Order}
 use Rattle.sqz_object.specs.Partition.{IsPartition, stated_length}
 use Rattle.sqz_image.specs.Plain.{is_plain_chunk}
 use Rattle.sqz_image.specs.Index.{HasPlainPartition}
-use Rattle.sqz_image.specs.Search.{IsOffsetTable}
-use Rattle.sqz_image.specs.Objects.{Memory, objects, address_in, find}
+use Rattle.sqz_image.specs.declared.ranks.Block.{Block}
+use Rattle.sqz_image.specs.Ranks.{IsRanked}
+use Rattle.sqz_image.specs.Objects.{Memory, objects, header_index, find}
 
 -- words cut by the lengths that their headers state, as many times at most as is said
 abbrev pub cut_at_most : ℕ → List ℕ → List (List ℕ)
@@ -29,20 +30,23 @@ memory_of order base special words =
       chunks = cut words;
     }
 
--- what is kept of an object memory: its words, and the first word and the address of each object
-pub record IsListed (memory : Memory) (words firsts addresses : List ℕ) : Type 0 where
+-- the indexes of the objects' base headers
+abbrev pub base_headers : Memory → List ℕ
+base_headers memory = map header_index (objects memory)
+
+-- what is kept of an object memory: its words, and the index of the first word of each object
+pub record IsListed (memory : Memory) (words firsts : List ℕ) : Type 0 where
   pub partition : IsPartition words memory.chunks
   pub plain : AllByRecursion (λ chunk. is_plain_chunk chunk ≡ true) memory.chunks
   pub first_words : firsts ≡ map (λ object. object.first) (objects memory)
-  pub object_addresses : addresses ≡ map (address_in memory.base) (objects memory)
   pub few_words : length words < 2 ^ 30
   pub within : memory.base + 4 * length words ≤ 2 ^ 32
   pub aligned : memory.base % 4 ≡ 0
 
--- and the table by which an address is found, and which object the special objects array is
-pub record IsKept (memory : Memory) (words firsts addresses offsets : List ℕ) (special_object : ℕ) : Type 0 where
-  pub listed : IsListed memory words firsts addresses
-  pub table : IsOffsetTable addresses memory.base (length addresses) offsets
+-- and the table of their base headers, by which an address is found, and which object the special objects array is
+pub record IsKept (memory : Memory) (words firsts : List ℕ) (blocks : List Block) (special_object : ℕ) : Type 0 where
+  pub listed : IsListed memory words firsts
+  pub headers : IsRanked (base_headers memory) (length (base_headers memory)) blocks
   pub found : find memory memory.special ≡ Some special_object
 
 -- the object memory with these data words, where they are plain chunks and the special objects array is there

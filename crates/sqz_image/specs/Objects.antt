@@ -39,9 +39,13 @@ object_at memory index = slice_index_or (objects memory) index record { first = 
 abbrev pub chunk_at : Memory → ℕ → List ℕ
 chunk_at memory index = (object_at memory index).chunk
 
+-- the index of an object's base header among the data words
+abbrev pub header_index : Object → ℕ
+header_index object = object.first + before object.chunk
+
 -- an object's address is that of its base header
 abbrev pub address_in : ℕ → Object → ℕ
-address_in base object = base + 4 * (object.first + before object.chunk)
+address_in base object = base + 4 * header_index object
 
 abbrev pub address_of : Memory → ℕ → ℕ
 address_of memory index = address_in memory.base (object_at memory index)

@@ -1,14 +1,15 @@
 //! The object memory of an image, and its objects.
 
-ghost use Rattle.std.specs.Prelude.{◌≡◌, ◌+◌, ◌-◌, ◌*◌, ◌%◌, ◌^◌, ◌<◌, ◌≤◌, length, slice_index, option_map, Some, IfOk, IfSome, IsNone};
+ghost use Rattle.std.specs.Prelude.{◌≡◌, ℕ, ◌+◌, ◌-◌, ◌*◌, ◌%◌, ◌^◌, ◌<◌, ◌≤◌, List, map, length, slice_index, Some, IfOk, IfSome, IsNone};
 ghost use Rattle.std.specs.List.{concat};
 ghost use Rattle.sqz_object.specs.Chunk.{fields};
 ghost use Rattle.sqz_object.specs.Reading.{description};
 ghost use Rattle.sqz_image.specs.Objects.{Memory, object_count, object_at, address_of, chunk_at as chunk_words, find};
 ghost use Rattle.sqz_image.specs.Memory.{IsPlainMemory};
+ghost use Rattle.sqz_image.specs.Ranks.{IsPlaceOf, IsRanked, IsTable};
 
 use crate::index::{Index, index_of};
-use crate::search::{block_offsets, place_of};
+use crate::ranks::{Block, place_of, ranked};
 use sqz_object::{Chunk, Order, chunk_at};
 use std::alloc::{AllocError, Global};
 use std::marker::Model;
@@ -24,10 +25,8 @@ pub struct Heap {
     words: Vec<u32>,
     /// The index of the first word of each object's chunk.
     firsts: Vec<u32>,
-    /// The address of each object.
-    addresses: Vec<u32>,
-    /// The block offset table of these addresses.
-    offsets: Vec<u32>,
+    /// The table of the indexes of the base headers.
+    headers: Vec<Block>,
 }
 
 impl Model for Heap {
@@ -38,7 +37,7 @@ impl Model for Heap {
 
     ghost view = { λ heap. memory_of heap.order heap.base heap.special heap.words.items };
 
-    ghost invariant = { λ heap. IsKept (memory_of heap.order heap.base heap.special heap.words.items) heap.words.items heap.firsts.items heap.addresses.items heap.offsets.items heap.special_object };
+    ghost invariant = { λ heap. IsKept (memory_of heap.order heap.base heap.special heap.words.items) heap.words.items heap.firsts.items heap.headers.items heap.special_object };
 }
 
 impl Heap {
@@ -57,12 +56,12 @@ impl Heap {
         ensures heap { IfOk result (λ found. IfSome found (λ heap. IsPlainMemory order base special words.items heap)) }
         ensures none { IfOk result (λ found. IsNone found → (memory : Memory) → IsPlainMemory order base special words.items memory → ⊥) }
     {
-        let Some(index) = index_of(alloc, &words, base)? else {
+        let Some(index) = index_of(alloc, &words)? else {
             return Ok(None);
         };
-        let Index { firsts, addresses } = index;
-        let offsets = block_offsets(alloc, &addresses, base)?;
-        let Some(special_object) = place_of(&addresses, base, &offsets, special) else {
+        let Index { firsts, headers } = index;
+        let headers = ranked(alloc, &headers)?;
+        let Some(special_object) = place_at(&headers, base, special) else {
             return Ok(None);
         };
         Ok(Some(Heap {
@@ -72,8 +71,7 @@ impl Heap {
             special_object,
             words,
             firsts,
-            addresses,
-            offsets,
+            headers,
         }))
     }
 
@@ -113,7 +111,8 @@ impl Heap {
         requires { object < object_count self.now }
         ensures { result ≡ address_of self.now object }
     {
-        self.addresses[object as usize]
+        let offset = 4 * (self.first(object) + self.chunk(object).before);
+        offset + self.base
     }
 
     /// The index of the first word of the object's chunk among the data words.
@@ -169,7 +168,7 @@ impl Heap {
     pub fn find(&self, address: u32) -> Option<u32>
         ensures { result ≡ find self.now address }
     {
-        place_of(&self.addresses, self.base, &self.offsets, address)
+        place_at(&self.headers, self.base, address)
     }
 
     /// The special objects array.
@@ -178,4 +177,17 @@ impl Heap {
     {
         self.special_object
     }
+}
+
+/// The place of an address among those of the words whose indexes the table has, the first word's
+/// address being `base`.
+fn place_at(headers: &[Block], base: u32, address: u32) -> Option<u32>
+    requires { IsTable headers.now }
+    ensures { (indexes : List ℕ) → IsRanked indexes (length indexes) headers.now → IsPlaceOf (map (λ index. base + 4 * index) indexes) address result }
+{
+    let offset = address.checked_sub(base)?;
+    if offset % 4 != 0 {
+        return None;
+    }
+    place_of(headers, offset / 4)
 }
