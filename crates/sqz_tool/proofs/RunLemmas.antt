@@ -73,10 +73,10 @@ refuses_memory from to old new fault file untouched read memory =
 
 pub refuses_unreadable : (from to : SourceState) (old new : SinkState) (file : List ℕ) → new ≡ old → ReadsWhole from to file → LacksPlainImage file → Refuses from to old new NotYet
 refuses_unreadable from to old new file untouched read lacks =
-    record { file = file; read = read; not_yet = inl lacks; untouched = untouched }
+    record { file = file; read = read; reason = inl lacks; untouched = untouched }
 
 -- a refusal of a file is none of memory, of a device, or of what is not yet supported
-low_refuses : (from to : SourceState) (old new : SinkState) (fault : Fault) → number_of_fault fault ≤ 6 → RefusesFile from to old new fault → Refuses from to old new fault
+low_refuses : (from to : SourceState) (old new : SinkState) (fault : Fault) → number_of_fault fault ≤ 6 → RefusesFile (λ file. file_fault file ≡ Some fault) from to old new → Refuses from to old new fault
 low_refuses from to old new NotYet le r = absurd (omega (arith, le))
 low_refuses from to old new OutOfMemory le r = absurd (omega (arith, le))
 low_refuses from to old new ReadFailed le r = absurd (omega (arith, le))
@@ -87,14 +87,14 @@ pub refuses_file : (from to : SourceState) (old new : SinkState) (fault : Fault)
 refuses_file from to old new fault file untouched read why =
     elim why [
       | inl memory ↦ refuses_memory from to old new fault file untouched read memory
-      | inr refused ↦ low_refuses from to old new fault (file_fault_low file fault refused) (record { file = file; read = read; refused = refused; untouched = untouched })
+      | inr refused ↦ low_refuses from to old new fault (file_fault_low file fault refused) (record { file = file; read = read; reason = refused; untouched = untouched })
     ]
 
 pub refuses_image : (from to : SourceState) (old new : SinkState) (fault : Fault) (file : List ℕ) (image : SavedImage) → new ≡ old → ReadsWhole from to file → HoldsPlain file image → (fault ≡ OutOfMemory) ⊎ ((fault ≡ NotYet) × HasDefectIn image) → Refuses from to old new fault
 refuses_image from to old new fault file image untouched read holds why =
     elim why [
       | inl memory ↦ refuses_memory from to old new fault file untouched read memory
-      | inr (named, defect) ↦ subst (Refuses from to old new) (sym named) (record { file = file; read = read; not_yet = inr (record { image = image; holds = holds; defect = defect }); untouched = untouched })
+      | inr (named, defect) ↦ subst (Refuses from to old new) (sym named) (record { file = file; read = read; reason = inr (record { image = image; holds = holds; defect = defect }); untouched = untouched })
     ]
 
 module _ (from to : SourceState) (old new : SinkState) (file : List ℕ) (image : SavedImage) (special : ℕ) (pieces : List (List ℕ)) (summary : Summary) (read : ReadsWhole from to file) (holds : HoldsPlain file image) (is : IsCompaction image special pieces summary) where

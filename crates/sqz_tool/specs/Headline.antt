@@ -66,18 +66,11 @@ pub record HasPlainDefect (file : List ℕ) : Type 0 where
 abbrev pub IsNotYet : List ℕ → Type 0
 IsNotYet file = LacksPlainImage file ⊎ HasPlainDefect file
 
--- the source gave a file that this version does not take, and the sink is as it was
-pub record IsUnsupported (from to : SourceState) (old new : SinkState) : Type 0 where
+-- the source gave a file that is refused for a reason, and the sink is as it was
+pub record RefusesFile (IsReason : List ℕ → Type 0) (from to : SourceState) (old new : SinkState) : Type 0 where
   pub file : List ℕ
   pub read : ReadsWhole from to file
-  pub not_yet : IsNotYet file
-  pub untouched : new ≡ old
-
--- the source gave a file of which this is the first refusal that applies, and the sink is as it was
-pub record RefusesFile (from to : SourceState) (old new : SinkState) (fault : Fault) : Type 0 where
-  pub file : List ℕ
-  pub read : ReadsWhole from to file
-  pub refused : file_fault file ≡ Some fault
+  pub reason : IsReason file
   pub untouched : new ≡ old
 
 -- memory was refused: bytes from the front of what was left may be gone, and the sink is as it was
@@ -101,10 +94,10 @@ pub record StopsWriting (from to : SourceState) (old new : SinkState) : Type 0 w
   pub plain : IsPlain image
   pub stops : WriteStops old new (compacted image marks) WriteFailed
 
--- what was done where the run was refused, by the refusal: all others are of the file
+-- what was done where the run was refused, by the refusal: all others are the first that applies to the file
 abbrev pub Refuses : SourceState → SourceState → SinkState → SinkState → Fault → Type 0
-Refuses from to old new NotYet = IsUnsupported from to old new
+Refuses from to old new NotYet = RefusesFile IsNotYet from to old new
 Refuses from to old new OutOfMemory = IsOutOfMemory from to old new
 Refuses from to old new ReadFailed = StopsReading from to old new
 Refuses from to old new WriteFailed = StopsWriting from to old new
-Refuses from to old new fault = RefusesFile from to old new fault
+Refuses from to old new fault = RefusesFile (λ file. file_fault file ≡ Some fault) from to old new

@@ -14,9 +14,8 @@ use std::alloc::Global;
 /// Refused with `OutOfMemory`, or with `ReadFailed` where the source failed or did not end; else exactly
 /// with the first of `TooShort`, `BadVersion`, `BadHeaderSize`, `BadDataSize`, `BadBase` and `Truncated`
 /// that applies to the bytes; else with `NotYet` exactly where they hold no plain image or a reachable
-/// object of it has a defect. The sink is then as it was. Refused with `WriteFailed` where
-/// the sink failed or took too little at a time: a front of the answer, perhaps all of it, then went
-/// out.
+/// object of it has a defect. The sink is then as it was. Refused with `WriteFailed` where the sink failed
+/// or took too little at a time: a front of the answer, perhaps all of it, then went out.
 pub fn run<T, R: Source, W: Sink>(
     _rt: &T,
     alloc: Global,
