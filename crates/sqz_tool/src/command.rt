@@ -1,6 +1,6 @@
 //! The program.
 
-ghost use Rattle.std.specs.Prelude.{◌≡◌, ◌≢◌, ◌<◌, ◌≤◌, [], map, string_bytes, IsOk, MatchResult};
+ghost use Rattle.std.specs.Prelude.{◌≡◌, ◌≢◌, ◌<◌, ◌≤◌, [], map, string_bytes, IfErr, IsOk, MatchResult};
 ghost use Rattle.clap.specs.Words.{fault_of, kind_of};
 ghost use Rattle.sqz_tool.specs.CommandLine.{command_line};
 ghost use Rattle.sqz_tool.specs.Exits.{IsExitBy, exit_of, exit_of_kind};
@@ -35,7 +35,8 @@ pub fn program<T: Files, C: Sink, E: Sink>(
     ensures exits { result ≤ 4 }
     ensures refused { let kinds = fault_of command_line (map string_bytes words.now) in
         kinds ≢ [] → IsExitBy kinds result }
-    ensures taken { fault_of command_line (map string_bytes words.now) ≡ [] → out.new ≡ out.old }
+    ensures taken { fault_of command_line (map string_bytes words.now) ≡ [] → result ≢ 2 }
+    ensures unused { fault_of command_line (map string_bytes words.now) ≡ [] → out.new ≡ out.old }
     ensures silent { result ≡ 0 → err.new ≡ err.old }
     ensures quiet { 0 < result → out.new ≡ out.old }
 {
@@ -50,7 +51,9 @@ pub fn program<T: Files, C: Sink, E: Sink>(
 /// Fails as `run` does, with `ReadFailed` also where the image cannot be opened, and with
 /// `WriteFailed` also where the other file cannot be made. Unless it fails with `WriteFailed`, that
 /// file is then as it was.
-fn compact<T: Files>(rt: &T, alloc: Global, arguments: Arguments<'_>) -> Result<Summary, Fault> {
+fn compact<T: Files>(rt: &T, alloc: Global, arguments: Arguments<'_>) -> Result<Summary, Fault>
+    ensures { IfErr result (λ fault. exit_of fault ≢ 2) }
+{
     let Ok(file) = File::open(rt, arguments.input) else {
         return Err(Fault::ReadFailed);
     };
