@@ -8,8 +8,8 @@ pointers to objects near and far. In the first images of the table far is up to 
 each size, so that its lines differ in the size alone. In the others, `anywhere` in the image, so that
 the larger of them has not only more pointers but pointers that miss the caches more often.
 
-Each line of the table is one run of the program and one of `cp`. The images are the same each time,
-and take half a second a MiB to make. No time is asserted.
+Each line of the table is one run of the program and one of `cp`, each into a file that is not there
+yet. The images are the same each time, and take half a second a MiB to make. No time is asserted.
 
 The peak is read from /proc each millisecond, so it is the least that it can have been; `-` stands
 where a command ended before it was read. Of a run of a few milliseconds most is the start of a
@@ -183,6 +183,8 @@ def compare(mib, far, folder):
         compacted = measure([PROGRAM, image, answer])
         copied = measure(["cp", image, copy])
         out = os.path.getsize(answer) / MIB
+        for made in (answer, copy):
+            os.remove(made)
         sides = f"{columns(mib * MIB, compacted)}  {columns(mib * MIB, copied)}"
         print(f"{reach:>8} {mib:5} {out:9.2f} {sides}", flush=True)
 
