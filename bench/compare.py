@@ -4,8 +4,8 @@
 Usage: bench/compare.py [MIB ...]
 
 Each image is plain: objects of 1 to 20 words, a third of them dead, with integers and with
-pointers to objects near and far. In the first images of the table far is up to half a MiB away, at
-each size, so that its lines differ in the size alone. In the others, `anywhere` in the image, so that
+pointers to objects near and far. In the first images of the table far is up to a MiB away, at each
+size, so that its lines differ in the size alone. In the others, `anywhere` in the image, so that
 the larger of them has not only more pointers but pointers that miss the caches more often.
 
 Each line of the table is one run of the program and one of `cp`, each into a file that is not there
@@ -33,6 +33,7 @@ MIB = 1 << 20
 BASE = 0x1000
 HEADER_WORDS = 16
 LARGEST = 20
+# How many objects away the named ones are at most. So many live objects are less than a MiB.
 NEAR = 50
 FAR = 12_500
 ANYWHERE = 1 << 30
@@ -96,7 +97,7 @@ def fill_fields(generator, data, fields, addresses, live, far):
 
 
 def data_words(words, far):
-    """So many data words, of objects of which a third is dead, and which name others so far away."""
+    """So many data words, of objects of which a third is dead, and which name others up to `far` away."""
     generator = random.Random(words)
     sizes = sizes_of_objects(generator, words)
     firsts = [end - size for end, size in zip(itertools.accumulate(sizes), sizes)]
@@ -112,7 +113,7 @@ def data_words(words, far):
 
 
 def make_image(path, size, far):
-    """Makes a file of so many bytes that holds an image, whose objects name others so far away."""
+    """Makes a file of so many bytes with an image, whose objects name others up to `far` away."""
     words = size // 4 - HEADER_WORDS
     special = BASE + 4
     header = [6502, 64, 4 * words, BASE, special] + [0] * (HEADER_WORDS - 5)
@@ -178,7 +179,7 @@ def compare(mib, far, folder):
     """Makes an image of so many MiB in the folder, and prints a line for each run over it."""
     image, answer, copy = (os.path.join(folder, name) for name in ("image", "answer", "copy"))
     make_image(image, mib * MIB, far)
-    reach = "anywhere" if far == ANYWHERE else "1/2 MiB"
+    reach = "anywhere" if far == ANYWHERE else "1 MiB"
     for _ in range(RUNS):
         compacted = measure([PROGRAM, image, answer])
         copied = measure(["cp", image, copy])
