@@ -3,13 +3,22 @@
 
 Usage: bench/compare.py [MIB ...]
 
-Each image is plain: objects of 1 to 20 words, a third of them dead, with integers and with
-pointers to objects near and far. In the first images of the table far is up to a MiB away, at each
-size, so that its lines differ in the size alone. In the others, `anywhere` in the image, so that
-the larger of them has not only more pointers but pointers that miss the caches more often.
+Of the objects in each image a third is dead. The table has three parts, named in its first column.
+
+Each image of the first two parts has arrays of 1 to 20 words, with integers and with pointers to
+objects near and far. In the first part far is up to a MiB away, at each size, so that its lines
+differ in the size alone. In the second, `anywhere` in the image, so that the larger of them has not
+only more pointers but pointers that miss the caches more often.
+
+Each image of the third part, `mixed`, is made as real ones are. Nine objects of ten have a header of
+one word, the others a class word, those of more than 63 words among them. A third of the words is in
+byte objects and in compiled methods, of which the literals are traced; some objects are contexts, and
+a few have thousands of words. There are free chunks. Most pointers are to objects near, the others up
+to a MiB away; class words name one object in 500, anywhere.
 
 Each line of the table is one run of the program and one of `cp`, each into a file that is not there
-yet. The images are the same each time, and take half a second a MiB to make. No time is asserted.
+yet. The images are the same each time, and take up to half a second a MiB to make. No time is
+asserted.
 
 The peak is read from /proc each millisecond, so it is the least that it can have been; `-` stands
 where a command ended before it was read. Of a run of a few milliseconds most is the start of a
@@ -17,6 +26,7 @@ process.
 """
 
 import array
+import collections
 import itertools
 import os
 import random
@@ -33,16 +43,30 @@ MIB = 1 << 20
 BASE = 0x1000
 HEADER_WORDS = 16
 LARGEST = 20
-# How many objects away the named ones are at most. So many live objects are less than a MiB.
+# How far a pointer goes, in objects. So many live objects are less than a MiB.
 NEAR = 50
 FAR = 12_500
 ANYWHERE = 1 << 30
 RUNS = 3
 
+# How far the pointers of an image go: the part of them that go near, and how many objects away the
+# others go at most.
+Reach = collections.namedtuple("Reach", "near far")
 
-def short_header(words):
-    """The base header of an array of so many words, its base header counted."""
-    return 3 << 12 | 2 << 8 | words << 2 | 3
+# A chunk of a mixed image: what it is, its header words before the base header, and the words from
+# the base header on.
+Chunk = collections.namedtuple("Chunk", "kind before size")
+POINTERS, BYTES, METHOD, CONTEXT, FREE = range(5)
+# How many of a thousand chunks are of which kind, and the formats and compact indexes of the objects.
+SHARES = {POINTERS: 670, BYTES: 188, METHOD: 102, CONTEXT: 15, FREE: 25}
+FORMATS = {POINTERS: (1, 2, 3, 4), BYTES: (8, 9, 10, 11), METHOD: (12, 13, 14, 15), CONTEXT: (3,)}
+CONTEXT_INDEXES = (13, 14)
+OTHER_INDEXES = tuple(index for index in range(1, 32) if index not in CONTEXT_INDEXES)
+CONTEXT_SIZES = (23, 63)
+LARGEST_METHOD = 40
+# The header type of an object by the number of words before its base header.
+TYPES = (3, 1, 0)
+LARGEST_SHORT = 63
 
 
 def below(generator, count):
@@ -50,15 +74,9 @@ def below(generator, count):
     return int(generator.random() * count)
 
 
-def sizes_of_objects(generator, words):
-    """The sizes of objects that fill so many words: nil, the special objects array, and others."""
-    sizes = [1, LARGEST]
-    left = words - sum(sizes)
-    while left > 0:
-        size = min(1 + below(generator, LARGEST), left)
-        sizes.append(size)
-        left -= size
-    return sizes
+def random_words(generator, count):
+    """So many words of any kind."""
+    return array.array("I", generator.randbytes(4 * count))
 
 
 def name_live_objects(generator, data, fields, addresses, live, far):
@@ -74,17 +92,17 @@ def name_live_objects(generator, data, fields, addresses, live, far):
         unused.extend(fields[index])
 
 
-def random_field(generator, addresses, place, far):
+def random_field(generator, addresses, place, reach):
     """An integer, or one of these addresses: from near this place among them, or from far away."""
     kind = generator.random()
     if kind < 0.4:
         return generator.getrandbits(31) << 1 | 1
-    reach = NEAR if kind < 0.7 else far
-    lowest = max(0, place - reach)
-    return addresses[lowest + below(generator, min(len(addresses), place + reach + 1) - lowest)]
+    distance = NEAR if kind < 0.4 + 0.6 * reach.near else reach.far
+    lowest = max(0, place - distance)
+    return addresses[lowest + below(generator, min(len(addresses), place + distance + 1) - lowest)]
 
 
-def fill_fields(generator, data, fields, addresses, live, far):
+def fill_fields(generator, data, fields, addresses, live, reach):
     """Fills the fields that are empty; those of live objects name live ones alone."""
     live_addresses = [address for address, alive in zip(addresses, live) if alive]
     live_before = 0
@@ -93,31 +111,172 @@ def fill_fields(generator, data, fields, addresses, live, far):
         live_before += live[index]
         for field in fields[index]:
             if data[field] == 0:
-                data[field] = random_field(generator, among, place, far)
+                data[field] = random_field(generator, among, place, reach)
 
 
-def data_words(words, far):
-    """So many data words, of objects of which a third is dead, and which name others up to `far` away."""
+def connect(generator, data, fields, addresses, reach):
+    """Fills the fields of each object, and answers which objects are live: all but a third."""
+    live = [index < 2 or generator.random() < 2 / 3 for index in range(len(fields))]
+    name_live_objects(generator, data, fields, addresses, live, reach.far)
+    fill_fields(generator, data, fields, addresses, live, reach)
+    return live
+
+
+def array_header(words):
+    """The base header of an array of so many words, its base header counted."""
+    return 3 << 12 | 2 << 8 | words << 2 | 3
+
+
+def sizes_of_arrays(generator, words):
+    """The sizes of objects that fill so many words: nil, the special objects array, and others."""
+    sizes = [1, LARGEST]
+    left = words - sum(sizes)
+    while left > 0:
+        size = min(1 + below(generator, LARGEST), left)
+        sizes.append(size)
+        left -= size
+    return sizes
+
+
+def words_of_arrays(words, far):
+    """So many data words, of arrays of which half the pointers go near, and the others so far."""
     generator = random.Random(words)
-    sizes = sizes_of_objects(generator, words)
+    sizes = sizes_of_arrays(generator, words)
     firsts = [end - size for end, size in zip(itertools.accumulate(sizes), sizes)]
-    fields = [range(first + 1, first + size) for first, size in zip(firsts, sizes)]
-    addresses = [BASE + 4 * first for first in firsts]
-    live = [index < 2 or generator.random() < 2 / 3 for index in range(len(sizes))]
     data = array.array("I", bytes(4 * words))
     for first, size in zip(firsts, sizes):
-        data[first] = short_header(size)
-    name_live_objects(generator, data, fields, addresses, live, far)
-    fill_fields(generator, data, fields, addresses, live, far)
+        data[first] = array_header(size)
+    fields = [range(first + 1, first + size) for first, size in zip(firsts, sizes)]
+    connect(generator, data, fields, [BASE + 4 * first for first in firsts], Reach(0.5, far))
     return data
 
 
-def make_image(path, size, far):
-    """Makes a file of so many bytes with an image, whose objects name others up to `far` away."""
+def random_size(generator, kind):
+    """The words of an object from its base header on, or those of a free chunk."""
+    if kind == CONTEXT:
+        return generator.choice(CONTEXT_SIZES)
+    if kind == METHOD:
+        return 3 + below(generator, LARGEST_METHOD - 2)
+    draw = generator.random()
+    if kind != FREE and draw < 0.0004:
+        return 1000 + below(generator, 4000)
+    if kind != FREE and draw < 0.004:
+        return 64 + below(generator, 200)
+    return 1 + below(generator, LARGEST)
+
+
+def random_chunk(generator):
+    """A chunk of any kind."""
+    kind = generator.choices(list(SHARES), SHARES.values())[0]
+    size = random_size(generator, kind)
+    if size > LARGEST_SHORT:
+        return Chunk(kind, 2, size)
+    return Chunk(kind, 1 if kind != FREE and generator.random() < 0.1 else 0, size)
+
+
+def random_chunks(generator, words):
+    """Chunks that fill so many words: nil, the special objects array, and others."""
+    chunks = [Chunk(POINTERS, 0, 1), Chunk(POINTERS, 0, LARGEST)]
+    left = words - 1 - LARGEST
+    while left > 0:
+        chunk = random_chunk(generator)
+        if chunk.before + chunk.size > left:
+            chunk = Chunk(FREE, 0, min(left, LARGEST))
+        chunks.append(chunk)
+        left -= chunk.before + chunk.size
+    return chunks
+
+
+def put_header(generator, data, chunk, base):
+    """Puts an object's header words, but not its class word; the base header is data word `base`."""
+    if chunk.before == 2:
+        data[base - 2] = 4 * chunk.size
+    size = chunk.size if chunk.before < 2 else 0
+    compact = generator.choice(CONTEXT_INDEXES if chunk.kind == CONTEXT else OTHER_INDEXES)
+    upper = generator.getrandbits(12) << 17 | compact << 12 | generator.choice(FORMATS[chunk.kind]) << 8
+    data[base] = upper | size << 2 | TYPES[chunk.before]
+
+
+def put_method(generator, data, first, end):
+    """Puts a method's header field and the words behind its literals, and answers the literals."""
+    count = below(generator, min(256, (end - first) // 2))
+    data[first] = count << 10 | 1
+    literals = range(first + 1, first + 1 + count)
+    data[literals.stop:end] = random_words(generator, end - literals.stop)
+    return literals
+
+
+def put_context(generator, data, first, end):
+    """Puts a context's first fields and what is above its stack, and answers the fields between."""
+    top = below(generator, end - first - 5)
+    data[first] = BASE
+    data[first + 1] = generator.getrandbits(8) << 1 | 1
+    data[first + 2] = top << 1 | 1
+    fields = range(first + 3, first + 6 + top)
+    data[fields.stop:end] = random_words(generator, end - fields.stop)
+    return fields
+
+
+def put_object(generator, data, chunk, base):
+    """Puts an object but for its class word and its pointers, and answers where the pointers go."""
+    put_header(generator, data, chunk, base)
+    first, end = base + 1, base + chunk.size
+    if chunk.kind == METHOD:
+        return put_method(generator, data, first, end)
+    if chunk.kind == CONTEXT:
+        return put_context(generator, data, first, end)
+    if chunk.kind == BYTES:
+        data[first:end] = random_words(generator, end - first)
+        return range(0)
+    return range(first, end)
+
+
+def put_class_words(generator, data, objects, addresses, live):
+    """Puts the class words, which name one live object in 500."""
+    classes = [address for address, alive in zip(addresses, live) if alive][::500]
+    for chunk, base in objects:
+        if chunk.before > 0:
+            data[base - 1] = generator.choice(classes) | TYPES[chunk.before]
+
+
+def mixed_words(words):
+    """So many data words, of objects of all kinds and of free chunks."""
+    generator = random.Random(words)
+    chunks = random_chunks(generator, words)
+    ends = itertools.accumulate(chunk.before + chunk.size for chunk in chunks)
+    placed = [(chunk, end - chunk.size) for chunk, end in zip(chunks, ends)]
+    objects = [(chunk, base) for chunk, base in placed if chunk.kind != FREE]
+    data = array.array("I", bytes(4 * words))
+    for chunk, base in placed:
+        if chunk.kind == FREE:
+            data[base] = 4 * chunk.size + 2
+    fields = [put_object(generator, data, chunk, base) for chunk, base in objects]
+    addresses = [BASE + 4 * base for _, base in objects]
+    live = connect(generator, data, fields, addresses, Reach(0.9, FAR))
+    put_class_words(generator, data, objects, addresses, live)
+    return data
+
+
+def near_words(words):
+    """So many data words, of arrays whose pointers go up to a MiB away."""
+    return words_of_arrays(words, FAR)
+
+
+def far_words(words):
+    """So many data words, of arrays whose pointers go anywhere."""
+    return words_of_arrays(words, ANYWHERE)
+
+
+# The parts of the table: what makes the data words of so many words, by the part's name.
+PARTS = {"1 MiB": near_words, "anywhere": far_words, "mixed": mixed_words}
+
+
+def make_image(path, size, data_words):
+    """Makes a file of so many bytes with an image, whose data words the function makes."""
     words = size // 4 - HEADER_WORDS
     special = BASE + 4
     header = [6502, 64, 4 * words, BASE, special] + [0] * (HEADER_WORDS - 5)
-    image = array.array("I", header) + data_words(words, far)
+    image = array.array("I", header) + data_words(words)
     if sys.byteorder == "big":
         image.byteswap()
     with open(path, "wb") as file:
@@ -175,11 +334,10 @@ def print_titles():
     print(f"{'far':>8} {'image':>5} {'MiB out':>9} {titles}  {titles}")
 
 
-def compare(mib, far, folder):
+def compare(mib, part, folder):
     """Makes an image of so many MiB in the folder, and prints a line for each run over it."""
     image, answer, copy = (os.path.join(folder, name) for name in ("image", "answer", "copy"))
-    make_image(image, mib * MIB, far)
-    reach = "anywhere" if far == ANYWHERE else "1 MiB"
+    make_image(image, mib * MIB, PARTS[part])
     for _ in range(RUNS):
         compacted = measure([PROGRAM, image, answer])
         copied = measure(["cp", image, copy])
@@ -187,7 +345,7 @@ def compare(mib, far, folder):
         for made in (answer, copy):
             os.remove(made)
         sides = f"{columns(mib * MIB, compacted)}  {columns(mib * MIB, copied)}"
-        print(f"{reach:>8} {mib:5} {out:9.2f} {sides}", flush=True)
+        print(f"{part:>8} {mib:5} {out:9.2f} {sides}", flush=True)
 
 
 def main():
@@ -199,9 +357,9 @@ def main():
         sys.exit("the program was not built")
     print_titles()
     with tempfile.TemporaryDirectory() as folder:
-        for far in (FAR, ANYWHERE):
+        for part in PARTS:
             for word in words:
-                compare(int(word), far, folder)
+                compare(int(word), part, folder)
 
 
 if __name__ == "__main__":

@@ -1,14 +1,36 @@
 -- Whether paths to some of the objects show that these are the reachable ones, by a test that computes.
-use Rattle.std.proofs.Common.{◌≡◌, ℕ, zero, suc, ◌+◌, ◌<◌, Bool, true, false, ◌&&◌, ◌||◌, eqb, ltb, List, [], ◌∷◌, length, map, slice_index, slice_index_or, Option, Some, None, refl, sym, ap, subst, ◌∙◌, zero-add, arith, inl, inr}
-use Rattle.std.specs.Option.{is_some, IsSome}
+use Rattle.std.proofs.Common.{◌≡◌, ℕ, zero, suc, ◌+◌, ◌<◌, Bool, true, false, ◌&&◌, ◌||◌, eqb, ltb, nat_lt, List, [], ◌∷◌, length, map, slice_index, slice_index_or, if◌then◌else◌, Option, Some, None, refl, sym, ap, subst, ◌∙◌, arith, inl, inr}
+use Rattle.std.specs.Option.{is_some, IsSome, option_and_then}
 use Rattle.std.specs.List.{list_all}
 use Rattle.std.proofs.lemmas.Bool.{eqb-true, ltb-true, and_parts, or_cases}
 use Rattle.std.proofs.lemmas.List.{length-map}
-use Rattle.sqz_image.specs.Objects.{Memory, Object, objects, object_count, chunk_at, find}
-use Rattle.sqz_trace.specs.Slots.{slot_words}
-use Rattle.sqz_trace.specs.Edges.{named_by, HasEdge}
-use Rattle.sqz_trace.specs.Reachability.{Leads, is_marked, IsReachability}
-use Rattle.sqz_trace.proofs.ReachabilityLemmas.{IsClosed, IsTracing, IsReachability-from_tracing}
+use Rattle.sqz_object.specs.Chunk.{fields}
+use Rattle.sqz_image.specs.declared.fault.Slot.{Slot}
+use Rattle.sqz_image.specs.declared.fault.Slot.TheVariants.{ClassWord, Field}
+use Rattle.sqz_image.specs.Objects.{Memory, Object, objects, object_count, chunk_words, find}
+use Rattle.sqz_trace.specs.Slots.{traced, field_slots}
+use Rattle.sqz_trace.specs.Edges.{named_by, named_in, HasEdge}
+use Rattle.sqz_trace.specs.Graph.{Leads, is_marked}
+use Rattle.sqz_trace.specs.Reachability.{graph_from, IsReachability}
+use Rattle.sqz_trace.proofs.ReachabilityLemmas.{IsClosed, IsTracing, MarksReachable-from_tracing}
+
+-- ---- slots
+
+-- the class word, whether or not the object has one, and the traced fields
+abbrev pub possible_slots : List ℕ → List Slot
+possible_slots chunk = ClassWord ∷ field_slots 0 (traced chunk)
+
+-- what a test finds of all of these fields it finds of each
+field_slots_at : (test : Slot → Bool) (first count index : ℕ) → list_all test (field_slots first count) ≡ true → index < count → test (Field (first + index)) ≡ true
+field_slots_at test first zero index h lt = absurd (omega arith)
+field_slots_at test first (suc count) zero h lt =
+    let parts = and_parts (test (Field first)) (list_all test (field_slots (suc first) count)) h in
+    let same : first ≡ first + zero = omega arith in
+    subst (λ (field : ℕ). test (Field field) ≡ true) same parts.0
+field_slots_at test first (suc count) (suc index) h lt =
+    let parts = and_parts (test (Field first)) (list_all test (field_slots (suc first) count)) h in
+    let same : suc first + index ≡ first + suc index = omega arith in
+    subst (λ (field : ℕ). test (Field field) ≡ true) same (field_slots_at test (suc first) count index parts.1 (omega arith))
 
 -- ---- edges
 
@@ -22,43 +44,45 @@ is_index-true : (named : Option ℕ) (index : ℕ) → is_index named index ≡ 
 is_index-true None index h = absurd cc
 is_index-true (Some named) index h = ap (λ (n : ℕ). Some n) (eqb-true named index h)
 
--- whether one of these words names the object
-abbrev pub some_names : Memory → ℕ → List ℕ → Bool
-some_names memory to [] = false
-some_names memory to (word ∷ words) = is_index (named_by memory word) to || some_names memory to words
+-- whether one of these slots names the object
+abbrev pub some_names : Memory → List ℕ → ℕ → List Slot → Bool
+some_names memory chunk to [] = false
+some_names memory chunk to (slot ∷ slots) =
+    is_index (named_in memory chunk slot) to || some_names memory chunk to slots
 
--- then it stands in some slot
-named_slot : (memory : Memory) (to : ℕ) (words : List ℕ) → some_names memory to words ≡ true → (slot : ℕ) × (slot < length words) × (named_by memory (slice_index words slot) ≡ Some to)
-named_slot memory to [] h = absurd cc
-named_slot memory to (word ∷ words) h =
+-- then there is such a slot
+naming_slot : (memory : Memory) (chunk : List ℕ) (to : ℕ) (slots : List Slot) → some_names memory chunk to slots ≡ true → (slot : Slot) × (named_in memory chunk slot ≡ Some to)
+naming_slot memory chunk to [] h = absurd cc
+naming_slot memory chunk to (slot ∷ slots) h =
     elim (or_cases _ _ h) [
-      | inl here ↦ (0, omega arith, is_index-true (named_by memory word) to here)
-      | inr later ↦ let found = named_slot memory to words later in (suc found.0, (let lt = found.1 in omega arith), found.2)
+      | inl here ↦ (slot, is_index-true (named_in memory chunk slot) to here)
+      | inr later ↦ naming_slot memory chunk to slots later
     ]
 
 -- whether the one object has an edge to the other
 abbrev pub has_edge : Memory → ℕ → ℕ → Bool
 has_edge memory from to =
-    ltb from (object_count memory) && some_names memory to (slot_words (chunk_at memory from))
+    ltb from (object_count memory) && some_names memory (chunk_words memory from) to (possible_slots (chunk_words memory from))
 
 -- then it has one
 pub has_edge-true : (memory : Memory) (from to : ℕ) → has_edge memory from to ≡ true → HasEdge memory from to
 has_edge-true memory from to h =
-    let parts = and_parts (ltb from (object_count memory)) (some_names memory to (slot_words (chunk_at memory from))) h in
-    let found = named_slot memory to (slot_words (chunk_at memory from)) parts.1 in
-    record { inside = ltb-true _ _ parts.0; slot = found.0; is_slot = found.1; names = found.2 }
+    let chunk : List ℕ = chunk_words memory from in
+    let parts = and_parts (ltb from (object_count memory)) (some_names memory chunk to (possible_slots chunk)) h in
+    let found = naming_slot memory chunk to (possible_slots chunk) parts.1 in
+    record { inside = ltb-true _ _ parts.0; slot = found.0; names = found.1 }
 
 -- whether each object of the path has an edge from the one before, and the last is the goal
 abbrev pub leads_to : Memory → ℕ → List ℕ → ℕ → Bool
-leads_to memory start [] goal = eqb start goal
-leads_to memory start (next ∷ path) goal = has_edge memory start next && leads_to memory next path goal
+leads_to memory from [] goal = eqb from goal
+leads_to memory from (next ∷ path) goal = has_edge memory from next && leads_to memory next path goal
 
 -- then the path leads there
-leads_to-true : (memory : Memory) (start : ℕ) (path : List ℕ) (goal : ℕ) → leads_to memory start path goal ≡ true → Leads memory start path goal
-leads_to-true memory start [] goal h = eqb-true start goal h
-leads_to-true memory start (next ∷ path) goal h =
-    let parts = and_parts (has_edge memory start next) (leads_to memory next path goal) h in
-    (has_edge-true memory start next parts.0, leads_to-true memory next path goal parts.1)
+leads_to-true : (memory : Memory) (start from : ℕ) (path : List ℕ) (goal : ℕ) → leads_to memory from path goal ≡ true → Leads (graph_from start memory) from path goal
+leads_to-true memory start from [] goal h = eqb-true from goal h
+leads_to-true memory start from (next ∷ path) goal h =
+    let parts = and_parts (has_edge memory from next) (leads_to memory next path goal) h in
+    (has_edge-true memory from next parts.0, leads_to-true memory start next path goal parts.1)
 
 -- ---- no edge leads out of the marked objects, by a test
 
@@ -67,45 +91,61 @@ abbrev pub is_marked_if_named : List Bool → Option ℕ → Bool
 is_marked_if_named marks None = true
 is_marked_if_named marks (Some index) = is_marked marks index
 
--- whether all objects that these words name are marked
-abbrev pub all_named_marked : Memory → List Bool → List ℕ → Bool
-all_named_marked memory marks words = list_all (λ word. is_marked_if_named marks (named_by memory word)) words
+-- whether the object that this slot names is marked, if it names one
+abbrev pub is_named_marked : Memory → List Bool → List ℕ → Slot → Bool
+is_named_marked memory marks chunk slot = is_marked_if_named marks (named_in memory chunk slot)
 
--- each word of the list, then
-all_named_marked_at : (memory : Memory) (marks : List Bool) (words : List ℕ) (slot to : ℕ) → all_named_marked memory marks words ≡ true → slot < length words → named_by memory (slice_index words slot) ≡ Some to → is_marked marks to ≡ true
-all_named_marked_at memory marks [] slot to h lt names = absurd (omega arith)
-all_named_marked_at memory marks (word ∷ words) zero to h lt names =
-    let parts = and_parts (is_marked_if_named marks (named_by memory word)) (all_named_marked memory marks words) h in
+-- whether all objects that this chunk's slots name are marked
+abbrev pub all_named_marked : Memory → List Bool → List ℕ → Bool
+all_named_marked memory marks chunk = list_all (is_named_marked memory marks chunk) (possible_slots chunk)
+
+-- a word that is there only where a test holds names an object only where it holds
+test_of_named : (memory : Memory) (holds : Bool) (word to : ℕ) → option_and_then (named_by memory) (if holds then Some word else None) ≡ Some to → holds ≡ true
+test_of_named memory true word to names = refl
+test_of_named memory false word to names = absurd cc
+
+-- a field that names an object is one of the traced ones
+field_is_traced : (memory : Memory) (chunk : List ℕ) (index to : ℕ) → named_in memory chunk (Field index) ≡ Some to → index < traced chunk
+field_is_traced memory chunk index to names =
+    ltb-true _ _ (test_of_named memory (nat_lt index (traced chunk)) (slice_index (fields chunk) index) to names)
+
+-- what some slot names is marked, then
+all_named_marked_at : (memory : Memory) (marks : List Bool) (chunk : List ℕ) (slot : Slot) (to : ℕ) → all_named_marked memory marks chunk ≡ true → named_in memory chunk slot ≡ Some to → is_marked marks to ≡ true
+all_named_marked_at memory marks chunk ClassWord to h names =
+    let parts = and_parts (is_named_marked memory marks chunk ClassWord) (list_all (is_named_marked memory marks chunk) (field_slots 0 (traced chunk))) h in
     sym (ap (is_marked_if_named marks) names) ∙ parts.0
-all_named_marked_at memory marks (word ∷ words) (suc slot) to h lt names =
-    let parts = and_parts (is_marked_if_named marks (named_by memory word)) (all_named_marked memory marks words) h in
-    all_named_marked_at memory marks words slot to parts.1 (omega arith) names
+all_named_marked_at memory marks chunk (Field index) to h names =
+    let parts = and_parts (is_named_marked memory marks chunk ClassWord) (list_all (is_named_marked memory marks chunk) (field_slots 0 (traced chunk))) h in
+    let inside = field_is_traced memory chunk index to names in
+    let same : 0 + index ≡ index = omega arith in
+    let marked = subst (λ (field : ℕ). is_named_marked memory marks chunk (Field field) ≡ true) same (field_slots_at (is_named_marked memory marks chunk) 0 (traced chunk) index parts.1 inside) in
+    sym (ap (is_marked_if_named marks) names) ∙ marked
 
 -- whether all that the marked ones of these objects name are marked; `own` has their marks
 abbrev pub is_closed_from : Memory → List Bool → List Bool → List Object → Bool
 is_closed_from memory marks (true ∷ own) (object ∷ objects) =
-    all_named_marked memory marks (slot_words object.chunk) && is_closed_from memory marks own objects
+    all_named_marked memory marks object.chunk && is_closed_from memory marks own objects
 is_closed_from memory marks (false ∷ own) (object ∷ objects) = is_closed_from memory marks own objects
 is_closed_from memory marks _ _ = true
 
 -- each of these objects, then
-is_closed_from_at : (memory : Memory) (marks own : List Bool) (objects : List Object) (index : ℕ) (d : Object) → is_closed_from memory marks own objects ≡ true → slice_index_or own index false ≡ true → index < length objects → all_named_marked memory marks (slot_words (slice_index_or objects index d).chunk) ≡ true
+is_closed_from_at : (memory : Memory) (marks own : List Bool) (objects : List Object) (index : ℕ) (d : Object) → is_closed_from memory marks own objects ≡ true → slice_index_or own index false ≡ true → index < length objects → all_named_marked memory marks (slice_index_or objects index d).chunk ≡ true
 is_closed_from_at memory marks own [] index d h m lt = absurd (omega arith)
 is_closed_from_at memory marks [] (object ∷ objects) index d h m lt = absurd cc
 is_closed_from_at memory marks (true ∷ own) (object ∷ objects) zero d h m lt =
-    (and_parts (all_named_marked memory marks (slot_words object.chunk)) (is_closed_from memory marks own objects) h).0
+    (and_parts (all_named_marked memory marks object.chunk) (is_closed_from memory marks own objects) h).0
 is_closed_from_at memory marks (true ∷ own) (object ∷ objects) (suc index) d h m lt =
-    let parts = and_parts (all_named_marked memory marks (slot_words object.chunk)) (is_closed_from memory marks own objects) h in
+    let parts = and_parts (all_named_marked memory marks object.chunk) (is_closed_from memory marks own objects) h in
     is_closed_from_at memory marks own objects index d parts.1 m (omega arith)
 is_closed_from_at memory marks (false ∷ own) (object ∷ objects) zero d h m lt = absurd cc
 is_closed_from_at memory marks (false ∷ own) (object ∷ objects) (suc index) d h m lt =
     is_closed_from_at memory marks own objects index d h m (omega arith)
 
 -- the same of all objects
-IsClosed-from_test : (memory : Memory) (marks : List Bool) → is_closed_from memory marks marks (objects memory) ≡ true → IsClosed memory marks
-IsClosed-from_test memory marks h = record {
+IsClosed-from_test : (memory : Memory) (start : ℕ) (marks : List Bool) → is_closed_from memory marks marks (objects memory) ≡ true → IsClosed (graph_from start memory) marks
+IsClosed-from_test memory start marks h = record {
   along = λ from to m edge.
-      all_named_marked_at memory marks (slot_words (chunk_at memory from)) edge.slot to (is_closed_from_at memory marks marks (objects memory) from record { first = 0; chunk = [] } h m edge.inside) edge.is_slot edge.names;
+      all_named_marked_at memory marks (chunk_words memory from) edge.slot to (is_closed_from_at memory marks marks (objects memory) from record { first = 0; chunk = [] } h m edge.inside) edge.names;
 }
 
 -- ---- a path to each marked object, by a test
@@ -122,23 +162,23 @@ all_lead memory start index ((Some path) ∷ paths) =
 abbrev pub marks_of : List (Option (List ℕ)) → List Bool
 marks_of paths = map is_some paths
 
--- each of these objects is reached, then
-all_lead_at : (memory : Memory) (start first : ℕ) (paths : List (Option (List ℕ))) (index : ℕ) → all_lead memory start first paths ≡ true → is_marked (marks_of paths) index ≡ true → (path : List ℕ) × Leads memory start path (first + index)
+-- a path leads to each of these objects, then
+all_lead_at : (memory : Memory) (start first : ℕ) (paths : List (Option (List ℕ))) (index : ℕ) → all_lead memory start first paths ≡ true → is_marked (marks_of paths) index ≡ true → (path : List ℕ) × Leads (graph_from start memory) start path (first + index)
 all_lead_at memory start first [] index h m = absurd cc
 all_lead_at memory start first (None ∷ paths) zero h m = absurd cc
 all_lead_at memory start first ((Some path) ∷ paths) zero h m =
     let parts = and_parts (leads_to memory start path first) (all_lead memory start (suc first) paths) h in
     let same : first ≡ first + zero = omega arith in
-    (path, subst (λ (goal : ℕ). Leads memory start path goal) same (leads_to-true memory start path first parts.0))
+    (path, subst (λ (goal : ℕ). Leads (graph_from start memory) start path goal) same (leads_to-true memory start start path first parts.0))
 all_lead_at memory start first (None ∷ paths) (suc index) h m =
     let found = all_lead_at memory start (suc first) paths index h m in
     let same : suc first + index ≡ first + suc index = omega arith in
-    (found.0, subst (λ (goal : ℕ). Leads memory start found.0 goal) same found.1)
+    (found.0, subst (λ (goal : ℕ). Leads (graph_from start memory) start found.0 goal) same found.1)
 all_lead_at memory start first ((Some path) ∷ paths) (suc index) h m =
     let parts = and_parts (leads_to memory start path first) (all_lead memory start (suc first) paths) h in
     let found = all_lead_at memory start (suc first) paths index parts.1 m in
     let same : suc first + index ≡ first + suc index = omega arith in
-    (found.0, subst (λ (goal : ℕ). Leads memory start found.0 goal) same found.1)
+    (found.0, subst (λ (goal : ℕ). Leads (graph_from start memory) start found.0 goal) same found.1)
 
 -- ---- the whole test
 
@@ -154,28 +194,32 @@ is_tracing_from_some memory (Some start) paths = is_tracing_from memory start pa
 abbrev pub is_tracing : Memory → List (Option (List ℕ)) → Bool
 is_tracing memory paths = is_tracing_from_some memory (find memory memory.special) paths
 
--- from an object that is the special objects array
-tracing_from-true : (memory : Memory) (start : ℕ) (paths : List (Option (List ℕ))) → find memory memory.special ≡ Some start → is_tracing_from memory start paths ≡ true → IsTracing memory (marks_of paths)
-tracing_from-true memory start paths special h =
+-- paths that start at this object
+is_tracing_from-true : (memory : Memory) (start : ℕ) (paths : List (Option (List ℕ))) → is_tracing_from memory start paths ≡ true → IsTracing (graph_from start memory) (marks_of paths)
+is_tracing_from-true memory start paths h =
     let marks : List Bool = marks_of paths in
     let a = and_parts (eqb (length paths) (object_count memory)) (is_marked marks start && (is_closed_from memory marks marks (objects memory) && all_lead memory start 0 paths)) h in
     let b = and_parts (is_marked marks start) (is_closed_from memory marks marks (objects memory) && all_lead memory start 0 paths) a.1 in
     let c = and_parts (is_closed_from memory marks marks (objects memory)) (all_lead memory start 0 paths) b.1 in
     record {
       sized = length-map paths is_some ∙ eqb-true _ _ a.0;
-      start = start;
-      is_special = special;
       has_start = b.0;
-      closed = IsClosed-from_test memory marks c.0;
+      closed = IsClosed-from_test memory start marks c.0;
       reached = λ index m.
           let found = all_lead_at memory start 0 paths index c.1 m in
-          (found.0, subst (λ (goal : ℕ). Leads memory start found.0 goal) (zero-add index) found.1);
+          let same : 0 + index ≡ index = omega arith in
+          record { path = found.0; leads = subst (λ (goal : ℕ). Leads (graph_from start memory) start found.0 goal) same found.1 };
     }
 
 -- the same of the object at the special address, if there is one
-tracing_from_some-true : (memory : Memory) (special : Option ℕ) (paths : List (Option (List ℕ))) → find memory memory.special ≡ special → is_tracing_from_some memory special paths ≡ true → IsTracing memory (marks_of paths)
-tracing_from_some-true memory None paths e h = absurd cc
-tracing_from_some-true memory (Some start) paths e h = tracing_from-true memory start paths e h
+is_tracing_from_some-true : (memory : Memory) (special : Option ℕ) (paths : List (Option (List ℕ))) → find memory memory.special ≡ special → is_tracing_from_some memory special paths ≡ true → IsReachability memory (marks_of paths)
+is_tracing_from_some-true memory None paths e h = absurd cc
+is_tracing_from_some-true memory (Some start) paths e h =
+    record {
+      start = start;
+      is_special = e;
+      reached = MarksReachable-from_tracing (graph_from start memory) (marks_of paths) (is_tracing_from-true memory start paths h);
+    }
 
 -- an address that passes has an object
 some_start : (memory : Memory) (special : Option ℕ) (paths : List (Option (List ℕ))) → is_tracing_from_some memory special paths ≡ true → IsSome special
@@ -185,7 +229,7 @@ some_start memory (Some start) paths h = refl
 -- the objects that have a path are the reachable ones
 pub is_tracing-true : (memory : Memory) (paths : List (Option (List ℕ))) → is_tracing memory paths ≡ true → IsReachability memory (marks_of paths)
 is_tracing-true memory paths h =
-    IsReachability-from_tracing memory (marks_of paths) (tracing_from_some-true memory (find memory memory.special) paths refl h)
+    is_tracing_from_some-true memory (find memory memory.special) paths refl h
 
 -- and there is an object at the special address
 pub is_tracing-special : (memory : Memory) (paths : List (Option (List ℕ))) → is_tracing memory paths ≡ true → IsSome (find memory memory.special)

@@ -12,7 +12,7 @@ use Rattle.sqz_object.proofs.ChunkLemmas.{is_chunk_with_no_fault, no_chunk_at_fa
 use Rattle.sqz_image.specs.declared.fault.Fault.{Fault}
 use Rattle.sqz_image.specs.declared.fault.Fault.TheVariants.{BadSpecialObjects}
 use Rattle.sqz_image.specs.File.{order_of, header_of, base_address, special_address, data_of}
-use Rattle.sqz_image.specs.Objects.{Memory, SavedImage, find}
+use Rattle.sqz_image.specs.Objects.{Memory, SavedImage, find, file_bytes}
 use Rattle.sqz_image.specs.Refusals.{file_fault, HasChunks, Holds, refusal_of}
 use Rattle.sqz_trace.specs.Reachability.{IsReachability}
 use Rattle.sqz_trace.specs.Defects.{first_defect}
@@ -100,7 +100,7 @@ IsTraced-computed file order chunks paths read each tracing =
     }
 
 -- where no reachable object has a defect, the file is compacted
-pub CompactsTo-computed : (file : List ℕ) (order : Order) (chunks : List (List ℕ)) (paths : List (Option (List ℕ))) (answer : List ℕ) → IsReadAs file order (concat chunks) → list_all is_chunk chunks ≡ true → is_tracing (image_in file order chunks).memory paths ≡ true → first_defect (image_in file order chunks).memory (marks_of paths) ≡ None → compacted (image_in file order chunks) (marks_of paths) ≡ answer → CompactsTo file answer
+pub CompactsTo-computed : (file : List ℕ) (order : Order) (chunks : List (List ℕ)) (paths : List (Option (List ℕ))) (answer : List ℕ) → IsReadAs file order (concat chunks) → list_all is_chunk chunks ≡ true → is_tracing (image_in file order chunks).memory paths ≡ true → first_defect (image_in file order chunks).memory (marks_of paths) ≡ None → file_bytes (compacted (image_in file order chunks) (marks_of paths)) ≡ answer → CompactsTo file answer
 CompactsTo-computed file order chunks paths answer read each tracing sound bytes =
     let traced = IsTraced-computed file order chunks paths read each tracing in
     record {
@@ -157,8 +157,10 @@ IsRefused-at_chunk file order chunks word rest reason read each fault =
       sound = ap (λ (f : Findings). f.fault) read;
       order = order;
       in_order = ap (λ (f : Findings). f.found_order) read;
-      word = place;
-      reason = reason;
-      stuck = subst (λ (words : List ℕ). IsStuck words place reason) (sym (ap (λ (f : Findings). f.words) read)) (IsStuck-at_fault chunks word rest reason each fault);
-      refused = refl;
+      unreadable = record {
+        word = place;
+        reason = reason;
+        stuck = subst (λ (words : List ℕ). IsStuck words place reason) (sym (ap (λ (f : Findings). f.words) read)) (IsStuck-at_fault chunks word rest reason each fault);
+        refused = refl;
+      };
     }))

@@ -2,7 +2,7 @@
 use Rattle.std.specs.Prelude.{◌≡◌, ℕ, ◌*◌, Bool, List, [], ◌∷◌, ◌++◌, length}
 use Rattle.sqz_object.specs.declared.order.Order.{Order}
 use Rattle.sqz_object.specs.Bytes.{spelling_of}
-use Rattle.sqz_image.specs.Objects.{SavedImage}
+use Rattle.sqz_image.specs.Objects.{SavedImage, file_bytes}
 use Rattle.sqz_tool.specs.Verdict.{IsAccepted}
 use Rattle.sqz_tool.specs.Compacted.{compacted}
 
@@ -21,9 +21,9 @@ file_at order base data_words special = spelling_of order (words_at base data_wo
 abbrev pub file_of : Order → List ℕ → ℕ → List ℕ
 file_of order data_words special = file_at order 0x1000 data_words special
 
--- the file is accepted, and the answer is what it is compacted to
+-- the file is accepted, and the answer is the file of the image that is left of it
 pub record CompactsTo (file answer : List ℕ) : Type 0 where
   pub image : SavedImage
   pub marks : List Bool
   pub accepted : IsAccepted file image marks
-  pub bytes : compacted image marks ≡ answer
+  pub bytes : file_bytes (compacted image marks) ≡ answer

@@ -159,3 +159,162 @@ pub fn weak_fields()
         0x1028 in
         CompactsTo same same }
 {}
+
+/// A free chunk may be one word.
+pub fn free_word()
+    ensures { CompactsTo
+        (file_of Little (0x1007 ∷ 6 ∷ 0x320B ∷ 0x1000 ∷ []) 0x1008)
+        (file_of Little (0x1007 ∷ 0x320B ∷ 0x1000 ∷ []) 0x1004) }
+{}
+
+/// A free chunk may be the last.
+pub fn free_chunk_last()
+    ensures { CompactsTo
+        (file_of Little (0x1007 ∷ 0x320B ∷ 0x1000 ∷ 0xA ∷ 1 ∷ []) 0x1004)
+        (file_of Little (0x1007 ∷ 0x320B ∷ 0x1000 ∷ []) 0x1004) }
+{}
+
+/// That a dead object has no class is no reason to refuse the image.
+pub fn dead_without_class()
+    ensures { CompactsTo
+        (file_of Little (0x1007 ∷ 0x10B ∷ 1 ∷ 0x320B ∷ 0x1000 ∷ []) 0x100C)
+        (file_of Little (0x1007 ∷ 0x320B ∷ 0x1000 ∷ []) 0x1004) }
+{}
+
+/// A dead method may be bad.
+pub fn dead_bad_method()
+    ensures { CompactsTo
+        (file_of Little (0x1007 ∷ 0x5C0B ∷ 0x1000 ∷ 0x320B ∷ 0x1000 ∷ []) 0x100C)
+        (file_of Little (0x1007 ∷ 0x320B ∷ 0x1000 ∷ []) 0x1004) }
+{}
+
+/// A dead context may be bad.
+pub fn dead_bad_context()
+    ensures { CompactsTo
+        (file_of Little (0x1007 ∷ 0xD30B ∷ 1 ∷ 0x320B ∷ 0x1000 ∷ []) 0x100C)
+        (file_of Little (0x1007 ∷ 0x320B ∷ 0x1000 ∷ []) 0x1004) }
+{}
+
+/// The bits of a base header above the compact index are kept as they are.
+pub fn upper_header_bits()
+    ensures { let same = file_of Little
+        (0x1007 ∷ 0xFFFE110B ∷ 1 ∷ 0x320F ∷ 0x1000 ∷ 0x1004 ∷ [])
+        0x100C in
+        CompactsTo same same }
+{}
+
+/// The class word in a header of three words is renewed, too. The size in its base header, here 63,
+/// is not looked at.
+pub fn class_edge_of_three_words()
+    ensures { let file = file_of Little
+        (0x1007 ∷ 0x320F ∷ 1 ∷ 1 ∷ 0x100B ∷ 1 ∷ 8 ∷ 0x1010 ∷ 0x3FC ∷ 1 ∷ 0x320F ∷ 0x1000 ∷ 0x1020 ∷
+        [])
+        0x1028 in
+        let answer = file_of Little
+        (0x1007 ∷ 0x100B ∷ 1 ∷ 8 ∷ 0x1004 ∷ 0x3FC ∷ 1 ∷ 0x320F ∷ 0x1000 ∷ 0x1014 ∷ [])
+        0x101C in
+        CompactsTo file answer }
+{}
+
+/// The words of a byte object are kept in a big-endian file, too, and so are its bytes.
+pub fn big_endian_bytes()
+    ensures { let file = file_of Big
+        (0x1007 ∷ 0x320F ∷ 1 ∷ 1 ∷ 0x100B ∷ 1 ∷ 0x1011 ∷ 0xA0D ∷ 0x53717565 ∷ 0x616B0000 ∷ 0x320F ∷
+        0x1000 ∷ 0x101C ∷ [])
+        0x1028 in
+        let answer = file_of Big
+        (0x1007 ∷ 0x100B ∷ 1 ∷ 0x1005 ∷ 0xA0D ∷ 0x53717565 ∷ 0x616B0000 ∷ 0x320F ∷ 0x1000 ∷ 0x1010 ∷
+        [])
+        0x101C in
+        CompactsTo file answer }
+{}
+
+/// All fields of the formats 0 to 4 are traced.
+pub fn traced_formats()
+    ensures { let file = file_of Little
+        (0x1007 ∷ 0x320F ∷ 1 ∷ 1 ∷ 0x100B ∷ 0x1018 ∷ 0x110B ∷ 0x1020 ∷ 0x120B ∷ 0x1028 ∷ 0x130B ∷
+        0x1030 ∷ 0x140B ∷ 0x1000 ∷ 0x320B ∷ 0x1010 ∷ [])
+        0x1038 in
+        let answer = file_of Little
+        (0x1007 ∷ 0x100B ∷ 0x100C ∷ 0x110B ∷ 0x1014 ∷ 0x120B ∷ 0x101C ∷ 0x130B ∷ 0x1024 ∷ 0x140B ∷
+        0x1000 ∷ 0x320B ∷ 0x1004 ∷ [])
+        0x102C in
+        CompactsTo file answer }
+{}
+
+/// The fields of the formats 5 to 11 are kept as they are, here an address from which an object
+/// moves away.
+pub fn untraced_formats()
+    ensures { let file = file_of Little
+        (0x1007 ∷ 0x320F ∷ 1 ∷ 1 ∷ 0x150B ∷ 0x1010 ∷ 0x160B ∷ 0x1010 ∷ 0x170B ∷ 0x1010 ∷ 0x180B ∷
+        0x1010 ∷ 0x190B ∷ 0x1010 ∷ 0x1A0B ∷ 0x1010 ∷ 0x1B0B ∷ 0x1010 ∷ 0x3227 ∷ 0x1000 ∷ 0x1010 ∷
+        0x1018 ∷ 0x1020 ∷ 0x1028 ∷ 0x1030 ∷ 0x1038 ∷ 0x1040 ∷ [])
+        0x1048 in
+        let answer = file_of Little
+        (0x1007 ∷ 0x150B ∷ 0x1010 ∷ 0x160B ∷ 0x1010 ∷ 0x170B ∷ 0x1010 ∷ 0x180B ∷ 0x1010 ∷ 0x190B ∷
+        0x1010 ∷ 0x1A0B ∷ 0x1010 ∷ 0x1B0B ∷ 0x1010 ∷ 0x3227 ∷ 0x1000 ∷ 0x1004 ∷ 0x100C ∷ 0x1014 ∷
+        0x101C ∷ 0x1024 ∷ 0x102C ∷ 0x1034 ∷ [])
+        0x103C in
+        CompactsTo file answer }
+{}
+
+/// The formats 12 to 15 are methods. Of one without literals the header alone is traced.
+pub fn methods_without_literals()
+    ensures { let same = file_of Little
+        (0x1007 ∷ 0x5C0F ∷ 1 ∷ 0x1002 ∷ 0x5D0F ∷ 1 ∷ 0x1002 ∷ 0x5E0F ∷ 1 ∷ 0x1002 ∷ 0x5F0F ∷ 1 ∷
+        0x1002 ∷ 0x321B ∷ 0x1000 ∷ 0x1004 ∷ 0x1010 ∷ 0x101C ∷ 0x1028 ∷ [])
+        0x1034 in
+        CompactsTo same same }
+{}
+
+/// The literals of a method may end with its last field.
+pub fn literals_to_end()
+    ensures { let file = file_of Little
+        (0x1007 ∷ 0x100B ∷ 1 ∷ 0x100B ∷ 1 ∷ 0x5C13 ∷ 0x801 ∷ 0x100C ∷ 0x1000 ∷ 0x320F ∷ 0x1000 ∷
+        0x1014 ∷ [])
+        0x1024 in
+        let answer = file_of Little
+        (0x1007 ∷ 0x100B ∷ 1 ∷ 0x5C13 ∷ 0x801 ∷ 0x1004 ∷ 0x1000 ∷ 0x320F ∷ 0x1000 ∷ 0x100C ∷ [])
+        0x101C in
+        CompactsTo file answer }
+{}
+
+/// Eight bits of a method's header count its literals, here one; the others are set, too.
+pub fn method_header_bits()
+    ensures { let same = file_of Little
+        (0x1007 ∷ 0x5C13 ∷ 0xFFFC07FF ∷ 0x1000 ∷ 0x1002 ∷ 0x320F ∷ 0x1000 ∷ 0x1004 ∷ [])
+        0x1014 in
+        CompactsTo same same }
+{}
+
+/// A context may have a class word, and each of two compact indexes.
+pub fn context_with_class_word()
+    ensures { let file = file_of Little
+        (0x1007 ∷ 0x320F ∷ 1 ∷ 1 ∷ 0x100B ∷ 1 ∷ 0x1011 ∷ 0xE325 ∷ 0x1000 ∷ 1 ∷ 3 ∷ 0x1000 ∷ 0x1000 ∷
+        0x1000 ∷ 0x1010 ∷ 0x1002 ∷ 0x320F ∷ 0x1000 ∷ 0x101C ∷ [])
+        0x1040 in
+        let answer = file_of Little
+        (0x1007 ∷ 0x100B ∷ 1 ∷ 0x1005 ∷ 0xE325 ∷ 0x1000 ∷ 1 ∷ 3 ∷ 0x1000 ∷ 0x1000 ∷ 0x1000 ∷
+        0x1004 ∷ 0x1002 ∷ 0x320F ∷ 0x1000 ∷ 0x1010 ∷ [])
+        0x1034 in
+        CompactsTo file answer }
+{}
+
+/// The stack of a context is empty where its stack pointer is no integer, here nil.
+pub fn context_without_stack_pointer()
+    ensures { let same = file_of Little
+        (0x1007 ∷ 0xD323 ∷ 0x1000 ∷ 1 ∷ 0x1000 ∷ 0x1000 ∷ 0x1000 ∷ 0x1000 ∷ 0x1002 ∷ 0x320F ∷
+        0x1000 ∷ 0x1004 ∷ [])
+        0x1024 in
+        CompactsTo same same }
+{}
+
+/// Only format 3 with compact index 13 or 14 is a context, and not these four.
+pub fn like_contexts()
+    ensures { let same = file_of Little
+        (0x1007 ∷ 0x4313 ∷ 1 ∷ 1 ∷ 0xFFFFFFFF ∷ 0xC313 ∷ 1 ∷ 1 ∷ 0xFFFFFFFF ∷ 0xF313 ∷ 1 ∷ 1 ∷
+        0xFFFFFFFF ∷ 0xD213 ∷ 1 ∷ 1 ∷ 0xFFFFFFFF ∷ 0x321B ∷ 0x1000 ∷ 0x1004 ∷ 0x1014 ∷ 0x1024 ∷
+        0x1034 ∷ [])
+        0x1044 in
+        CompactsTo same same }
+{}

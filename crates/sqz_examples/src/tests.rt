@@ -1,9 +1,12 @@
 //! The worked images, run from a source to a sink.
 
+mod all_headers;
 mod answers;
+mod bad_objects;
+mod contexts_and_methods;
 mod devices;
 mod fault_lines;
 mod files;
 mod headers;
 mod program;
-mod unsupported;
+mod unreadable;

@@ -4,11 +4,8 @@ use Rattle.std.specs.List.{concat, AllByRecursion}
 use Rattle.std.proofs.lemmas.List.{length-append, take_at, drop_at}
 use Rattle.sqz_object.specs.Chunk.{IsChunk}
 use Rattle.sqz_object.specs.Partition.{IsPartition, stated_length}
-use Rattle.sqz_object.proofs.ChunkLemmas.{chunk_not_empty, stated_length-append}
+use Rattle.sqz_object.proofs.ChunkLemmas.{length-chunk, stated_length-append}
 use Rattle.sqz_image.specs.Memory.{cut, cut_at_most}
-
-pub length-chunk : (chunk : List ℕ) → IsChunk chunk → 1 ≤ length chunk
-length-chunk chunk (kind, h) = chunk_not_empty kind chunk h
 
 stated : (chunk rest : List ℕ) → IsChunk chunk → stated_length (chunk ++ rest) ≡ length chunk
 stated chunk rest (kind, h) = stated_length-append kind chunk rest h
@@ -39,7 +36,3 @@ cut-concat chunks all = cut_at_most-concat chunks (length (concat chunks)) all (
 
 pub cut-partition : (words : List ℕ) (chunks : List (List ℕ)) → IsPartition words chunks → cut words ≡ chunks
 cut-partition words chunks p = ap cut (sym p.whole) ∙ cut-concat chunks p.each
-
--- two partitions of the same words are one
-pub partition_unique : (words : List ℕ) (one other : List (List ℕ)) → IsPartition words one → IsPartition words other → one ≡ other
-partition_unique words one other p q = sym (cut-partition words one p) ∙ cut-partition words other q

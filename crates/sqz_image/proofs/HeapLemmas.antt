@@ -1,49 +1,24 @@
 -- What the parts of a heap say of the objects in its words.
-use Rattle.std.proofs.Common.{◌≡◌, ◌≢◌, ℕ, ◌+◌, ◌*◌, ◌%◌, ◌^◌, ◌<◌, ◌≤◌, ◌⊎◌, true, List, [], ◌∷◌, map, length, get_or, take, drop, slice_index, Option, Some, None, refl, sym, ap, subst, ◌∙◌, arith, inl, inr}
-use Rattle.std.specs.List.{concat, AllByRecursion}
+use Rattle.std.proofs.Common.{◌≡◌, ◌≢◌, ℕ, ◌+◌, ◌-◌, ◌*◌, ◌%◌, ◌^◌, ◌<◌, ◌≤◌, List, [], map, length, get_or, take, drop, slice_index, Option, Some, None, refl, sym, ap, subst, ◌∙◌, arith}
+use Rattle.std.specs.List.{concat}
 use Rattle.sqz_image.specs.Ranks.{IsPlaceOf, IsRising, IsRanked, IsTable}
 use Rattle.sqz_image.specs.declared.ranks.Block.{Block}
 use Rattle.std.proofs.lemmas.Simd.{map-map}
-use Rattle.std.proofs.lemmas.Bool.{or_cases, and_parts, eqb-true}
-use Rattle.std.proofs.lemmas.List.{length-map, get_or-map, length-take-le, get_or-take, get_or-drop, length-drop}
+use Rattle.std.proofs.lemmas.List.{length-map, get_or-map, get_or-take, get_or-drop, length-drop}
 use Rattle.sqz_object.specs.declared.chunk.Chunk.{Chunk}
-use Rattle.sqz_object.specs.declared.chunk.Kind.{Kind}
 use Rattle.sqz_object.specs.declared.chunk.ChunkFault.{ChunkFault}
-use Rattle.sqz_object.specs.Chunk.{IsChunk, header_type, before, words_before, chunk_kind}
+use Rattle.sqz_object.specs.Chunk.{IsChunk, before}
 use Rattle.sqz_object.specs.Reading.{BeginsWith, HasNoChunk, description}
-use Rattle.sqz_object.proofs.ChunkLemmas.{chunk_kind_is, chunk_prefix_unique}
-use Rattle.sqz_image.specs.Plain.{is_plain_chunk}
-use Rattle.sqz_image.specs.Memory.{cut, memory_of, base_headers, IsListed, IsKept, IsPlainMemory}
-use Rattle.sqz_image.specs.Objects.{Memory, Object, objects_of, objects, object_at, header_index, address_in, find}
+use Rattle.sqz_object.proofs.ChunkLemmas.{BeginsWith-description}
+use Rattle.sqz_image.specs.declared.fault.Fault.TheVariants.{BadSpecialObjects}
+use Rattle.sqz_image.specs.Memory.{cut, memory_of, base_headers, IsListed, IsKept, IsMemory, IsWholeMemory, LacksSpecial}
+use Rattle.sqz_image.specs.Objects.{Memory, Object, objects_of, objects, object_count, object_at, header_index, address_in, find}
 use Rattle.sqz_object.specs.declared.order.Order.{Order}
 use Rattle.sqz_object.specs.Partition.{IsPartition}
 use Rattle.std.specs.Prelude.{is_some}
-use Rattle.std.proofs.lemmas.Bool.{false≢true}
-use Rattle.sqz_image.specs.Index.{HasPlainPartition, IsIndex}
-use Rattle.sqz_image.proofs.CutLemmas.{length-chunk, cut-partition}
-use Rattle.sqz_image.proofs.ObjectLemmas.{StandsIn, objects_stand, objects_keep, All_at, before-chunk, Rises, addresses_rise, Rises_order, find_in_at, find_in_none, length-objects_of}
-
-same_chunk : {k l : Kind} {a b m n x y : ℕ} → k ≡ l → a ≡ b → m ≡ n → x ≡ y → let one : Chunk = record { kind = k; before = a; length = m; base = x } in one ≡ record { kind = l; before = b; length = n; base = y }
-same_chunk p q r s = cc
-
--- the header that words begin with describes the chunk that they begin with
-pub BeginsWith-description : (words : List ℕ) (chunk : Chunk) (size : ℕ) → BeginsWith words chunk → size ≤ length words → IsChunk (take size words) → chunk ≡ description (take size words)
-BeginsWith-description words chunk size begins le is_chunk =
-    let same : chunk.length ≡ size =
-    chunk_prefix_unique words chunk.length size begins.inside le (chunk.kind, begins.is_chunk) is_chunk in
-    let kind : chunk_kind (take chunk.length words) ≡ chunk.kind =
-    chunk_kind_is chunk.kind (take chunk.length words) begins.is_chunk in
-    subst (λ (n : ℕ). chunk ≡ description (take n words)) same
-    (same_chunk (sym kind) (begins.before ∙ ap words_before (sym kind)) (sym (length-take-le chunk.length words begins.inside)) begins.base)
-
--- the first word of a plain chunk has type 2 or 3
-pub plain_header : (chunk : List ℕ) → is_plain_chunk chunk ≡ true → (header_type (slice_index chunk 0) ≡ 2) ⊎ (header_type (slice_index chunk 0) ≡ 3)
-plain_header [] h = absurd cc
-plain_header (word ∷ rest) h =
-    elim (or_cases _ _ h) [
-      | inl free ↦ inl (eqb-true _ _ free)
-      | inr short ↦ inr (eqb-true _ _ (and_parts _ _ short).0)
-    ]
+use Rattle.sqz_image.specs.Index.{IsIndex}
+use Rattle.sqz_image.proofs.CutLemmas.{cut-partition}
+use Rattle.sqz_image.proofs.ObjectLemmas.{StandsIn, objects_stand, objects_keep, All_at, before-chunk, Rises, addresses_rise, Rises_order, find_in_at, find_in_none, find_in-lt, length-objects_of}
 
 abbrev no_object : Object
 no_object = record { first = 0; chunk = [] }
@@ -53,11 +28,15 @@ pub listed_is : {view memory : Memory} {words firsts : List ℕ} {blocks : List 
 listed_is {words = words} {firsts = firsts} is heap =
     subst (λ (m : Memory). IsListed m words firsts) is heap.listed
 
+-- what is found is an object of the memory that it is
+pub found_is_object : {view memory : Memory} (object : ℕ) → view ≡ memory → find view view.special ≡ Some object → object < object_count memory
+found_is_object {view = view} object is found =
+    subst (λ (m : Memory). object < object_count m) is (find_in-lt view.base (objects view) view.special object found)
+
 -- what the words of a heap have at one of its objects
 pub record HasObject (words : List ℕ) (object : Object) : Type 0 where
   pub stands : StandsIn words object
   pub is_chunk : IsChunk object.chunk
-  pub plain : is_plain_chunk object.chunk ≡ true
   pub header : before object.chunk < length object.chunk
 
 pub has_object : {memory : Memory} {words firsts : List ℕ} (heap : IsListed memory words firsts) (index : ℕ) → index < length (objects memory) → HasObject words (object_at memory index)
@@ -68,7 +47,6 @@ has_object {memory = memory} {words = words} heap index lt =
     record {
       stands = subst (λ (w : List ℕ). StandsIn w object) heap.partition.whole (All_at (StandsIn (concat memory.chunks)) (objects memory) index no_object lt (objects_stand memory.chunks));
       is_chunk = is_chunk;
-      plain = All_at (λ o. is_plain_chunk o.chunk ≡ true) (objects memory) index no_object lt (objects_keep (λ chunk. is_plain_chunk chunk ≡ true) memory.chunks heap.plain);
       header = before-chunk object.chunk is_chunk;
     }
 
@@ -151,6 +129,11 @@ pub word_there : {words : List ℕ} {object : Object} (here : HasObject words ob
 word_there {words = words} {object = object} here k lt =
     sym (get_or-drop object.first words k 0) ∙ sym (get_or-take (length object.chunk) (drop object.first words) k 0 lt) ∙ ap (λ (xs : List ℕ). get_or xs k 0) here.stands.there
 
+-- all words of an object, as a part of the heap's
+pub words_there : {words : List ℕ} {object : Object} (here : HasObject words object) (first size : ℕ) → first ≡ object.first → size ≡ length object.chunk → take (first + size - first) (drop first words) ≡ object.chunk
+words_there {words = words} {object = object} here first size first_is size_is =
+    ap (λ (n : ℕ). take n (drop first words)) (omega arith) ∙ ap (λ (n : ℕ). take (length object.chunk) (drop n words)) first_is ∙ here.stands.there
+
 -- the object's header as it is read from the heap's words
 pub chunk_there : {words : List ℕ} {object : Object} (here : HasObject words object) (chunk : Chunk) → BeginsWith (drop object.first words) chunk → chunk ≡ description object.chunk
 chunk_there {words = words} {object = object} here chunk begins =
@@ -162,23 +145,14 @@ chunk_there {words = words} {object = object} here chunk begins =
 pub no_fault_there : {words : List ℕ} {object : Object} (here : HasObject words object) (fault : ChunkFault) → HasNoChunk (drop object.first words) fault → ⊥
 no_fault_there {object = object} here fault missing = missing.none (length object.chunk) (subst IsChunk (sym here.stands.there) here.is_chunk)
 
--- the type of the word where an object begins
-pub header_there : {words : List ℕ} {object : Object} (here : HasObject words object) → (header_type (slice_index words object.first) ≡ 2) ⊎ (header_type (slice_index words object.first) ≡ 3)
-header_there {words = words} {object = object} here =
-    let some : 0 < length object.chunk = omega (arith, length-chunk object.chunk here.is_chunk) in
-    let same : slice_index words object.first ≡ slice_index object.chunk 0 =
-    ap (λ (n : ℕ). slice_index words n) (omega arith) ∙ word_there here 0 some in
-    rw same (plain_header object.chunk here.plain)
-
 -- ---- the heap of an index
 
 -- an index is what a heap keeps
 pub listed_of : (order : Order) (base special : ℕ) (words firsts headers : List ℕ) → IsIndex words firsts headers → length words < 2 ^ 30 → base + 4 * length words ≤ 2 ^ 32 → base % 4 ≡ 0 → IsListed (memory_of order base special words) words firsts
 listed_of order base special words firsts headers index few within aligned =
-    let same : cut words ≡ index.chunks = cut-partition words index.chunks index.parts.partition in
+    let same : cut words ≡ index.chunks = cut-partition words index.chunks index.partition in
     record {
-      partition = subst (IsPartition words) (sym same) index.parts.partition;
-      plain = subst (AllByRecursion (λ chunk. is_plain_chunk chunk ≡ true)) (sym same) index.parts.plain;
+      partition = subst (IsPartition words) (sym same) index.partition;
       first_words = index.first_words ∙ ap (λ (cs : List (List ℕ)). map (λ o. o.first) (objects_of cs)) (sym same);
       few_words = few;
       within = within;
@@ -188,29 +162,27 @@ listed_of order base special words firsts headers index few within aligned =
 -- an index has the base headers of the memory
 pub headers_of : (order : Order) (base special : ℕ) (words firsts headers_read : List ℕ) → IsIndex words firsts headers_read → headers_read ≡ base_headers (memory_of order base special words)
 headers_of order base special words firsts headers_read index =
-    index.base_headers ∙ ap (λ (cs : List (List ℕ)). map header_index (objects_of cs)) (sym (cut-partition words index.chunks index.parts.partition))
+    index.base_headers ∙ ap (λ (cs : List (List ℕ)). map header_index (objects_of cs)) (sym (cut-partition words index.chunks index.partition))
 
--- a plain memory of these words is the one that is kept
-pub plain_memory_is : (order : Order) (base special : ℕ) (words : List ℕ) (memory : Memory) → IsPlainMemory order base special words memory → memory ≡ memory_of order base special words
-plain_memory_is order base special words memory plain =
-    same_memory plain.in_order plain.begins plain.special_address (sym (cut-partition words memory.chunks plain.parts.partition)) where
-      same_memory : {o p : Order} {a b c d : ℕ} {x y : List (List ℕ)} → o ≡ p → a ≡ b → c ≡ d → x ≡ y → let one : Memory = record { order = o; base = a; special = c; chunks = x } in one ≡ record { order = p; base = b; special = d; chunks = y }
-      same_memory e f g h = cc
-
--- where the special objects array is missing, there is no such memory
-pub special_missing : (order : Order) (base special : ℕ) (words : List ℕ) → find (memory_of order base special words) special ≡ None → (memory : Memory) → IsPlainMemory order base special words memory → ⊥
-special_missing order base special words missing memory plain =
-    let is = plain_memory_is order base special words memory plain in
-    let found : is_some (find (memory_of order base special words) special) ≡ true = ap (λ (m : Memory). is_some (find m m.special)) (sym is) ∙ plain.found in
-    false≢true (ap is_some (sym missing) ∙ found)
-
-pub plain_memory_of : (order : Order) (base special special_object : ℕ) (words firsts headers : List ℕ) → IsIndex words firsts headers → find (memory_of order base special words) special ≡ Some special_object → IsPlainMemory order base special words (memory_of order base special words)
-plain_memory_of order base special special_object words firsts headers index found =
-    let same : cut words ≡ index.chunks = cut-partition words index.chunks index.parts.partition in
+-- it is a memory of these words
+memory_of_index : (order : Order) (base special : ℕ) (words firsts headers : List ℕ) → IsIndex words firsts headers → IsMemory order base special words (memory_of order base special words)
+memory_of_index order base special words firsts headers index =
     record {
       in_order = refl;
       begins = refl;
       special_address = refl;
-      parts = subst (HasPlainPartition words) (sym same) index.parts;
-      found = ap is_some found;
+      partition = subst (IsPartition words) (sym (cut-partition words index.chunks index.partition)) index.partition;
+    }
+
+pub whole_memory_of : (order : Order) (base special special_object : ℕ) (words firsts headers : List ℕ) → IsIndex words firsts headers → find (memory_of order base special words) special ≡ Some special_object → IsWholeMemory order base special words (memory_of order base special words)
+whole_memory_of order base special special_object words firsts headers index found =
+    record { is_memory = memory_of_index order base special words firsts headers index; found = ap is_some found }
+
+pub lacks_special_of : (order : Order) (base special : ℕ) (words firsts headers : List ℕ) → IsIndex words firsts headers → find (memory_of order base special words) special ≡ None → LacksSpecial order base special words BadSpecialObjects
+lacks_special_of order base special words firsts headers index missing =
+    record {
+      memory = memory_of order base special words;
+      is_memory = memory_of_index order base special words firsts headers index;
+      missing = missing;
+      refused = refl;
     }

@@ -2,8 +2,8 @@ pub mod ObjectLemmas
 pub mod CutLemmas
 pub mod RankLemmas
 pub mod HeapLemmas
-pub mod PlainLemmas
 pub mod IndexLemmas
+pub mod NumberLemmas
 pub mod ReadingLemmas
 pub mod Turns
 pub mod ReadingLoop

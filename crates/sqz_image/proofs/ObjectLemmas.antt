@@ -5,9 +5,8 @@ use Rattle.std.specs.List.{concat, AllByRecursion}
 use Rattle.std.proofs.lemmas.Bool.{cases_Bool, ne_eqb, eq-eqb}
 use Rattle.std.proofs.lemmas.List.{length-append, length-map, take_at, drop_at, drop-drop}
 use Rattle.sqz_object.specs.Chunk.{IsChunk, is_object, before}
-use Rattle.sqz_object.proofs.ChunkLemmas.{chunk_has_header, chunk_kind_is}
+use Rattle.sqz_object.proofs.ChunkLemmas.{chunk_has_header, chunk_kind_is, length-chunk}
 use Rattle.sqz_image.specs.Objects.{Object, objects_of, moved_on, address_in, find_in}
-use Rattle.sqz_image.proofs.CutLemmas.{length-chunk}
 
 -- the words of an object's chunk stand at its first word
 pub record StandsIn (words : List ℕ) (object : Object) : Type 0 where

@@ -1,6 +1,6 @@
 -- From a file to its image and back.
-use Rattle.std.proofs.Common.{◌≡◌, ℕ, ◌+◌, ◌*◌, ◌/◌, ◌%◌, ◌^◌, ◌<◌, ◌≤◌, Bool, true, false, not, ◌||◌, cond, eqb, ltb, List, length, take, drop, slice_index, Option, Some, None, refl, sym, ap, subst, ◌∙◌, arith, inl, inr}
-use Rattle.std.proofs.lemmas.Option.{none-some, same_Some}
+use Rattle.std.proofs.Common.{◌≡◌, ◌⊎◌, ℕ, ◌+◌, ◌*◌, ◌/◌, ◌%◌, ◌^◌, ◌<◌, ◌≤◌, Bool, true, false, not, ◌||◌, cond, eqb, ltb, List, length, take, drop, slice_index, Option, Some, None, refl, sym, ap, subst, ◌∙◌, arith, inl, inr}
+use Rattle.std.proofs.lemmas.Option.{none-some}
 use Rattle.std.proofs.lemmas.Bool.{eqb-true, ltb-false, cases_lt}
 use Rattle.std.proofs.lemmas.List.{length-drop, length-take, get_or-take, get_or_past}
 use Rattle.sqz_object.specs.declared.order.Order.{Order}
@@ -8,13 +8,12 @@ use Rattle.sqz_object.specs.Bytes.{words_of}
 use Rattle.sqz_object.specs.Partition.{IsPartition}
 use Rattle.sqz_object.proofs.WordLemmas.{length-words_of, words_of-lt}
 use Rattle.sqz_image.specs.declared.fault.Fault.{Fault}
-use Rattle.sqz_image.specs.declared.fault.Fault.TheVariants.{TooShort, BadVersion, BadHeaderSize, BadDataSize, BadBase, Truncated}
+use Rattle.sqz_image.specs.declared.fault.Fault.TheVariants.{TooShort, BadVersion, BadHeaderSize, BadDataSize, BadBase, Truncated, OutOfMemory}
 use Rattle.sqz_image.specs.File.{header_size, order_of, header_of, stated_header_size, data_size, base_address, special_address, data_of}
 use Rattle.sqz_image.specs.Objects.{SavedImage}
-use Rattle.sqz_image.specs.Refusals.{header_fault, fault_in_order, file_fault}
-use Rattle.sqz_image.specs.Numbers.{number_of_fault}
-use Rattle.sqz_image.specs.Plain.{HoldsPlain}
-use Rattle.sqz_image.specs.Memory.{IsPlainMemory}
+use Rattle.sqz_image.specs.Refusals.{header_fault, fault_in_order, file_fault, HasChunks, Holds, IsUnreadable}
+use Rattle.sqz_image.proofs.NumberLemmas.{NumberAtMost, NumberAtMost-none, NumberAtMost-some, NumberAtMost-if}
+use Rattle.sqz_image.specs.Memory.{IsMemory, IsWholeMemory, IsNoMemory}
 
 -- the tests of a header in their order
 faults : Bool → Bool → Bool → Bool → Option Fault
@@ -111,69 +110,52 @@ module _ (file header : List ℕ) (order : Order) (sound : file_fault file ≡ N
         aligned = sound_words.aligned;
       }
 
-  -- the image of a plain memory
-  pub holds_plain : (image : SavedImage) → image.header ≡ header → IsPlainMemory order (base_address header) (special_address header) (data_of order file) image.memory → HoldsPlain file image
-  holds_plain image same is =
-      let order_is = is.in_order in
-      record {
-        holds = record {
-          parts = record {
-            sound = sound;
-            order = begins ∙ ap (λ (o : Order). Some o) (sym order_is);
-            header = same ∙ is_header ∙ ap (λ (o : Order). header_of o file) (sym order_is);
-            base = is.begins ∙ ap base_address (sym same);
-            special = is.special_address ∙ ap special_address (sym same);
-            chunks = subst (λ (w : List ℕ). IsPartition w image.memory.chunks) (ap (λ (o : Order). data_of o file) (sym order_is)) is.parts.partition;
-          };
-          special = is.found;
-        };
-        plain = is.parts.plain;
-      }
+  -- the image of a memory of the data
+  module _ (image : SavedImage) (same : image.header ≡ header) where
+    pub HasChunks-memory : IsMemory order (base_address header) (special_address header) (data_of order file) image.memory → HasChunks file image
+    HasChunks-memory is =
+        let order_is = is.in_order in
+        record {
+          sound = sound;
+          order = begins ∙ ap (λ (o : Order). Some o) (sym order_is);
+          header = same ∙ is_header ∙ ap (λ (o : Order). header_of o file) (sym order_is);
+          base = is.begins ∙ ap base_address (sym same);
+          special = is.special_address ∙ ap special_address (sym same);
+          chunks = subst (λ (w : List ℕ). IsPartition w image.memory.chunks) (ap (λ (o : Order). data_of o file) (sym order_is)) is.partition;
+        }
 
-  -- the memory of a plain image
-  pub plain_memory : (image : SavedImage) → HoldsPlain file image → IsPlainMemory order (base_address header) (special_address header) (data_of order file) image.memory
-  plain_memory image is =
-      let order_is : image.memory.order ≡ order = same_Some _ _ (sym is.holds.parts.order ∙ begins) in
-      let same : image.header ≡ header = is.holds.parts.header ∙ ap (λ (o : Order). header_of o file) order_is ∙ sym is_header in
-      record {
-        in_order = order_is;
-        begins = is.holds.parts.base ∙ ap base_address same;
-        special_address = is.holds.parts.special ∙ ap special_address same;
-        parts = record {
-          partition = subst (λ (w : List ℕ). IsPartition w image.memory.chunks) (ap (λ (o : Order). data_of o file) order_is) is.holds.parts.chunks;
-          plain = is.plain;
-        };
-        found = is.holds.special;
-      }
+    pub Holds-memory : IsWholeMemory order (base_address header) (special_address header) (data_of order file) image.memory → Holds file image
+    Holds-memory is = record { parts = HasChunks-memory is.is_memory; special = is.found }
+
+  -- why the data are no memory is why the file holds no image
+  pub IsUnreadable-memory : (fault : Fault) → IsNoMemory order (base_address header) (special_address header) (data_of order file) fault → IsUnreadable file fault
+  IsUnreadable-memory fault (inl unreadable) =
+      inr (inl record { sound = sound; order = order; in_order = begins; unreadable = unreadable })
+  IsUnreadable-memory fault (inr lacks) =
+      inr (inr record {
+        image = record { header = header; memory = lacks.memory };
+        parts = HasChunks-memory (record { header = header; memory = lacks.memory }) refl lacks.is_memory;
+        missing = lacks.missing;
+        refused = lacks.refused;
+      })
+
+  -- the same of a call that may be refused memory, too
+  pub refused-memory : (fault : Fault) → (fault ≡ OutOfMemory) ⊎ IsNoMemory order (base_address header) (special_address header) (data_of order file) fault → (fault ≡ OutOfMemory) ⊎ IsUnreadable file fault
+  refused-memory fault (inl none) = inl none
+  refused-memory fault (inr missing) = inr (IsUnreadable-memory fault missing)
 
 -- ---- the refusals 1 to 6 are these
 
-low : (one other : Fault) → number_of_fault one ≤ 6 → Some one ≡ Some other → number_of_fault other ≤ 6
-low one other le e = subst (λ (f : Fault). number_of_fault f ≤ 6) (same_Some _ _ e) le
+header_fault_low : (header : List ℕ) (bytes : ℕ) → NumberAtMost 6 (header_fault header bytes)
+header_fault_low header bytes =
+    NumberAtMost-if 6 _ BadHeaderSize _ (omega arith)
+    (NumberAtMost-if 6 _ BadDataSize _ (omega arith)
+    (NumberAtMost-if 6 _ BadBase _ (omega arith)
+    (NumberAtMost-if 6 _ Truncated None (omega arith) (NumberAtMost-none 6))))
 
-faults_low : (size multiple base room : Bool) (fault : Fault) → faults size multiple base room ≡ Some fault → number_of_fault fault ≤ 6
-unfolding faults
-faults_low false multiple base room fault e = low BadHeaderSize fault (omega arith) e
-faults_low true false base room fault e = low BadDataSize fault (omega arith) e
-faults_low true true true room fault e = low BadBase fault (omega arith) e
-faults_low true true false true fault e = low Truncated fault (omega arith) e
-faults_low true true false false fault e = absurd (none-some fault e)
+in_order_low : (file : List ℕ) (found : Option Order) → NumberAtMost 6 (fault_in_order found file)
+in_order_low file None = NumberAtMost-some 6 BadVersion (omega arith)
+in_order_low file (Some order) = header_fault_low (header_of order file) (length file)
 
-header_fault_low : (header : List ℕ) (bytes : ℕ) (fault : Fault) → header_fault header bytes ≡ Some fault → number_of_fault fault ≤ 6
-unfolding faults
-header_fault_low header bytes fault e =
-    faults_low (eqb (stated_header_size header) header_size) (eqb (data_size header % 4) 0)
-    (not (eqb (base_address header % 4) 0) || ltb (2 ^ 32) (base_address header + data_size header))
-    (ltb bytes (header_size + data_size header)) fault e
-
-in_order_low : (file : List ℕ) (found : Option Order) (fault : Fault) → fault_in_order found file ≡ Some fault → number_of_fault fault ≤ 6
-in_order_low file None fault e = low BadVersion fault (omega arith) e
-in_order_low file (Some order) fault e = header_fault_low (header_of order file) (length file) fault e
-
-short_low : (short : Bool) (rest : Option Fault) (fault : Fault) → ((f : Fault) → rest ≡ Some f → number_of_fault f ≤ 6) → cond short (Some TooShort) rest ≡ Some fault → number_of_fault fault ≤ 6
-short_low true rest fault le e = low TooShort fault (omega arith) e
-short_low false rest fault le e = le fault e
-
-pub file_fault_low : (file : List ℕ) (fault : Fault) → file_fault file ≡ Some fault → number_of_fault fault ≤ 6
-file_fault_low file fault e =
-    short_low (ltb (length file) header_size) (fault_in_order (order_of file) file) fault (in_order_low file (order_of file)) e
+pub file_fault_low : (file : List ℕ) → NumberAtMost 6 (file_fault file)
+file_fault_low file = NumberAtMost-if 6 _ TooShort _ (omega arith) (in_order_low file (order_of file))

@@ -2,8 +2,8 @@ pub mod Numbers
 pub mod File
 pub mod Objects
 pub mod Refusals
-pub mod Plain
 pub mod Devices
+pub mod Header
 pub mod Memory
 pub mod Ranks
 pub mod Index

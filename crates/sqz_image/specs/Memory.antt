@@ -1,13 +1,13 @@
 -- The object memory that stands in a list of data words, which is how a heap is kept.
-use Rattle.std.specs.Prelude.{◌≡◌, ℕ, zero, suc, ◌+◌, ◌*◌, ◌%◌, ◌^◌, ◌<◌, ◌≤◌, List, [], ◌∷◌, map, length, take, drop, Some, IsSome, true}
-use Rattle.std.specs.List.{AllByRecursion}
+use Rattle.std.specs.Prelude.{◌≡◌, ◌⊎◌, ℕ, zero, suc, ◌+◌, ◌*◌, ◌%◌, ◌^◌, ◌<◌, ◌≤◌, List, [], ◌∷◌, map, length, take, drop, Some, None, IsSome}
 use Rattle.sqz_object.specs.declared.order.Order.{Order}
 use Rattle.sqz_object.specs.Partition.{IsPartition, stated_length}
-use Rattle.sqz_image.specs.Plain.{is_plain_chunk}
-use Rattle.sqz_image.specs.Index.{HasPlainPartition}
+use Rattle.sqz_image.specs.declared.fault.Fault.{Fault}
+use Rattle.sqz_image.specs.declared.fault.Fault.TheVariants.{BadSpecialObjects}
 use Rattle.sqz_image.specs.declared.ranks.Block.{Block}
 use Rattle.sqz_image.specs.Ranks.{IsRanked}
 use Rattle.sqz_image.specs.Objects.{Memory, objects, header_index, find}
+use Rattle.sqz_image.specs.Refusals.{HasNoPartition}
 
 -- words cut by the lengths that their headers state, as many times at most as is said
 abbrev pub cut_at_most : ℕ → List ℕ → List (List ℕ)
@@ -37,7 +37,6 @@ base_headers memory = map header_index (objects memory)
 -- what is kept of an object memory: its words, and the index of the first word of each object
 pub record IsListed (memory : Memory) (words firsts : List ℕ) : Type 0 where
   pub partition : IsPartition words memory.chunks
-  pub plain : AllByRecursion (λ chunk. is_plain_chunk chunk ≡ true) memory.chunks
   pub first_words : firsts ≡ map (λ object. object.first) (objects memory)
   pub few_words : length words < 2 ^ 30
   pub within : memory.base + 4 * length words ≤ 2 ^ 32
@@ -49,10 +48,26 @@ pub record IsKept (memory : Memory) (words firsts : List ℕ) (blocks : List Blo
   pub headers : IsRanked (base_headers memory) (length (base_headers memory)) blocks
   pub found : find memory memory.special ≡ Some special_object
 
--- the object memory with these data words, where they are plain chunks and the special objects array is there
-pub record IsPlainMemory (order : Order) (base special : ℕ) (words : List ℕ) (memory : Memory) : Type 0 where
+-- an object memory with these data words
+pub record IsMemory (order : Order) (base special : ℕ) (words : List ℕ) (memory : Memory) : Type 0 where
   pub in_order : memory.order ≡ order
   pub begins : memory.base ≡ base
   pub special_address : memory.special ≡ special
-  pub parts : HasPlainPartition words memory.chunks
+  pub partition : IsPartition words memory.chunks
+
+-- and its special objects array is there
+pub record IsWholeMemory (order : Order) (base special : ℕ) (words : List ℕ) (memory : Memory) : Type 0 where
+  pub is_memory : IsMemory order base special words memory
   pub found : IsSome (find memory memory.special)
+
+-- there is no object at the address of the special objects array
+pub record LacksSpecial (order : Order) (base special : ℕ) (words : List ℕ) (fault : Fault) : Type 0 where
+  pub memory : Memory
+  pub is_memory : IsMemory order base special words memory
+  pub missing : find memory memory.special ≡ None
+  pub refused : fault ≡ BadSpecialObjects
+
+-- there is no such memory, for this reason
+abbrev pub IsNoMemory : Order → ℕ → ℕ → List ℕ → Fault → Type 0
+IsNoMemory order base special words fault =
+    HasNoPartition words fault ⊎ LacksSpecial order base special words fault

@@ -1,7 +1,7 @@
 -- The number of each fault, as the documents list them.
 use Rattle.std.specs.Prelude.{ℕ}
 use Rattle.sqz_image.specs.declared.fault.Fault.{Fault}
-use Rattle.sqz_image.specs.declared.fault.Fault.TheVariants.{TooShort, BadVersion, BadHeaderSize, BadDataSize, BadBase, Truncated, ZeroSize, HeaderMismatch, Overrun, BadSpecialObjects, NoClass, BadMethod, BadContext, BadPointer, OutOfMemory, ReadFailed, WriteFailed, BadWorkers, BadCut, BadWeak, NoNil, NotYet}
+use Rattle.sqz_image.specs.declared.fault.Fault.TheVariants.{TooShort, BadVersion, BadHeaderSize, BadDataSize, BadBase, Truncated, ZeroSize, HeaderMismatch, Overrun, BadSpecialObjects, NoClass, BadMethod, BadContext, BadPointer, OutOfMemory, ReadFailed, WriteFailed, BadWorkers, BadCut, BadWeak, NoNil}
 
 abbrev pub number_of_fault : Fault → ℕ
 number_of_fault TooShort = 1
@@ -25,4 +25,3 @@ number_of_fault BadWorkers = 18
 number_of_fault BadCut = 19
 number_of_fault (BadWeak address) = 20
 number_of_fault NoNil = 21
-number_of_fault NotYet = 22

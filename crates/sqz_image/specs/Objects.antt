@@ -1,6 +1,8 @@
 -- The object memory as a list of chunks, and its objects: the chunks that are not free.
 use Rattle.std.specs.Prelude.{ℕ, suc, ◌+◌, ◌*◌, ◌==◌, if◌then◌else◌, List, [], ◌∷◌, ◌++◌, map, length, slice_index_or, Option, Some, None, option_map}
+use Rattle.std.specs.List.{concat}
 use Rattle.sqz_object.specs.declared.order.Order.{Order}
+use Rattle.sqz_object.specs.Bytes.{spelling_of}
 use Rattle.sqz_object.specs.Chunk.{is_object, before}
 
 -- an object memory as it was saved: the byte order of the file, the address of the first data word,
@@ -36,8 +38,9 @@ object_count memory = length (objects memory)
 abbrev pub object_at : Memory → ℕ → Object
 object_at memory index = slice_index_or (objects memory) index record { first = 0; chunk = [] }
 
-abbrev pub chunk_at : Memory → ℕ → List ℕ
-chunk_at memory index = (object_at memory index).chunk
+-- the words of an object's chunk
+abbrev pub chunk_words : Memory → ℕ → List ℕ
+chunk_words memory index = (object_at memory index).chunk
 
 -- the index of an object's base header among the data words
 abbrev pub header_index : Object → ℕ
@@ -63,3 +66,7 @@ find memory address = find_in memory.base (objects memory) address
 pub record SavedImage : Type 0 where
   pub header : List ℕ
   pub memory : Memory
+
+-- the bytes of the file that an image is saved as: its header words, and the words of its chunks
+abbrev pub file_bytes : SavedImage → List ℕ
+file_bytes image = spelling_of image.memory.order (image.header ++ concat image.memory.chunks)

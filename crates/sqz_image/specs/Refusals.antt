@@ -47,15 +47,19 @@ refusal_of chunk_faults.ZeroSize word = ZeroSize word
 refusal_of chunk_faults.HeaderMismatch word = HeaderMismatch word
 refusal_of chunk_faults.Overrun word = Overrun word
 
+-- the words cannot be cut into chunks
+pub record HasNoPartition (words : List ℕ) (fault : Fault) : Type 0 where
+  pub word : ℕ
+  pub reason : ChunkFault
+  pub stuck : IsStuck words word reason
+  pub refused : fault ≡ refusal_of reason word
+
 -- the data cannot be cut into chunks
 pub record HasUnreadableChunk (file : List ℕ) (fault : Fault) : Type 0 where
   pub sound : file_fault file ≡ None
   pub order : Order
   pub in_order : order_of file ≡ Some order
-  pub word : ℕ
-  pub reason : ChunkFault
-  pub stuck : IsStuck (data_of order file) word reason
-  pub refused : fault ≡ refusal_of reason word
+  pub unreadable : HasNoPartition (data_of order file) fault
 
 -- there is no object at the address of the special objects array
 pub record LacksSpecialObjects (file : List ℕ) (fault : Fault) : Type 0 where

@@ -72,8 +72,6 @@ pub enum Fault {
     BadWeak { address: u32 },
     #[error("nil not found")]
     NoNil,
-    #[error("not yet supported")]
-    NotYet,
 }
 
 impl Fault {
@@ -103,7 +101,6 @@ impl Fault {
             Fault::BadCut => 19,
             Fault::BadWeak { .. } => 20,
             Fault::NoNil => 21,
-            Fault::NotYet => 22,
         }
     }
 }

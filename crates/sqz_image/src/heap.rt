@@ -1,17 +1,20 @@
 //! The object memory of an image, and its objects.
 
-ghost use Rattle.std.specs.Prelude.{◌≡◌, ℕ, ◌+◌, ◌-◌, ◌*◌, ◌%◌, ◌^◌, ◌<◌, ◌≤◌, List, map, length, slice_index, Some, IfOk, IfSome, IsNone};
+ghost use Rattle.std.specs.Prelude.{◌≡◌, ◌⊎◌, ℕ, ◌+◌, ◌-◌, ◌*◌, ◌%◌, ◌^◌, ◌<◌, ◌≤◌, List, map, length, slice_index, Some, IfOk, IfErr};
 ghost use Rattle.std.specs.List.{concat};
 ghost use Rattle.sqz_object.specs.Chunk.{fields};
 ghost use Rattle.sqz_object.specs.Reading.{description};
-ghost use Rattle.sqz_image.specs.Objects.{Memory, object_count, object_at, address_of, chunk_at as chunk_words, find};
-ghost use Rattle.sqz_image.specs.Memory.{IsPlainMemory};
+ghost use Rattle.sqz_image.specs.declared.fault.Fault.TheVariants.{OutOfMemory};
+ghost use Rattle.sqz_image.specs.Objects.{object_count, object_at, address_of, chunk_words, find};
+ghost use Rattle.sqz_image.specs.Memory.{IsWholeMemory, IsNoMemory};
 ghost use Rattle.sqz_image.specs.Ranks.{IsPlaceOf, IsRanked, IsTable};
 
+use crate::fault::Fault;
 use crate::index::{Index, index_of};
+use crate::object::Object;
 use crate::ranks::{Block, place_of, ranked};
 use sqz_object::{Chunk, Order, chunk_at};
-use std::alloc::{AllocError, Global};
+use std::alloc::Global;
 use std::marker::Model;
 
 /// An object memory as it was saved: chunks of words, of which those that are not free are objects.
@@ -41,30 +44,28 @@ impl Model for Heap {
 }
 
 impl Heap {
-    /// The object memory with these data words; None where they are no plain chunks, or no object has
-    /// the address of the special objects array.
+    /// The object memory with these data words. Refused where they are not chunks one after the other, or
+    /// no object has the address of the special objects array; else for want of memory alone.
     pub(crate) fn of(
         alloc: Global,
         order: Order,
         base: u32,
         special: u32,
         words: Vec<u32>,
-    ) -> Result<Option<Self>, AllocError>
+    ) -> Result<Self, Fault>
         requires few { length words.items < 2 ^ 30 }
         requires within { base + 4 * length words.items ≤ 2 ^ 32 }
         requires aligned { base % 4 ≡ 0 }
-        ensures heap { IfOk result (λ found. IfSome found (λ heap. IsPlainMemory order base special words.items heap)) }
-        ensures none { IfOk result (λ found. IsNone found → (memory : Memory) → IsPlainMemory order base special words.items memory → ⊥) }
+        ensures heap { IfOk result (λ heap. IsWholeMemory order base special words.items heap) }
+        ensures refused { IfErr result (λ fault. (fault ≡ OutOfMemory) ⊎ IsNoMemory order base special words.items fault) }
     {
-        let Some(index) = index_of(alloc, &words)? else {
-            return Ok(None);
-        };
+        let index = index_of(alloc, &words)?;
         let Index { firsts, headers } = index;
         let headers = ranked(alloc, &headers)?;
         let Some(special_object) = place_at(&headers, base, special) else {
-            return Ok(None);
+            return Err(Fault::BadSpecialObjects);
         };
-        Ok(Some(Heap {
+        Ok(Heap {
             order,
             base,
             special,
@@ -72,7 +73,7 @@ impl Heap {
             words,
             firsts,
             headers,
-        }))
+        })
     }
 
     /// The byte order of the file.
@@ -109,7 +110,8 @@ impl Heap {
     /// The address of the object's base header.
     pub fn address(&self, object: u32) -> u32
         requires { object < object_count self.now }
-        ensures { result ≡ address_of self.now object }
+        ensures address { result ≡ address_of self.now object }
+        ensures within { result + 4 ≤ 2 ^ 32 }
     {
         let offset = 4 * (self.first(object) + self.chunk(object).before);
         offset + self.base
@@ -122,6 +124,16 @@ impl Heap {
         ensures inside { result + length (chunk_words self.now object) < 2 ^ 30 }
     {
         self.firsts[object as usize]
+    }
+
+    /// The object: its chunk's header and words.
+    pub fn object(&self, object: u32) -> Object<'_>
+        requires { object < object_count self.now }
+        ensures { result ≡ chunk_words self.now object }
+    {
+        let header = self.chunk(object);
+        let first = self.first(object) as usize;
+        Object::new(header, &self.words[first..first + header.length as usize])
     }
 
     /// What the header words of the object's chunk say.
@@ -173,7 +185,8 @@ impl Heap {
 
     /// The special objects array.
     pub fn special(&self) -> u32
-        ensures { find self.now self.now.special ≡ Some result }
+        ensures special { find self.now self.now.special ≡ Some result }
+        ensures inside { result < object_count self.now }
     {
         self.special_object
     }

@@ -1,11 +1,13 @@
 //! Where the objects stand among the data words.
 
-ghost use Rattle.std.specs.Prelude.{ℕ, ◌^◌, ◌<◌, length, IfOk, MatchOption, List};
-ghost use Rattle.sqz_image.specs.Index.{IsIndex, HasPlainPartition};
+ghost use Rattle.std.specs.Prelude.{◌≡◌, ◌⊎◌, ◌^◌, ◌<◌, length, IfOk, IfErr};
+ghost use Rattle.sqz_image.specs.declared.fault.Fault.TheVariants.{OutOfMemory};
+ghost use Rattle.sqz_image.specs.Index.{IsIndex};
+ghost use Rattle.sqz_image.specs.Refusals.{HasNoPartition, refusal_of};
 
-use crate::plain::plain_chunk_at;
-use sqz_object::Kind;
-use std::alloc::{AllocError, Global};
+use crate::fault::Fault;
+use sqz_object::{ChunkFault, Kind, chunk_at};
+use std::alloc::Global;
 
 /// Where each object stands.
 #[derive(Drop)]
@@ -16,19 +18,20 @@ pub(crate) struct Index {
     pub headers: Vec<u32>,
 }
 
-/// The objects of the words; None where the words are no plain chunks, one after the other.
-pub(crate) fn index_of(alloc: Global, words: &[u32]) -> Result<Option<Index>, AllocError>
+/// The objects of words that are chunks, one after the other. Refused at the first chunk that cannot
+/// be read: `ZeroSize`, `HeaderMismatch` or `Overrun`; else for want of memory alone.
+pub(crate) fn index_of(alloc: Global, words: &[u32]) -> Result<Index, Fault>
     requires few { length words.now < 2 ^ 30 }
-    ensures { IfOk result (λ found. MatchOption found
-        ((chunks : List (List ℕ)) → HasPlainPartition words.now chunks → ⊥)
-        (λ index. IsIndex words.now index.firsts.items index.headers.items)) }
+    ensures index { IfOk result (λ index. IsIndex words.now index.firsts.items index.headers.items) }
+    ensures refused { IfErr result (λ fault. (fault ≡ OutOfMemory) ⊎ HasNoPartition words.now fault) }
 {
     let mut firsts = Vec::new(alloc);
     let mut headers = Vec::new(alloc);
     let mut p = 0;
     while p < words.len() {
-        let Some(chunk) = plain_chunk_at(words, p) else {
-            return Ok(None);
+        let chunk = match chunk_at(words, p) {
+            Ok(chunk) => chunk,
+            Err(reason) => return Err(refusal_of(reason, p as u32)),
         };
         match chunk.kind {
             Kind::Free => {}
@@ -39,5 +42,16 @@ pub(crate) fn index_of(alloc: Global, words: &[u32]) -> Result<Option<Index>, Al
         }
         p += chunk.length as usize;
     }
-    Ok(Some(Index { firsts, headers }))
+    Ok(Index { firsts, headers })
+}
+
+/// The refusal of a chunk that cannot be read, by the index of its first word.
+fn refusal_of(reason: ChunkFault, word: u32) -> Fault
+    ensures { result ≡ refusal_of reason word }
+{
+    match reason {
+        ChunkFault::ZeroSize => Fault::ZeroSize { word },
+        ChunkFault::HeaderMismatch => Fault::HeaderMismatch { word },
+        ChunkFault::Overrun => Fault::Overrun { word },
+    }
 }

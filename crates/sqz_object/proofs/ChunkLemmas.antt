@@ -1,18 +1,16 @@
 -- What the words of a chunk say of it, and when no chunk begins with some words.
-use Rattle.std.proofs.Common.{◌≡◌, ℕ, zero, suc, ◌+◌, ◌-◌, ◌/◌, ◌%◌, ◌<◌, ◌≤◌, ◌⊎◌, Bool, true, false, not, ◌&&◌, cond, eqb, ltb, List, [], ◌∷◌, ◌++◌, length, take, drop, slice_index, Option, Some, None, refl, sym, ap, subst, ◌∙◌, add-zero, arith, inl, inr}
+use Rattle.std.proofs.Common.{◌≡◌, ℕ, zero, suc, ◌+◌, ◌-◌, ◌/◌, ◌%◌, ◌<◌, ◌≤◌, ◌⊎◌, Bool, true, false, not, ◌&&◌, cond, eqb, ltb, List, [], ◌∷◌, ◌++◌, length, take, drop, slice_index, Option, Some, None, refl, sym, ap, subst, ◌∙◌, arith, inl, inr}
 use Rattle.std.specs.List.{list_all}
 use Rattle.std.proofs.lemmas.Bool.{ltb-false, eqb-true, eqb-false, lt-ltb, le-ltb, eq-eqb, ne_eqb, and_parts}
-use Rattle.std.proofs.lemmas.List.{take-append-drop, length-append, length-take-le, get_or-take, get_or-drop, take_at}
-use Rattle.sqz_object.specs.declared.base.Base.{Base}
+use Rattle.std.proofs.lemmas.List.{take-append-drop, length-append, length-take-le, get_or-take, take_at}
 use Rattle.sqz_object.specs.declared.chunk.Kind.{Kind}
 use Rattle.sqz_object.specs.declared.chunk.Kind.TheVariants.{Three, Two, Free, Short}
 use Rattle.sqz_object.specs.declared.chunk.Chunk.{Chunk}
 use Rattle.sqz_object.specs.declared.chunk.ChunkFault.{ChunkFault}
 use Rattle.sqz_object.specs.declared.chunk.ChunkFault.TheVariants.{ZeroSize, HeaderMismatch, Overrun}
-use Rattle.sqz_object.specs.Value.{base_of}
 use Rattle.sqz_object.specs.Chunk.{header_type, size_field, IsChunkOf, IsChunk, kind_of, chunk_kind, words_before, before, base_word}
-use Rattle.sqz_object.specs.Partition.{stated_size, stated_length, is_of_one_type, chunk_fault}
-use Rattle.sqz_object.specs.Reading.{BeginsWith, HasNoChunk}
+use Rattle.sqz_object.specs.Partition.{size_stated, stated_size, stated_length, is_of_one_type, chunk_fault}
+use Rattle.sqz_object.specs.Reading.{BeginsWith, HasNoChunk, description}
 
 -- ---- the kind that a header type stands for
 
@@ -67,6 +65,9 @@ chunk_has_header _ _ h = absurd h
 -- a chunk has a word
 pub chunk_not_empty : (kind : Kind) (chunk : List ℕ) → IsChunkOf kind chunk → 1 ≤ length chunk
 chunk_not_empty kind chunk h = let k = chunk_has_header kind chunk h in omega arith
+
+pub length-chunk : (chunk : List ℕ) → IsChunk chunk → 1 ≤ length chunk
+length-chunk chunk (kind, h) = chunk_not_empty kind chunk h
 
 -- the first word of a chunk tells its kind
 pub chunk_kind_is : (kind : Kind) (chunk : List ℕ) → IsChunkOf kind chunk → chunk_kind chunk ≡ kind
@@ -229,8 +230,8 @@ states_chunk Three (size ∷ class ∷ base ∷ fields) rest (a, b, c, len) =
 states_chunk Two (class ∷ base ∷ fields) rest (a, b, len) =
     let more : length (fields ++ rest) ≡ length fields + length rest = length-append fields rest in
     record {
-      has_room = record { header = rw a (omega arith); one_type = rw (a, a, b) refl; some_size = rw (a, a) (omega arith); room = rw (a, a) (omega arith) };
-      states = rw (a, a) (omega arith);
+      has_room = record { header = rw a (omega arith); one_type = rw (a, a, b) refl; some_size = rw a (omega arith); room = rw a (omega arith) };
+      states = rw a (omega arith);
     }
 states_chunk Free (free ∷ fields) rest (a, len) =
     let more : length (fields ++ rest) ≡ length fields + length rest = length-append fields rest in
@@ -241,8 +242,8 @@ states_chunk Free (free ∷ fields) rest (a, len) =
 states_chunk Short (base ∷ fields) rest (a, len) =
     let more : length (fields ++ rest) ≡ length fields + length rest = length-append fields rest in
     record {
-      has_room = record { header = rw a (omega arith); one_type = rw (a, a) refl; some_size = rw (a, a) (omega arith); room = rw (a, a) (omega arith) };
-      states = rw (a, a) (omega arith);
+      has_room = record { header = rw a (omega arith); one_type = rw (a, a) refl; some_size = rw a (omega arith); room = rw a (omega arith) };
+      states = rw a (omega arith);
     }
 states_chunk _ _ rest h = absurd h
 
@@ -313,10 +314,10 @@ chunk_from Three (size ∷ class ∷ base ∷ rest) a lt h =
     rw is (a, eqb-true _ _ tests.0, eqb-true _ _ last.0, omega arith)
 chunk_from Two (class ∷ base ∷ rest) a lt h =
     let types : (eqb (base % 4) 1 && true) ≡ true = rw (a, a) at h.one_type in
-    let some : 0 < size_field base = rw (a, a) at h.some_size in
-    let room : 1 + size_field base ≤ length (class ∷ base ∷ rest) = rw (a, a) at h.room in
+    let some : 0 < size_field base = rw a at h.some_size in
+    let room : 1 + size_field base ≤ length (class ∷ base ∷ rest) = rw a at h.room in
     let k : ℕ = size_field base - 1 in
-    let is : stated_length (class ∷ base ∷ rest) ≡ suc (suc k) = rw (a, a) (omega arith) in
+    let is : stated_length (class ∷ base ∷ rest) ≡ suc (suc k) = rw a (omega arith) in
     let len : length (take k rest) ≡ k = length-take-le k rest (omega arith) in
     let tests = and_parts _ _ types in
     rw is (a, eqb-true _ _ tests.0, omega arith)
@@ -328,10 +329,10 @@ chunk_from Free (free ∷ rest) a lt h =
     let len : length (take k rest) ≡ k = length-take-le k rest (omega arith) in
     rw is (a, omega arith)
 chunk_from Short (base ∷ rest) a lt h =
-    let some : 0 < size_field base = rw (a, a) at h.some_size in
-    let room : 0 + size_field base ≤ length (base ∷ rest) = rw (a, a) at h.room in
+    let some : 0 < size_field base = rw a at h.some_size in
+    let room : 0 + size_field base ≤ length (base ∷ rest) = rw a at h.room in
     let k : ℕ = size_field base - 1 in
-    let is : stated_length (base ∷ rest) ≡ suc k = rw (a, a) (omega arith) in
+    let is : stated_length (base ∷ rest) ≡ suc k = rw a (omega arith) in
     let len : length (take k rest) ≡ k = length-take-le k rest (omega arith) in
     rw is (a, omega arith)
 chunk_from _ _ a lt h = absurd (omega arith)
@@ -358,95 +359,76 @@ BeginsWith-from_no_fault words e =
       base = sym (base_word-take (stated_length words) words lt);
     }
 
--- ---- chunks of one header word
+-- ---- the header that words begin with
 
--- what the one header word at the front says
-pub record HasOneHeader (words : List ℕ) (kind : Kind) (size : ℕ) : Type 0 where
-  pub kind_is : chunk_kind words ≡ kind
-  pub none_before : before words ≡ 0
-  pub size_is : stated_size (chunk_kind words) words ≡ size
-
--- a word of type 2 says so
-pub HasOneHeader-free : (words : List ℕ) (first : ℕ) → slice_index words 0 ≡ first → header_type first ≡ 2 → HasOneHeader words Free (first / 4)
-HasOneHeader-free words first is two =
-    let kind : chunk_kind words ≡ Free = ap kind_of is ∙ kind_of-free first two in
-    record {
-      kind_is = kind;
-      none_before = ap words_before kind;
-      size_is = ap (λ (k : Kind). stated_size k words) kind ∙ ap (λ (w : ℕ). w / 4) is;
-    }
-
--- a word of type 3 says so
-pub HasOneHeader-short : (words : List ℕ) (first : ℕ) → slice_index words 0 ≡ first → header_type first ≡ 3 → HasOneHeader words Short (size_field first)
-HasOneHeader-short words first is three =
-    let kind : chunk_kind words ≡ Short = ap kind_of is ∙ kind_of-short first three in
-    let none : before words ≡ 0 = ap words_before kind in
-    let base : base_word words ≡ first = ap (λ (i : ℕ). slice_index words i) none ∙ is in
-    record {
-      kind_is = kind;
-      none_before = none;
-      size_is = ap (λ (k : Kind). stated_size k words) kind ∙ ap size_field base;
-    }
-
--- one header word has the type of itself
-first_is_of_its_type : (words : List ℕ) → list_all (λ word. eqb (header_type word) (header_type (slice_index words 0))) (take 1 words) ≡ true
-first_is_of_its_type [] = refl
-first_is_of_its_type (word ∷ words) = rw (eq-eqb (header_type word) (header_type word) refl) refl
-
--- one header word has one type
-one_type_of_one : (words : List ℕ) → before words ≡ 0 → is_of_one_type words ≡ true
-one_type_of_one words none =
-    ap (λ (n : ℕ). list_all (λ word. eqb (header_type word) (header_type (slice_index words 0))) (take (n + 1) words)) none ∙ first_is_of_its_type words
-
--- equal fields make one chunk
+-- equal parts make one chunk
 same_chunk : {k l : Kind} {a b m n x y : ℕ} → k ≡ l → a ≡ b → m ≡ n → x ≡ y → let one : Chunk = record { kind = k; before = a; length = m; base = x } in one ≡ record { kind = l; before = b; length = n; base = y }
 same_chunk p q r s = cc
 
--- no words stated
-pub one_header_zero_size : (words : List ℕ) (kind : Kind) (size : ℕ) → HasOneHeader words kind size → 0 < length words → size ≡ 0 → HasNoChunk words ZeroSize
-one_header_zero_size words kind size h some zero_size =
-    HasNoChunk-from_fault words ZeroSize
-    (fault_of_zero_size words (rw h.none_before some) (one_type_of_one words h.none_before) (h.size_is ∙ zero_size))
+-- it describes the chunk that they begin with
+pub BeginsWith-description : (words : List ℕ) (chunk : Chunk) (size : ℕ) → BeginsWith words chunk → size ≤ length words → IsChunk (take size words) → chunk ≡ description (take size words)
+BeginsWith-description words chunk size begins le is_chunk =
+    let same : chunk.length ≡ size =
+    chunk_prefix_unique words chunk.length size begins.inside le (chunk.kind, begins.is_chunk) is_chunk in
+    let kind : chunk_kind (take chunk.length words) ≡ chunk.kind =
+    chunk_kind_is chunk.kind (take chunk.length words) begins.is_chunk in
+    subst (λ (n : ℕ). chunk ≡ description (take n words)) same
+    (same_chunk (sym kind) (begins.before ∙ ap words_before (sym kind)) (sym (length-take-le chunk.length words begins.inside)) begins.base)
 
--- more words than there are
-pub one_header_overrun : (words : List ℕ) (kind : Kind) (size : ℕ) → HasOneHeader words kind size → 0 < length words → 0 < size → length words < size → HasNoChunk words Overrun
-one_header_overrun words kind size h some positive long =
-    let none = h.none_before in
-    let is = h.size_is in
-    HasNoChunk-from_fault words Overrun
-    (fault_of_overrun words (omega arith) (one_type_of_one words none) (omega arith) (omega arith))
+-- ---- what a header that is read word by word says
 
--- some words, all there
-pub one_header_begins : (words : List ℕ) (kind : Kind) (size : ℕ) → HasOneHeader words kind size → 0 < length words → 0 < size → size ≤ length words → BeginsWith words (record { kind = kind; before = 0; length = size; base = slice_index words 0 })
-one_header_begins words kind size h some positive room =
-    let none = h.none_before in
-    let is = h.size_is in
-    let has_room : HasRoom words = record { header = omega arith; one_type = one_type_of_one words none; some_size = omega arith; room = omega arith } in
-    let states : stated_length words ≡ size = omega arith in
-    let whole : Chunk = record { kind = chunk_kind words; before = before words; length = stated_length words; base = base_word words } in
-    let same : whole ≡ record { kind = kind; before = 0; length = size; base = slice_index words 0 } =
-    same_chunk h.kind_is none states (ap (λ (i : ℕ). slice_index words i) none)
-    in
-    subst (BeginsWith words) same (BeginsWith-from_no_fault words (no_fault_with_room words has_room))
+-- the type of the first header word is told by any front of them
+one_type-take : (words : List ℕ) (count : ℕ) → 0 < count → list_all (λ word. eqb (header_type word) (header_type (slice_index (take count words) 0))) (take count words) ≡ list_all (λ word. eqb (header_type word) (header_type (slice_index words 0))) (take count words)
+one_type-take words count some =
+    ap (λ (first : ℕ). list_all (λ word. eqb (header_type word) (header_type first)) (take count words)) (get_or-take count words 0 0 some)
 
--- ---- one word of a longer list
+-- whether the header words have one type, as it is read from so many of them
+abbrev pub has_one_type : List ℕ → Bool
+has_one_type header = list_all (λ word. eqb (header_type word) (header_type (slice_index header 0))) header
 
--- the first word from `p` on
-pub slice_index-drop : (words : List ℕ) (p : ℕ) → slice_index (drop p words) 0 ≡ slice_index words p
-slice_index-drop words p = rw (get_or-drop p words 0 0, add-zero) refl
+module _ (words : List ℕ) (kind : Kind) (count : ℕ) (kind_is : kind ≡ kind_of (slice_index words 0)) (count_is : count ≡ words_before kind) where
+  before_is : before words ≡ count
+  before_is = sym (count_is ∙ ap words_before kind_is)
 
--- the header word of type 2 at `p`
-pub HasOneHeader-free_at : (words : List ℕ) (p : ℕ) (pair : Kind × ℕ) → header_type (slice_index words p) ≡ 2 → pair ≡ (Free, slice_index words p / 4) → HasOneHeader (drop p words) pair.0 pair.1
-HasOneHeader-free_at words p pair two is =
-    subst (λ (x : Kind × ℕ). HasOneHeader (drop p words) x.0 x.1) (sym is) (HasOneHeader-free (drop p words) (slice_index words p) (slice_index-drop words p) two)
+  pub HasNoChunk-short_header : length words < count + 1 → HasNoChunk words Overrun
+  HasNoChunk-short_header short =
+      HasNoChunk-from_fault words Overrun (fault_of_short_header words (omega (arith, before_is)))
 
--- of two numbers the other
-other_of_two : {n a b : ℕ} → (n ≡ a) ⊎ (n ≡ b) → (n ≡ a → ⊥) → n ≡ b
-other_of_two (inl e) h = absurd (h e)
-other_of_two (inr e) h = e
+  types_are : has_one_type (take (count + 1) words) ≡ is_of_one_type words
+  types_are =
+      one_type-take words (count + 1) (omega arith)
+      ∙ ap (λ (n : ℕ). list_all (λ word. eqb (header_type word) (header_type (slice_index words 0))) (take (n + 1) words)) (sym before_is)
 
--- the header word of type 3 at `p`
-pub HasOneHeader-short_at : (words : List ℕ) (p : ℕ) (pair : Kind × ℕ) (base : Base) → (header_type (slice_index words p) ≡ 2) ⊎ (header_type (slice_index words p) ≡ 3) → (header_type (slice_index words p) ≡ 2 → ⊥) → base ≡ base_of (slice_index words p) → pair ≡ (Short, base.size_field) → HasOneHeader (drop p words) pair.0 pair.1
-HasOneHeader-short_at words p pair base either not_two read is =
-    let all : pair ≡ (Short, size_field (slice_index words p)) = is ∙ ap (λ (b : Base). (Short, b.size_field)) read in
-    subst (λ (x : Kind × ℕ). HasOneHeader (drop p words) x.0 x.1) (sym all) (HasOneHeader-short (drop p words) (slice_index words p) (slice_index-drop words p) (other_of_two either not_two))
+  pub HasNoChunk-mixed_header : count + 1 ≤ length words → has_one_type (take (count + 1) words) ≡ false → HasNoChunk words HeaderMismatch
+  HasNoChunk-mixed_header room mixed =
+      HasNoChunk-from_fault words HeaderMismatch (fault_of_types words (omega (arith, before_is)) (sym types_are ∙ mixed))
+
+  module _ (size : ℕ) (room : count + 1 ≤ length words) (one : has_one_type (take (count + 1) words) ≡ true) (size_is : size ≡ size_stated kind (slice_index words 0) (slice_index words count)) where
+    size_is_stated : stated_size (chunk_kind words) words ≡ size
+    size_is_stated =
+        ap (λ (i : ℕ). size_stated (chunk_kind words) (slice_index words 0) (slice_index words i)) before_is
+        ∙ ap (λ (k : Kind). size_stated k (slice_index words 0) (slice_index words count)) (sym kind_is)
+        ∙ sym size_is
+
+    pub HasNoChunk-zero_size : size ≡ 0 → HasNoChunk words ZeroSize
+    HasNoChunk-zero_size none =
+        HasNoChunk-from_fault words ZeroSize
+        (fault_of_zero_size words (omega (arith, before_is)) (sym types_are ∙ one) (size_is_stated ∙ none))
+
+    pub HasNoChunk-overrun : 0 < size → length words < count + size → HasNoChunk words Overrun
+    HasNoChunk-overrun some long =
+        HasNoChunk-from_fault words Overrun
+        (fault_of_overrun words (omega (arith, before_is)) (sym types_are ∙ one) (omega (arith, size_is_stated)) (omega (arith, before_is, size_is_stated)))
+
+    pub BeginsWith-stated : 0 < size → count + size ≤ length words → BeginsWith words (record { kind = kind; before = count; length = count + size; base = slice_index words count })
+    BeginsWith-stated some inside =
+        let has_room : HasRoom words =
+        record {
+          header = omega (arith, before_is);
+          one_type = sym types_are ∙ one;
+          some_size = omega (arith, size_is_stated);
+          room = omega (arith, before_is, size_is_stated);
+        } in
+        subst (BeginsWith words)
+        (same_chunk (sym kind_is) before_is (omega (arith, before_is, size_is_stated)) (ap (λ (i : ℕ). slice_index words i) before_is))
+        (BeginsWith-from_no_fault words (no_fault_with_room words has_room))

@@ -12,12 +12,16 @@ pub record IsPartition (words : List ℕ) (chunks : List (List ℕ)) : Type 0 wh
   pub each : AllByRecursion IsChunk chunks
   pub whole : concat chunks ≡ words
 
+-- how many words a header states from its base header on, by its kind, first word and base header
+abbrev pub size_stated : Kind → ℕ → ℕ → ℕ
+size_stated Three first base = first / 4
+size_stated Two first base = size_field base
+size_stated Free first base = first / 4
+size_stated Short first base = size_field base
+
 -- how many words the header at the front says that the chunk has from its base header on
 abbrev pub stated_size : Kind → List ℕ → ℕ
-stated_size Three words = slice_index words 0 / 4
-stated_size Two words = size_field (base_word words)
-stated_size Free words = slice_index words 0 / 4
-stated_size Short words = size_field (base_word words)
+stated_size kind words = size_stated kind (slice_index words 0) (base_word words)
 
 -- how many words the header at the front says that the chunk has
 abbrev pub stated_length : List ℕ → ℕ

@@ -1,7 +1,9 @@
 //! One chunk of the object memory, read from its header words.
 
-ghost use Rattle.std.specs.Prelude.{◌≡◌, ◌⊎◌, ◌+◌, ◌^◌, ◌<◌, ◌≤◌, length, take, drop, slice_index, IfOk, IfErr, Some};
-ghost use Rattle.sqz_object.specs.Chunk.{header_type};
+ghost use Rattle.std.specs.Prelude.{◌≡◌, ◌==◌, ◌^◌, ◌<◌, ◌≤◌, length, drop, slice_index, IfOk, IfErr};
+ghost use Rattle.std.specs.List.{list_all};
+ghost use Rattle.sqz_object.specs.Chunk.{header_type, kind_of, words_before};
+ghost use Rattle.sqz_object.specs.Partition.{size_stated};
 ghost use Rattle.sqz_object.specs.Reading.{BeginsWith, HasNoChunk};
 
 use crate::base::base_of;
@@ -39,30 +41,81 @@ pub enum ChunkFault {
     Overrun,
 }
 
-/// The chunk that begins at word `p`, or the first reason for which none does.
+/// The chunk that begins at word `p`, or the first reason for which none does: the header words run
+/// past the end, they have different types, they state a size of no words, or the stated words run
+/// past the end.
 pub fn chunk_at(words: &[u32], p: usize) -> Result<Chunk, ChunkFault>
     requires inside { p < length words.now }
     requires bounded { length words.now < 2 ^ 30 }
-    requires one_word_header { (header_type (slice_index words.now p) ≡ 2) ⊎ (header_type (slice_index words.now p) ≡ 3) }
     ensures chunk { IfOk result (λ chunk. BeginsWith (drop p words.now) chunk) }
     ensures fault { IfErr result (λ fault. HasNoChunk (drop p words.now) fault) }
 {
-    let base = words[p];
-    let (kind, length) = if base % 4 == 2 {
-        (Kind::Free, base / 4)
-    } else {
-        (Kind::Short, base_of(base).size_field)
-    };
-    if length == 0 {
+    let words = &words[p..];
+    let kind = kind_of(words[0]);
+    let before = words_before(kind);
+    if words.len() < before as usize + 1 {
+        return Err(ChunkFault::Overrun);
+    }
+    if !is_of_one_type(&words[..before as usize + 1]) {
+        return Err(ChunkFault::HeaderMismatch);
+    }
+    let base = words[before as usize];
+    let size = stated_size(kind, words[0], base);
+    if size == 0 {
         return Err(ChunkFault::ZeroSize);
     }
-    if length as usize > words.len() - p {
+    let length = before + size;
+    if words.len() < length as usize {
         return Err(ChunkFault::Overrun);
     }
     Ok(Chunk {
         kind,
-        before: 0,
+        before,
         length,
         base,
     })
+}
+
+/// The kind of the chunk that begins with a word, by the word's header type.
+fn kind_of(word: u32) -> Kind
+    ensures { result ≡ kind_of word }
+{
+    match word % 4 {
+        0 => Kind::Three,
+        1 => Kind::Two,
+        2 => Kind::Free,
+        _ => Kind::Short,
+    }
+}
+
+/// How many header words stand before the base header of a chunk.
+fn words_before(kind: Kind) -> u32
+    ensures before { result ≡ words_before kind }
+    ensures few { result ≤ 2 }
+{
+    match kind {
+        Kind::Three => 2,
+        Kind::Two => 1,
+        Kind::Free | Kind::Short => 0,
+    }
+}
+
+/// Whether all header words have the type of the first.
+fn is_of_one_type(header: &[u32]) -> bool
+    requires { 0 < length header.now }
+    ensures { result ≡ list_all (λ word. header_type word == header_type (slice_index header.now 0)) header.now }
+{
+    let first = header[0] % 4;
+    header.iter().all(|word| *word % 4 == first)
+}
+
+/// How many words the header says that a chunk of this kind has from its base header on, by its first
+/// word and its base header.
+fn stated_size(kind: Kind, first: u32, base: u32) -> u32
+    ensures { result ≡ size_stated kind first base }
+{
+    match kind {
+        Kind::Three | Kind::Free => first / 4,
+        Kind::Two | Kind::Short => base_of(base).size_field,
+    }
 }

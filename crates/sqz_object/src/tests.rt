@@ -61,10 +61,35 @@ fn chunks(rt: HostRuntime) {
         base: 0xE,
     };
     assert_eq!(rt; chunk_at(&[0xE, 1, 1], 0), Ok(free));
+    let two = Chunk {
+        kind: Kind::Two,
+        before: 1,
+        length: 3,
+        base: 0x109,
+    };
+    assert_eq!(rt; chunk_at(&[1, 0x1011, 0x109, 1], 1), Ok(two));
+    let three = Chunk {
+        kind: Kind::Three,
+        before: 2,
+        length: 4,
+        base: 0x2FC,
+    };
+    assert_eq!(rt; chunk_at(&[8, 0x1000, 0x2FC, 1], 0), Ok(three));
 }
 
 #[test]
 fn no_chunk(rt: HostRuntime) {
     assert_eq!(rt; chunk_at(&[0x1003], 0), Err(ChunkFault::ZeroSize));
     assert_eq!(rt; chunk_at(&[0x320F, 1], 0), Err(ChunkFault::Overrun));
+    assert_eq!(rt; chunk_at(&[2], 0), Err(ChunkFault::ZeroSize));
+    assert_eq!(rt; chunk_at(&[8, 0x1000], 0), Err(ChunkFault::Overrun));
+    assert_eq!(rt;
+        chunk_at(&[0x11, 0x1000, 0x109, 1], 0),
+        Err(ChunkFault::HeaderMismatch)
+    );
+    assert_eq!(rt;
+        chunk_at(&[0, 0x1000, 0x203], 0),
+        Err(ChunkFault::HeaderMismatch)
+    );
+    assert_eq!(rt; chunk_at(&[0, 0x1000, 0x200], 0), Err(ChunkFault::ZeroSize));
 }

@@ -1,6 +1,8 @@
 -- The marked ones among the first of a list, as there are more of these.
-use Rattle.std.proofs.Common.{◌≡◌, ℕ, zero, suc, ◌+◌, ◌<◌, ◌≤◌, Bool, true, false, List, [], ◌∷◌, ◌++◌, length, get_or, take, refl, ap, arith, add-one}
+use Rattle.std.proofs.Common.{◌≡◌, ℕ, zero, suc, ◌+◌, ◌<◌, ◌≤◌, Bool, true, false, cond, List, [], ◌∷◌, ◌++◌, length, get_or, take, refl, ap, arith, add-one}
+use Rattle.std.specs.List.{count_by}
 use Rattle.std.proofs.lemmas.List.{take_all}
+use Rattle.std.proofs.lemmas.List.Sums.{sum_by-cons}
 use Rattle.sqz_trace.specs.Live.{marked}
 
 -- a step where the next one is marked
@@ -41,3 +43,17 @@ length-marked (true ∷ marks) [] = omega arith
 length-marked (false ∷ marks) [] = omega arith
 length-marked (true ∷ marks) (x ∷ xs) = omega (arith, length-marked marks xs)
 length-marked (false ∷ marks) (x ∷ xs) = omega (arith, length-marked marks xs)
+
+-- what a mark counts for
+abbrev counted : Bool → ℕ
+counted mark = cond mark 1 0
+
+-- there are as many marked ones as marks that are set, where each has its mark
+pub length-marked_count : {X : Type 0} (marks : List Bool) (xs : List X) → length marks ≡ length xs
+    → length (marked marks xs) ≡ count_by (λ mark. mark) marks
+length-marked_count [] xs sized = refl
+length-marked_count (mark ∷ marks) [] sized = absurd (omega arith)
+length-marked_count (true ∷ marks) (x ∷ xs) sized =
+    omega (arith, length-marked_count marks xs (omega arith), sum_by-cons counted true marks)
+length-marked_count (false ∷ marks) (x ∷ xs) sized =
+    omega (arith, length-marked_count marks xs (omega arith), sum_by-cons counted false marks)

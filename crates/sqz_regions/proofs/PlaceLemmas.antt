@@ -1,12 +1,13 @@
 -- The words of the marked objects below an object, and the object's place.
 use Rattle.std.proofs.Common.{◌≡◌, ℕ, zero, suc, ◌+◌, ◌-◌, ◌*◌, ◌<◌, ◌≤◌, Bool, true, false, cond, List, [], ◌∷◌, ◌++◌, map, length, get_or, take, refl, ap, ◌∙◌, arith}
+use Rattle.std.specs.List.{count_by}
 use Rattle.std.proofs.lemmas.List.{length-map, length-take, length_push, get_or-map, take-map}
 use Rattle.std.proofs.lemmas.List.Sums.{sum_by-cons, sum_by_push}
 use Rattle.sqz_object.specs.Chunk.{is_object}
-use Rattle.sqz_image.specs.Objects.{Memory, Object, objects_of, moved_on, objects, object_count, object_at, chunk_at, address_of}
-use Rattle.sqz_trace.specs.Live.{marked}
+use Rattle.sqz_image.specs.Objects.{Memory, Object, objects_of, moved_on, objects, object_count, object_at, chunk_words, address_of}
+use Rattle.sqz_trace.specs.Live.{marked, live}
 use Rattle.sqz_regions.specs.Places.{words_in, live_words_below, live_words, place}
-use Rattle.sqz_regions.proofs.MarkedLemmas.{marked_more_yes, marked_more_no, marked_all, length-marked}
+use Rattle.sqz_regions.proofs.MarkedLemmas.{marked_more_yes, marked_more_no, marked_all, length-marked, length-marked_count}
 
 abbrev no_object : Object
 no_object = record { first = 0; chunk = [] }
@@ -83,7 +84,7 @@ live_objects-le memory marks index =
     omega (arith, length-marked (take index marks) (take index (objects memory)), length-take index (objects memory))
 
 -- the words of one live object more
-pub live_words_more_yes : (memory : Memory) (marks : List Bool) (index : ℕ) → index < object_count memory → get_or marks index false ≡ true → live_words_below memory marks (index + 1) ≡ live_words_below memory marks index + length (chunk_at memory index)
+pub live_words_more_yes : (memory : Memory) (marks : List Bool) (index : ℕ) → index < object_count memory → get_or marks index false ≡ true → live_words_below memory marks (index + 1) ≡ live_words_below memory marks index + length (chunk_words memory index)
 live_words_more_yes memory marks index lt is =
     ap words_in (marked_more_yes marks (objects memory) index no_object lt is) ∙ sum_by_push size (marked (take index marks) (take index (objects memory))) (object_at memory index)
 
@@ -94,3 +95,8 @@ live_words_more_no memory marks index lt is = ap words_in (marked_more_no marks 
 -- the live words below the end are all live words
 pub live_words_all : (memory : Memory) (marks : List Bool) (index : ℕ) → length marks ≡ object_count memory → object_count memory ≤ index → live_words_below memory marks index ≡ live_words memory marks
 live_words_all memory marks index sized le = ap words_in (marked_all marks (objects memory) index (omega arith) le)
+
+-- there are as many live objects as marks that are set
+pub length-live : (memory : Memory) (marks : List Bool) → length marks ≡ object_count memory
+    → length (live memory marks) ≡ count_by (λ mark. mark) marks
+length-live memory marks sized = length-marked_count marks (objects memory) sized

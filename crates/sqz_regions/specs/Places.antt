@@ -1,7 +1,7 @@
 -- The place of an object in the compacted memory: the marked objects below it, and then it.
 use Rattle.std.specs.Prelude.{ℕ, ◌+◌, ◌*◌, Bool, List, take, length, sum_by}
 use Rattle.sqz_object.specs.Chunk.{before}
-use Rattle.sqz_image.specs.Objects.{Memory, Object, objects, chunk_at}
+use Rattle.sqz_image.specs.Objects.{Memory, Object, objects, chunk_words}
 use Rattle.sqz_trace.specs.Live.{marked, live}
 
 -- how many words the chunks of objects have together
@@ -19,4 +19,4 @@ live_words memory marks = words_in (live memory marks)
 -- the address of the object's base header in the compacted memory
 abbrev pub place : Memory → List Bool → ℕ → ℕ
 place memory marks index =
-    memory.base + 4 * (live_words_below memory marks index + before (chunk_at memory index))
+    memory.base + 4 * (live_words_below memory marks index + before (chunk_words memory index))

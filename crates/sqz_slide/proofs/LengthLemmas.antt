@@ -14,30 +14,10 @@ use Rattle.sqz_trace.specs.Live.{marked, live}
 use Rattle.sqz_regions.specs.Places.{words_in, live_words}
 use Rattle.sqz_slide.specs.Moved.{moved_field, moved_header, moved_fields, moved, moved_objects}
 
-length-moved_header : (memory : Memory) (marks : List Bool) (kind : Kind) (chunk : List ℕ) → IsChunkOf kind chunk → length (moved_header memory marks kind chunk) ≡ words_before kind + 1
-length-moved_header memory marks Three (size ∷ class ∷ base ∷ fields) h = refl
-length-moved_header memory marks Two (class ∷ base ∷ fields) h = refl
-length-moved_header memory marks Free (free ∷ rest) h = refl
-length-moved_header memory marks Short (base ∷ fields) h = refl
-length-moved_header memory marks _ _ h = absurd h
-
-pub length-moved_fields : (memory : Memory) (marks : List Bool) (chunk : List ℕ) → length (moved_fields memory marks chunk) ≡ length (fields chunk)
-length-moved_fields memory marks chunk =
-    let front = take (traced chunk) (fields chunk) in
-    let back = drop (traced chunk) (fields chunk) in
-    omega (arith, length-append (map (moved_field memory marks) front) back, length-map front (moved_field memory marks), length-take (traced chunk) (fields chunk), length-drop (traced chunk) (fields chunk))
-
-pub length-moved : (memory : Memory) (marks : List Bool) (chunk : List ℕ) → IsChunk chunk → length (moved memory marks chunk) ≡ length chunk
-length-moved memory marks chunk (kind, h) =
-    let is : chunk_kind chunk ≡ kind = chunk_kind_is kind chunk h in
-    let header : length (moved_header memory marks (chunk_kind chunk) chunk) ≡ before chunk + 1 =
-    ap (λ (k : Kind). length (moved_header memory marks k chunk)) is ∙ length-moved_header memory marks kind chunk h ∙ ap (λ (k : Kind). words_before k + 1) (sym is) in
-    let room : before chunk < length chunk = rw is (chunk_has_header kind chunk h) in
-    omega (arith, length-append (moved_header memory marks (chunk_kind chunk) chunk) (moved_fields memory marks chunk), length-moved_fields memory marks chunk, length-drop (before chunk + 1) chunk)
-
 abbrev size : Object → ℕ
 size object = length object.chunk
 
+-- what holds of each holds of the marked ones
 All-marked : {X : Type 0} (P : X → Type 0) (marks : List Bool) (xs : List X) → AllByRecursion P xs → AllByRecursion P (marked marks xs)
 All-marked P [] xs h = tt
 All-marked P (true ∷ marks) [] h = tt
@@ -45,12 +25,49 @@ All-marked P (false ∷ marks) [] h = tt
 All-marked P (true ∷ marks) (x ∷ xs) h = (h.0, All-marked P marks xs h.1)
 All-marked P (false ∷ marks) (x ∷ xs) h = All-marked P marks xs h.1
 
-length-all : (memory : Memory) (marks : List Bool) (live : List Object) → AllByRecursion (λ object. IsChunk object.chunk) live → length (concat (map (λ object. moved memory marks object.chunk) live)) ≡ words_in live
-length-all memory marks [] h = refl
-length-all memory marks (object ∷ live) h =
-    omega (arith, length-append (moved memory marks object.chunk) (concat (map (λ (o : Object). moved memory marks o.chunk) live)), length-moved memory marks object.chunk h.0, length-all memory marks live h.1, sum_by-cons size object live)
+module _ (memory : Memory) (marks : List Bool) where
+  -- a header keeps its length
+  length-moved_header : (kind : Kind) (chunk : List ℕ) → IsChunkOf kind chunk
+      → length (moved_header memory marks kind chunk) ≡ words_before kind + 1
+  length-moved_header Three (size ∷ class ∷ base ∷ fields) h = refl
+  length-moved_header Two (class ∷ base ∷ fields) h = refl
+  length-moved_header Free (free ∷ rest) h = refl
+  length-moved_header Short (base ∷ fields) h = refl
+  length-moved_header _ _ h = absurd h
 
--- the live objects after the move have as many words as before
-pub length-moved_objects : (memory : Memory) (marks : List Bool) → AllByRecursion IsChunk memory.chunks → length (concat (moved_objects memory marks)) ≡ live_words memory marks
-length-moved_objects memory marks chunks =
-    length-all memory marks (live memory marks) (All-marked (λ object. IsChunk object.chunk) marks (objects memory) (objects_keep IsChunk memory.chunks chunks))
+  -- there are as many fields after the move
+  pub length-moved_fields : (chunk : List ℕ) → length (moved_fields memory marks chunk) ≡ length (fields chunk)
+  length-moved_fields chunk =
+      let front = take (traced chunk) (fields chunk) in
+      let back = drop (traced chunk) (fields chunk) in
+      let whole = length-append (map (moved_field memory marks) front) back in
+      omega (arith, whole, length-map front (moved_field memory marks), length-take (traced chunk) (fields chunk), length-drop (traced chunk) (fields chunk))
+
+  -- an object has as many words after the move
+  pub length-moved : (chunk : List ℕ) → IsChunk chunk → length (moved memory marks chunk) ≡ length chunk
+  length-moved chunk (kind, h) =
+      let is : chunk_kind chunk ≡ kind = chunk_kind_is kind chunk h in
+      let header : length (moved_header memory marks (chunk_kind chunk) chunk) ≡ before chunk + 1 =
+      ap (λ (k : Kind). length (moved_header memory marks k chunk)) is
+      ∙ length-moved_header kind chunk h
+      ∙ ap (λ (k : Kind). words_before k + 1) (sym is)
+      in
+      let room : before chunk < length chunk = rw is (chunk_has_header kind chunk h) in
+      let whole = length-append (moved_header memory marks (chunk_kind chunk) chunk) (moved_fields memory marks chunk) in
+      omega (arith, whole, length-moved_fields chunk, length-drop (before chunk + 1) chunk)
+
+  abbrev words_after : Object → List ℕ
+  words_after object = moved memory marks object.chunk
+
+  -- objects have as many words together
+  length-all : (live : List Object) → AllByRecursion (λ object. IsChunk object.chunk) live → length (concat (map words_after live)) ≡ words_in live
+  length-all [] h = refl
+  length-all (object ∷ live) h =
+      let whole = length-append (words_after object) (concat (map words_after live)) in
+      omega (arith, whole, length-moved object.chunk h.0, length-all live h.1, sum_by-cons size object live)
+
+  -- the live objects after the move have as many words as before
+  pub length-moved_objects : AllByRecursion IsChunk memory.chunks → length (concat (moved_objects memory marks)) ≡ live_words memory marks
+  length-moved_objects chunks =
+      let all = objects_keep IsChunk memory.chunks chunks in
+      length-all (live memory marks) (All-marked (λ object. IsChunk object.chunk) marks (objects memory) all)

@@ -1,6 +1,4 @@
-pub mod HeapFacts
-pub mod MarkingLemmas
-pub mod DefectLemmas
 pub mod RunLemmas
+pub mod SlidingLemmas
 pub mod Uniqueness
 mod CommandLineLemmas

@@ -1,13 +1,11 @@
 -- What a run does: it writes exactly the compaction of what it read, or says why not.
-use Rattle.std.specs.Prelude.{◌≡◌, ℕ, ◌*◌, ◌^◌, ◌<◌, Bool, List, length, Some, None, ◌⊎◌}
+use Rattle.std.specs.Prelude.{◌≡◌, ℕ, ◌*◌, ◌^◌, ◌<◌, Bool, List, length, Some, None}
 use Rattle.std.specs.List.{concat}
 use Rattle.std.specs.Io.KnownBytes.{Consumes}
 use Rattle.sqz_image.specs.declared.fault.Fault.{Fault}
-use Rattle.sqz_image.specs.declared.fault.Fault.TheVariants.{OutOfMemory, ReadFailed, WriteFailed, NotYet}
+use Rattle.sqz_image.specs.declared.fault.Fault.TheVariants.{OutOfMemory, ReadFailed, WriteFailed}
 use Rattle.sqz_image.specs.File.{data_size, file_with}
-use Rattle.sqz_image.specs.Objects.{SavedImage, object_count}
-use Rattle.sqz_image.specs.Refusals.{file_fault}
-use Rattle.sqz_image.specs.Plain.{IsPlain, HoldsPlain, LacksPlainImage}
+use Rattle.sqz_image.specs.Objects.{SavedImage, object_count, file_bytes}
 use Rattle.sqz_image.specs.Devices.{SourceState, SinkState, ReadsWhole, ReadStops, WritesWhole, WriteStops}
 use Rattle.sqz_trace.specs.Reachability.{IsReachability}
 use Rattle.sqz_trace.specs.Live.{live}
@@ -15,7 +13,7 @@ use Rattle.sqz_trace.specs.Defects.{first_defect}
 use Rattle.sqz_regions.specs.Places.{live_words}
 use Rattle.sqz_tool.specs.declared.summary.Summary.{Summary}
 use Rattle.sqz_tool.specs.Compacted.{compacted}
-use Rattle.sqz_tool.specs.Verdict.{IsAccepted}
+use Rattle.sqz_tool.specs.Verdict.{IsAccepted, IsRefused}
 
 -- what a run did, in numbers
 abbrev pub summary_of : SavedImage → List Bool → Summary
@@ -32,14 +30,13 @@ pub record IsCompaction (image : SavedImage) (special : ℕ) (pieces : List (Lis
   pub marks : List Bool
   pub reachable : IsReachability image.memory marks
   pub sound : first_defect image.memory marks ≡ None
-  pub bytes : file_with image.memory.order image.header special pieces ≡ compacted image marks
+  pub bytes : file_with image.memory.order image.header special pieces ≡ file_bytes (compacted image marks)
   pub few : length (concat pieces) < 2 ^ 30
   pub counted : summary ≡ summary_of image marks
 
--- a reachable object has a defect
-pub record HasDefectIn (image : SavedImage) : Type 0 where
+-- this is the defect of the lowest reachable object that has one
+pub record HasDefectIn (image : SavedImage) (fault : Fault) : Type 0 where
   pub marks : List Bool
-  pub fault : Fault
   pub reachable : IsReachability image.memory marks
   pub defect : first_defect image.memory marks ≡ Some fault
 
@@ -51,26 +48,14 @@ pub record Compacts (from to : SourceState) (old new : SinkState) (summary : Sum
   pub image : SavedImage
   pub marks : List Bool
   pub accepted : IsAccepted file image marks
-  pub plain : IsPlain image
-  pub written : WritesWhole old new (compacted image marks)
+  pub written : WritesWhole old new (file_bytes (compacted image marks))
   pub counted : summary ≡ summary_of image marks
 
--- a reachable object of a plain image has a defect
-pub record HasPlainDefect (file : List ℕ) : Type 0 where
-  pub image : SavedImage
-  pub holds : HoldsPlain file image
-  pub defect : HasDefectIn image
-
--- the files that this version does not take: those with a sound header that hold no plain image, and
--- those in which a reachable object has a defect
-abbrev pub IsNotYet : List ℕ → Type 0
-IsNotYet file = LacksPlainImage file ⊎ HasPlainDefect file
-
--- the source gave a file that is refused for a reason, and the sink is as it was
-pub record RefusesFile (IsReason : List ℕ → Type 0) (from to : SourceState) (old new : SinkState) : Type 0 where
+-- the source gave a file that is refused for this reason, and the sink is as it was
+pub record RefusesFile (fault : Fault) (from to : SourceState) (old new : SinkState) : Type 0 where
   pub file : List ℕ
   pub read : ReadsWhole from to file
-  pub reason : IsReason file
+  pub refused : IsRefused file fault
   pub untouched : new ≡ old
 
 -- memory was refused: bytes from the front of what was left may be gone, and the sink is as it was
@@ -91,13 +76,11 @@ pub record StopsWriting (from to : SourceState) (old new : SinkState) : Type 0 w
   pub image : SavedImage
   pub marks : List Bool
   pub accepted : IsAccepted file image marks
-  pub plain : IsPlain image
-  pub stops : WriteStops old new (compacted image marks) WriteFailed
+  pub stops : WriteStops old new (file_bytes (compacted image marks)) WriteFailed
 
 -- what was done where the run was refused, by the refusal: all others are the first that applies to the file
 abbrev pub Refuses : SourceState → SourceState → SinkState → SinkState → Fault → Type 0
-Refuses from to old new NotYet = RefusesFile IsNotYet from to old new
 Refuses from to old new OutOfMemory = IsOutOfMemory from to old new
 Refuses from to old new ReadFailed = StopsReading from to old new
 Refuses from to old new WriteFailed = StopsWriting from to old new
-Refuses from to old new fault = RefusesFile (λ file. file_fault file ≡ Some fault) from to old new
+Refuses from to old new fault = RefusesFile fault from to old new

@@ -1,4 +1,4 @@
-pub mod Marking
+pub mod Sliding
 pub mod Compacted
 pub mod Verdict
 pub mod Headline

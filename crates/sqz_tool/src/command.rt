@@ -17,6 +17,7 @@ use sqz_image::{Fault, ReadSource, Sink};
 use std::alloc::Global;
 use std::fs::File;
 use std::rt::Files;
+use std::thread::Threads;
 
 /// Does all that the command line asks for, and answers what the program is to end with: 0 where the
 /// image was written, 1 where the image is at fault, 2 where the words are, 3 where a file could not
@@ -25,7 +26,7 @@ use std::rt::Files;
 ///
 /// A file is made, or emptied, only when the first bytes of the answer are there. A fault is printed
 /// as one line on `err`, and the help on `out`. Where one of the two fails, the answer is the same.
-pub fn program<T: Files, C: Sink, E: Sink>(
+pub fn program<T: Files + Threads + Sync, C: Sink, E: Sink>(
     rt: &T,
     alloc: Global,
     words: &[String],
@@ -51,7 +52,11 @@ pub fn program<T: Files, C: Sink, E: Sink>(
 /// Fails as `run` does, with `ReadFailed` also where the image cannot be opened, and with
 /// `WriteFailed` also where the other file cannot be made. Unless it fails with `WriteFailed`, that
 /// file is then as it was.
-fn compact<T: Files>(rt: &T, alloc: Global, arguments: Arguments<'_>) -> Result<Summary, Fault>
+fn compact<T: Files + Threads + Sync>(
+    rt: &T,
+    alloc: Global,
+    arguments: Arguments<'_>,
+) -> Result<Summary, Fault>
     ensures { IfErr result (λ fault. exit_of fault ≢ 2) }
 {
     let Ok(file) = File::open(rt, arguments.input) else {

@@ -3,17 +3,16 @@
 ghost use Rattle.std.specs.Prelude.{◌≡◌, ◌⊎◌, map, IfOk, IfErr};
 ghost use Rattle.std.specs.List.{AllByRecursion};
 ghost use Rattle.sqz_object.specs.Chunk.{IsChunk};
-ghost use Rattle.sqz_image.specs.declared.fault.Fault.TheVariants.{OutOfMemory, NotYet};
-ghost use Rattle.sqz_image.specs.Plain.{IsPlain};
+ghost use Rattle.sqz_image.specs.declared.fault.Fault.TheVariants.{OutOfMemory};
 ghost use Rattle.sqz_tool.specs.Headline.{IsCompaction, HasDefectIn};
 
-use crate::defects::has_defect;
-use crate::marking::reachable;
 use crate::placing::places;
 use crate::sliding::slide;
 use crate::summary::Summary;
 use sqz_image::{Fault, Image};
+use sqz_trace::{first_defect, mark_plain};
 use std::alloc::Global;
+use std::thread::Threads;
 
 /// The data of a compacted image, and what its header says of them.
 #[derive(Drop)]
@@ -25,25 +24,28 @@ pub(crate) struct Compaction {
     pub summary: Summary,
 }
 
-/// The compaction of a plain image. Refused with `NotYet` where a reachable object has a defect, else
-/// for want of memory alone.
-pub(crate) fn compaction_of(alloc: Global, image: &Image) -> Result<Compaction, Fault>
-    requires chunks { AllByRecursion IsChunk image.now.memory.chunks }
-    requires plain { IsPlain image.now }
+/// The compaction of an image. Refused with the defect of the lowest reachable object that has one,
+/// else for want of memory alone.
+pub(crate) fn compaction_of(
+    rt: &(impl Threads + Sync),
+    alloc: Global,
+    image: &Image,
+) -> Result<Compaction, Fault>
+    requires { AllByRecursion IsChunk image.now.memory.chunks }
     ensures compaction { IfOk result (λ c. IsCompaction image.now c.special (map (λ piece. piece.items) c.pieces.items) c.summary) }
-    ensures refused { IfErr result (λ fault. (fault ≡ OutOfMemory) ⊎ ((fault ≡ NotYet) × HasDefectIn image.now)) }
+    ensures refused { IfErr result (λ fault. (fault ≡ OutOfMemory) ⊎ HasDefectIn image.now fault) }
 {
     let heap = image.heap();
-    let marks = reachable(alloc, heap)?;
-    if has_defect(heap, &marks) {
-        return Err(Fault::NotYet);
+    let marks = mark_plain(alloc, heap)?;
+    if let Some(fault) = first_defect(rt, heap, &marks) {
+        return Err(fault);
     }
     let placing = places(alloc, heap, &marks)?;
     let words = slide(alloc, heap, &marks, &placing)?;
     let special = placing.addresses[heap.special() as usize];
     let summary = Summary {
         objects: heap.len(),
-        kept: placing.objects,
+        kept: marks.count(),
         data_before: image.header(2),
         data_after: 4 * placing.words,
     };

@@ -5,17 +5,14 @@
 mod arguments;
 mod command;
 mod compaction;
-mod defects;
 mod exits;
 pub mod laws;
-mod marking;
 mod output_file;
 mod placing;
 mod printing;
 mod running;
 mod sliding;
 mod summary;
-mod tracing;
 
 pub use command::{program, refuse};
 pub use running::run;

@@ -5,19 +5,20 @@ ghost use Rattle.sqz_tool.specs.Headline.{Compacts, Refuses};
 
 use crate::compaction::compaction_of;
 use crate::summary::Summary;
-use sqz_image::{Fault, Sink, Source, read_all, read_first, write_image};
+use sqz_image::{Fault, Sink, Source, read_all, read_image, write_image};
 use std::alloc::Global;
+use std::thread::Threads;
 
 /// Reads all of the source, finds the objects of the image that are reachable from its special objects
 /// array, and writes the image with these alone, slid together in their order.
 ///
 /// Refused with `OutOfMemory`, or with `ReadFailed` where the source failed or did not end; else exactly
-/// with the first of `TooShort`, `BadVersion`, `BadHeaderSize`, `BadDataSize`, `BadBase` and `Truncated`
-/// that applies to the bytes; else with `NotYet` exactly where they hold no plain image or a reachable
-/// object of it has a defect. The sink is then as it was. Refused with `WriteFailed` where the sink failed
-/// or took too little at a time: a front of the answer, perhaps all of it, then went out.
-pub fn run<T, R: Source, W: Sink>(
-    _rt: &T,
+/// with the first fault that applies to the file: those of its header, then that of its first chunk that
+/// cannot be read, then `BadSpecialObjects`, then the defect of its lowest reachable object that has one.
+/// The sink is then as it was. Refused with `WriteFailed` where the sink failed or took too little at a
+/// time: a front of the answer, perhaps all of it, then went out.
+pub fn run<T: Threads + Sync, R: Source, W: Sink>(
+    rt: &T,
     alloc: Global,
     source: &mut R,
     sink: &mut W,
@@ -28,11 +29,9 @@ pub fn run<T, R: Source, W: Sink>(
         Refuses (R.state source.old) (R.state source.new) (W.state sink.old) (W.state sink.new) fault) }
 {
     let bytes = read_all(alloc, source)?;
-    let Some(image) = read_first(alloc, &bytes)? else {
-        return Err(Fault::NotYet);
-    };
+    let image = read_image(alloc, &bytes)?;
     drop(bytes);
-    let compaction = compaction_of(alloc, &image)?;
+    let compaction = compaction_of(rt, alloc, &image)?;
     write_image(&image, compaction.special, &compaction.pieces, sink)?;
     Ok(compaction.summary)
 }

@@ -1,48 +1,67 @@
--- Marks that have the special objects array, that go along each edge, and of which each has a path, are reachability.
-use Rattle.std.proofs.Common.{◌≡◌, ℕ, Bool, true, false, List, [], ◌∷◌, length, Some, refl, sym, subst, ◌∙◌}
+-- Marks that have the start of a graph, that go along each edge, and of which each has a path, are the reachable ones.
+use Rattle.std.proofs.Common.{◌≡◌, ℕ, Bool, true, false, List, [], ◌∷◌, ◌++◌, length, refl, sym, subst, ◌∙◌}
 use Rattle.std.proofs.lemmas.List.{ext_get_or}
-use Rattle.sqz_image.specs.Objects.{Memory, object_count, find}
-use Rattle.sqz_trace.specs.Edges.{HasEdge}
-use Rattle.sqz_trace.specs.Reachability.{Leads, is_marked, IsReachability}
+use Rattle.std.proofs.lemmas.Option.{same_Some}
+use Rattle.sqz_image.specs.Objects.{Memory}
+use Rattle.sqz_trace.specs.Graph.{Graph, Leads, IsReachable, is_marked, MarksReachable}
+use Rattle.sqz_trace.specs.Reachability.{graph_from, IsReachability}
 
 -- where an object is marked, so is each that it has an edge to
-pub record IsClosed (memory : Memory) (marks : List Bool) : Type 0 where
-  pub along : (from to : ℕ) → is_marked marks from ≡ true → HasEdge memory from to → is_marked marks to ≡ true
+pub record IsClosed (graph : Graph) (marks : List Bool) : Type 0 where
+  pub along : (from to : ℕ) → is_marked marks from ≡ true → graph.Edge from to → is_marked marks to ≡ true
 
 -- where a path begins at a marked object, its goal is marked
-pub marked_at_goal : (memory : Memory) (marks : List Bool) → IsClosed memory marks → (start : ℕ) (path : List ℕ) (goal : ℕ) → is_marked marks start ≡ true → Leads memory start path goal → is_marked marks goal ≡ true
-marked_at_goal memory marks closed start [] goal m same =
+pub marked_at_goal : (graph : Graph) (marks : List Bool) → IsClosed graph marks → (from : ℕ) (path : List ℕ) (goal : ℕ) → is_marked marks from ≡ true → Leads graph from path goal → is_marked marks goal ≡ true
+marked_at_goal graph marks closed from [] goal m same =
     subst (λ (index : ℕ). is_marked marks index ≡ true) same m
-marked_at_goal memory marks closed start (next ∷ path) goal m leads =
-    marked_at_goal memory marks closed next path goal (closed.along start next m leads.0) leads.1
+marked_at_goal graph marks closed from (next ∷ path) goal m leads =
+    marked_at_goal graph marks closed next path goal (closed.along from next m leads.0) leads.1
 
--- the special objects array is marked, no edge leads out of the marked objects, and a path leads to each
-pub record IsTracing (memory : Memory) (marks : List Bool) : Type 0 where
-  pub sized : length marks ≡ object_count memory
-  pub start : ℕ
-  pub is_special : find memory memory.special ≡ Some start
-  pub has_start : is_marked marks start ≡ true
-  pub closed : IsClosed memory marks
-  pub reached : (index : ℕ) → is_marked marks index ≡ true → (path : List ℕ) × Leads memory start path index
+-- the start is marked, no edge leads out of the marked objects, and a path leads to each
+pub record IsTracing (graph : Graph) (marks : List Bool) : Type 0 where
+  pub sized : length marks ≡ graph.count
+  pub has_start : is_marked marks graph.start ≡ true
+  pub closed : IsClosed graph marks
+  pub reached : (index : ℕ) → is_marked marks index ≡ true → IsReachable graph index
 
--- such marks are reachability
-pub IsReachability-from_tracing : (memory : Memory) (marks : List Bool) → IsTracing memory marks → IsReachability memory marks
-IsReachability-from_tracing memory marks t =
+-- such marks are those of the reachable objects
+pub MarksReachable-from_tracing : (graph : Graph) (marks : List Bool) → IsTracing graph marks → MarksReachable graph marks
+MarksReachable-from_tracing graph marks t =
     record {
       sized = t.sized;
-      sound = λ index m. record { start = t.start; is_special = t.is_special; path = (t.reached index m).0; leads = (t.reached index m).1 };
-      complete = λ index r.
-          let same : t.start ≡ r.start = let a = t.is_special in let b = r.is_special in cc in
-          marked_at_goal memory marks t.closed r.start r.path index (subst (λ (start : ℕ). is_marked marks start ≡ true) same t.has_start) r.leads;
+      sound = t.reached;
+      complete = λ index r. marked_at_goal graph marks t.closed graph.start r.path index t.has_start r.leads;
     }
+
+-- a path may go one edge further
+Leads-more : (graph : Graph) (from : ℕ) (path : List ℕ) (goal next : ℕ) → Leads graph from path goal → graph.Edge goal next → Leads graph from (path ++ next ∷ []) next
+Leads-more graph from [] goal next leads edge = (subst (λ (i : ℕ). graph.Edge i next) (sym leads) edge, refl)
+Leads-more graph from (step ∷ path) goal next leads edge = (leads.0, Leads-more graph step path goal next leads.1 edge)
+
+-- what a reachable object has an edge to is reachable
+pub IsReachable-next : (graph : Graph) (index next : ℕ) → IsReachable graph index → graph.Edge index next → IsReachable graph next
+IsReachable-next graph index next reached edge =
+    record { path = reached.path ++ next ∷ []; leads = Leads-more graph graph.start reached.path index next reached.leads edge }
+
+-- no edge leads out of the reachable objects
+pub IsClosed-reachable : (graph : Graph) (marks : List Bool) → MarksReachable graph marks → IsClosed graph marks
+IsClosed-reachable graph marks reached =
+    record { along = λ from to marked edge. reached.complete to (IsReachable-next graph from to (reached.sound from marked) edge) }
 
 same_mark : (one other : Bool) → (one ≡ true → other ≡ true) → (other ≡ true → one ≡ true) → one ≡ other
 same_mark true other f g = sym (f refl)
 same_mark false true f g = g refl
 same_mark false false f g = refl
 
--- there is one reachability
-pub IsReachability-unique : (memory : Memory) (one other : List Bool) → IsReachability memory one → IsReachability memory other → one ≡ other
-IsReachability-unique memory one other p q =
+-- the reachable objects have one list of marks
+pub MarksReachable-unique : (graph : Graph) (one other : List Bool) → MarksReachable graph one → MarksReachable graph other → one ≡ other
+MarksReachable-unique graph one other p q =
     ext_get_or false one other (p.sized ∙ sym q.sized)
     (λ index lt. same_mark (is_marked one index) (is_marked other index) (λ m. q.complete index (p.sound index m)) (λ m. p.complete index (q.sound index m)))
+
+-- there is one reachability of a memory
+pub IsReachability-unique : (memory : Memory) (one other : List Bool) → IsReachability memory one → IsReachability memory other → one ≡ other
+IsReachability-unique memory one other p q =
+    let same : p.start ≡ q.start = same_Some _ _ (sym p.is_special ∙ q.is_special) in
+    MarksReachable-unique (graph_from q.start memory) one other
+    (subst (λ (start : ℕ). MarksReachable (graph_from start memory) one) same p.reached) q.reached

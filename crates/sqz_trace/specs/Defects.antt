@@ -8,7 +8,7 @@ use Rattle.sqz_image.specs.declared.fault.Fault.{Fault}
 use Rattle.sqz_image.specs.declared.fault.Fault.TheVariants.{NoClass, BadMethod, BadContext, BadPointer}
 use Rattle.sqz_image.specs.declared.fault.Slot.{Slot}
 use Rattle.sqz_image.specs.Objects.{Memory, Object, address_in, find}
-use Rattle.sqz_trace.specs.Slots.{SlotWord, slots, is_context, is_method, context_fields, method_fields}
+use Rattle.sqz_trace.specs.Slots.{slots, slot_word, is_context, is_method, context_fields, method_fields}
 use Rattle.sqz_trace.specs.Live.{live}
 
 -- a header of one word with compact index 0 names no class
@@ -34,11 +34,20 @@ is_bad_value memory (Int number) = false
 is_bad_value memory (Pointer address) = is_none (find memory address)
 is_bad_value memory (Odd word) = true
 
--- the first slot that holds a bad value
-abbrev pub bad_slot : Memory → List SlotWord → Option Slot
-bad_slot memory [] = None
-bad_slot memory (slot ∷ slots) =
-    if is_bad_value memory (value_of slot.word) then Some slot.slot else bad_slot memory slots
+-- the word that a slot holds is bad
+abbrev pub is_bad_word : Memory → Option ℕ → Bool
+is_bad_word memory None = false
+is_bad_word memory (Some word) = is_bad_value memory (value_of word)
+
+-- the first of these slots of a chunk that holds a bad word
+abbrev pub first_bad : Memory → List ℕ → List Slot → Option Slot
+first_bad memory chunk [] = None
+first_bad memory chunk (slot ∷ slots) =
+    if is_bad_word memory (slot_word chunk slot) then Some slot else first_bad memory chunk slots
+
+-- the first slot that holds a bad word
+abbrev pub bad_slot : Memory → List ℕ → Option Slot
+bad_slot memory chunk = first_bad memory chunk (slots chunk)
 
 abbrev pub bad_pointer : ℕ → Option Slot → Option Fault
 bad_pointer address None = None
@@ -51,7 +60,7 @@ defect memory object =
     if lacks_class object.chunk then Some (NoClass address)
     else (if is_bad_method object.chunk then Some (BadMethod address)
     else (if is_bad_context object.chunk then Some (BadContext address)
-    else bad_pointer address (bad_slot memory (slots object.chunk))))
+    else bad_pointer address (bad_slot memory object.chunk)))
 
 abbrev pub first_some : {X : Type 0} → List (Option X) → Option X
 first_some [] = None

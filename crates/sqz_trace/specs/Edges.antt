@@ -1,10 +1,11 @@
 -- What the slots of an object name.
-use Rattle.std.specs.Prelude.{◌≡◌, ℕ, ◌<◌, length, slice_index, Option, Some, None}
+use Rattle.std.specs.Prelude.{◌≡◌, ℕ, ◌<◌, List, Option, Some, None, option_and_then}
 use Rattle.sqz_object.specs.declared.value.Value.{Value}
 use Rattle.sqz_object.specs.declared.value.Value.TheVariants.{Int, Pointer, Odd}
 use Rattle.sqz_object.specs.Value.{value_of}
-use Rattle.sqz_image.specs.Objects.{Memory, object_count, chunk_at, find}
-use Rattle.sqz_trace.specs.Slots.{slot_words}
+use Rattle.sqz_image.specs.declared.fault.Slot.{Slot}
+use Rattle.sqz_image.specs.Objects.{Memory, object_count, chunk_words, find}
+use Rattle.sqz_trace.specs.Slots.{slot_word}
 
 -- the object that a value names: a pointer names the object whose address it is
 abbrev pub object_named : Memory → Value → Option ℕ
@@ -16,9 +17,16 @@ object_named memory (Odd word) = None
 abbrev pub named_by : Memory → ℕ → Option ℕ
 named_by memory word = object_named memory (value_of word)
 
+-- the object that a slot of a chunk names; None where the chunk has no such slot, too
+abbrev pub named_in : Memory → List ℕ → Slot → Option ℕ
+named_in memory chunk slot = option_and_then (named_by memory) (slot_word chunk slot)
+
+-- the object that a slot of an object names
+abbrev pub target : Memory → ℕ → Slot → Option ℕ
+target memory index slot = named_in memory (chunk_words memory index) slot
+
 -- some slot of the one object names the other
 pub record HasEdge (memory : Memory) (from to : ℕ) : Type 0 where
   pub inside : from < object_count memory
-  pub slot : ℕ
-  pub is_slot : slot < length (slot_words (chunk_at memory from))
-  pub names : named_by memory (slice_index (slot_words (chunk_at memory from)) slot) ≡ Some to
+  pub slot : Slot
+  pub names : target memory from slot ≡ Some to

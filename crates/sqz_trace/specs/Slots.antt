@@ -1,5 +1,5 @@
 -- The slots of an object: the words of it that may name other objects.
-use Rattle.std.specs.Prelude.{ℕ, suc, ◌+◌, ◌-◌, ◌/◌, ◌%◌, ◌^◌, ◌==◌, ◌&&◌, nat_lt, nat_le, min, Bool, if◌then◌else◌, List, [], ◌∷◌, ◌++◌, map, length, take, slice_index, Option, Some, None, ℤ, pos, negsuc}
+use Rattle.std.specs.Prelude.{ℕ, zero, suc, ◌+◌, ◌-◌, ◌/◌, ◌%◌, ◌^◌, ◌==◌, ◌&&◌, ◌||◌, nat_lt, nat_le, min, Bool, if◌then◌else◌, List, [], ◌∷◌, ◌++◌, length, slice_index, Option, Some, None, option_map, ℤ, pos, negsuc}
 use Rattle.sqz_object.specs.declared.value.Value.{Value}
 use Rattle.sqz_object.specs.declared.value.Value.TheVariants.{Int, Pointer, Odd}
 use Rattle.sqz_object.specs.declared.chunk.Kind.{Kind}
@@ -8,7 +8,10 @@ use Rattle.sqz_object.specs.Value.{value_of}
 use Rattle.sqz_object.specs.Chunk.{chunk_kind, format, compact_index, fields}
 use Rattle.sqz_image.specs.declared.fault.Slot.{Slot}
 use Rattle.sqz_image.specs.declared.fault.Slot.TheVariants.{ClassWord, Field}
-use Rattle.sqz_image.specs.Plain.{is_context_index}
+
+-- a compact index of the two classes of contexts
+abbrev pub is_context_index : ℕ → Bool
+is_context_index index = index == 13 || index == 14
 
 -- a context: format 3 with the compact index of one of the two classes of contexts
 abbrev pub is_context : List ℕ → Bool
@@ -42,7 +45,7 @@ literals_of header = if header % 2 == 1 then Some (header / 2 ^ 10 % 2 ^ 8) else
 -- the traced fields that a method states, by its fields: the header and the literals
 abbrev pub method_fields : List ℕ → Option ℕ
 method_fields [] = None
-method_fields (header ∷ _) = elim (literals_of header) as (λ _. Option ℕ) [ None ↦ None | Some count ↦ Some (1 + count) ]
+method_fields (header ∷ _) = option_map (λ count. 1 + count) (literals_of header)
 
 -- a stated number, but no more than there are; none where no number is stated
 abbrev pub clipped : Option ℕ → ℕ → ℕ
@@ -56,31 +59,36 @@ traced chunk =
     else (if is_method chunk then clipped (method_fields (fields chunk)) (length (fields chunk))
     else (if nat_lt (format chunk) 5 then length (fields chunk) else 0))
 
--- a slot, and the word that it holds
-pub record SlotWord : Type 0 where
-  pub slot : Slot
-  pub word : ℕ
-
 -- the address in a class word, whose low two bits are a header type
 abbrev pub class_address : ℕ → ℕ
 class_address word = word - word % 4
 
 -- the class word of a header of two or three words
-abbrev pub class_slots : Kind → List ℕ → List SlotWord
-class_slots Three chunk = record { slot = ClassWord; word = class_address (slice_index chunk 1) } ∷ []
-class_slots Two chunk = record { slot = ClassWord; word = class_address (slice_index chunk 0) } ∷ []
-class_slots Free chunk = []
-class_slots Short chunk = []
+abbrev pub class_word : Kind → List ℕ → Option ℕ
+class_word Three chunk = Some (slice_index chunk 1)
+class_word Two chunk = Some (slice_index chunk 0)
+class_word Free chunk = None
+class_word Short chunk = None
 
--- fields as slots, the first of them with this index
-abbrev pub field_slots : ℕ → List ℕ → List SlotWord
-field_slots index [] = []
-field_slots index (word ∷ words) = record { slot = Field index; word = word } ∷ field_slots (suc index) words
+-- the word that a slot of an object holds, which of the class word is the address in it; None where
+-- the object has no such slot
+abbrev pub slot_word : List ℕ → Slot → Option ℕ
+slot_word chunk ClassWord = option_map class_address (class_word (chunk_kind chunk) chunk)
+slot_word chunk (Field index) =
+    if nat_lt index (traced chunk) then Some (slice_index (fields chunk) index) else None
+
+-- the slot of the class word, if the kind has one
+abbrev pub class_slots : Kind → List Slot
+class_slots Three = ClassWord ∷ []
+class_slots Two = ClassWord ∷ []
+class_slots Free = []
+class_slots Short = []
+
+-- the slots of so many fields, the first of them with this index
+abbrev pub field_slots : ℕ → ℕ → List Slot
+field_slots index zero = []
+field_slots index (suc count) = Field index ∷ field_slots (suc index) count
 
 -- the slots of an object: its class word, if it has one, and then its traced fields
-abbrev pub slots : List ℕ → List SlotWord
-slots chunk =
-    class_slots (chunk_kind chunk) chunk ++ field_slots 0 (take (traced chunk) (fields chunk))
-
-abbrev pub slot_words : List ℕ → List ℕ
-slot_words chunk = map (λ slot. slot.word) (slots chunk)
+abbrev pub slots : List ℕ → List Slot
+slots chunk = class_slots (chunk_kind chunk) ++ field_slots 0 (traced chunk)

@@ -1,5 +1,16 @@
-//! What an object memory's reachable objects are: the definitions.
-//!
-//! This crate holds no code yet: `specs/` says which words of an object are traced, what they name,
-//! which objects are reachable, and what is wrong with an object.
+//! What the objects of an image name, which of them are reachable, and what is wrong with them.
 #![tactic(auto)]
+
+mod contexts;
+mod defects;
+mod lowest_defect;
+mod marking;
+mod marks;
+mod methods;
+mod slots;
+
+pub use defects::defect;
+pub use lowest_defect::first_defect;
+pub use marking::mark_plain;
+pub use marks::Marks;
+pub use slots::{class_address, named_by, target, traced, traced_fields};

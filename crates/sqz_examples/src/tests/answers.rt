@@ -1,4 +1,4 @@
-//! Plain images, and what they are compacted to.
+//! Images whose headers have one word each, and what they are compacted to.
 
 use super::files::{assert_compacts, assert_file_compacts, file_of};
 use sqz_object::Order;

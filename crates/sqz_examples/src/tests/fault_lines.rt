@@ -86,7 +86,6 @@ fn lines_of_faults(rt: HostRuntime) -> Result<(), Fail> {
             "fault 20: bad weak object 00001004\n",
         ),
         (Fault::NoNil, 1, "fault 21: nil not found\n"),
-        (Fault::NotYet, 1, "fault 22: not yet supported\n"),
     ];
     for (fault, exit, line) in &lines {
         let mut err = MemorySink::new(rt.alloc(), 100, None)?;

@@ -8,6 +8,7 @@ use sqz_tool::{Summary, run};
 use std::alloc::{AllocError, Global};
 use std::process::Abort;
 use std::test::Fail;
+use std::thread::Threads;
 
 /// The bytes of a file with these data words.
 pub fn file_of(
@@ -41,7 +42,7 @@ pub struct Outcome {
 }
 
 /// A run over a file, with room for all it may write.
-pub fn run_over<R>(rt: &R, alloc: Global, file: Vec<u8>) -> Result<Outcome, Fail> {
+pub fn run_over<R: Threads + Sync>(rt: &R, alloc: Global, file: Vec<u8>) -> Result<Outcome, Fail> {
     let mut source = MemorySource::new(file, 100, None);
     let mut sink = MemorySink::new(alloc, 4096, None)?;
     let answer = run(rt, alloc, &mut source, &mut sink);
@@ -49,7 +50,7 @@ pub fn run_over<R>(rt: &R, alloc: Global, file: Vec<u8>) -> Result<Outcome, Fail
 }
 
 /// Asserts that a file is compacted to another, and answers the numbers of the run.
-pub fn assert_file_compacts<R: Abort + AllocGlobal>(
+pub fn assert_file_compacts<R: Threads + Sync + Abort + AllocGlobal>(
     rt: &R,
     file: Vec<u8>,
     wanted: &[u8],
@@ -61,7 +62,7 @@ pub fn assert_file_compacts<R: Abort + AllocGlobal>(
 }
 
 /// Asserts that little-endian words are compacted to others, and answers the numbers of the run.
-pub fn assert_compacts<R: Abort + AllocGlobal>(
+pub fn assert_compacts<R: Threads + Sync + Abort + AllocGlobal>(
     rt: &R,
     base: u32,
     words: &[u32],
@@ -78,7 +79,7 @@ pub fn assert_compacts<R: Abort + AllocGlobal>(
 }
 
 /// Asserts that a run over a file is refused with this fault and writes nothing.
-pub fn assert_refused<R: Abort + AllocGlobal>(
+pub fn assert_refused<R: Threads + Sync + Abort + AllocGlobal>(
     rt: &R,
     file: Vec<u8>,
     fault: Fault,
@@ -86,5 +87,22 @@ pub fn assert_refused<R: Abort + AllocGlobal>(
     let outcome = run_over(rt, rt.alloc(), file)?;
     assert_eq!(rt; outcome.answer, Err(fault));
     assert!(rt; outcome.sink.contents().is_empty());
+    Ok(())
+}
+
+/// Asserts that a run over words from the address 0x1000 on is refused with this fault in either byte
+/// order, and writes nothing.
+pub fn assert_words_refused<R: Threads + Sync + Abort + AllocGlobal>(
+    rt: &R,
+    words: &[u32],
+    special: u32,
+    fault: Fault,
+) -> Result<(), Fail>
+    requires { length words.now < 1000 }
+{
+    for order in [Order::Little, Order::Big] {
+        let file = file_of(rt.alloc(), order, 0x1000, words, special)?;
+        assert_refused(rt, file, fault)?;
+    }
     Ok(())
 }

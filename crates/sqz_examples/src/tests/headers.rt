@@ -6,6 +6,7 @@ use sqz_object::{Order, put_word};
 use std::alloc::{AllocError, Global};
 use std::process::Abort;
 use std::test::Fail;
+use std::thread::Threads;
 
 /// The first four header words of a file: its version, the sizes of header and data, and the base.
 type Stated = [u32; 4];
@@ -37,7 +38,7 @@ fn file_that_states(
 }
 
 /// Asserts that so many bytes of a file that states this are refused, in either order.
-fn assert_refuses<R: Abort + AllocGlobal>(
+fn assert_refuses<R: Threads + Sync + Abort + AllocGlobal>(
     rt: &R,
     stated: &Stated,
     length: usize,

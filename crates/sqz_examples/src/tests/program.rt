@@ -9,6 +9,7 @@ use std::io::{Read, Write};
 use std::process::Abort;
 use std::rt::Files;
 use std::test::Fail;
+use std::thread::Threads;
 
 /// What the program ended with and printed.
 #[derive(Drop)]
@@ -19,7 +20,10 @@ struct Ended {
 }
 
 /// Runs the program with these words after its name.
-fn run_program<R: Abort + AllocGlobal + Files>(rt: &R, words: &[&str]) -> Result<Ended, Fail> {
+fn run_program<R: Threads + Sync + Abort + AllocGlobal + Files>(
+    rt: &R,
+    words: &[&str],
+) -> Result<Ended, Fail> {
     let mut line = Vec::new(rt.alloc());
     line.push(String::from_str(rt.alloc(), "sqzcompact")?)?;
     for word in words {
@@ -32,7 +36,7 @@ fn run_program<R: Abort + AllocGlobal + Files>(rt: &R, words: &[&str]) -> Result
 }
 
 /// Asserts that the program ended so, with this line on standard error and nothing else printed.
-fn assert_faults<R: Abort + AllocGlobal + Files>(
+fn assert_faults<R: Threads + Sync + Abort + AllocGlobal + Files>(
     rt: &R,
     words: &[&str],
     exit: u8,
@@ -98,7 +102,7 @@ fn refuses_and_makes_nothing(rt: HostRuntime) -> Result<(), Fail> {
 }
 
 #[test]
-fn refuses_what_is_not_yet_supported(rt: HostRuntime) -> Result<(), Fail> {
+fn refuses_a_bad_pointer(rt: HostRuntime) -> Result<(), Fail> {
     let words = [0x1007, 0x320B, 0x1002];
     let image = file_of(rt.alloc(), Order::Little, 0x1000, &words, 0x1004)?;
     File::create(&rt, "bad_pointer.image")?.write_all(&image)?;
@@ -106,7 +110,7 @@ fn refuses_what_is_not_yet_supported(rt: HostRuntime) -> Result<(), Fail> {
         &rt,
         &["bad_pointer.image", "none.image"],
         1,
-        "fault 22: not yet supported\n",
+        "fault 14: bad pointer in object 00001004, field 0\n",
     )?;
     assert!(rt; File::open(&rt, "none.image").is_err());
     Ok(())

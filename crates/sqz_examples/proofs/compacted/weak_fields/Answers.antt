@@ -6,6 +6,7 @@ use Rattle.sqz_examples.proofs.compacted.weak_fields.Goals as goal
 pub returns : goal.returns
 returns c =
     CompactsTo-computed _ Little
-    ((0x1007 ∷ []) ∷ (0x1113 ∷ 1 ∷ 1 ∷ 0x405 ∷ []) ∷ (0x100B ∷ 1 ∷ []) ∷ (0x1005 ∷ 0x409 ∷ 0x1014 ∷ []) ∷ (0x320F ∷ 0x1000 ∷ 0x1020 ∷ []) ∷ [])
+    ((0x1007 ∷ []) ∷ (0x1113 ∷ 1 ∷ 1 ∷ 0x405 ∷ []) ∷ (0x100B ∷ 1 ∷ []) ∷ (0x1005 ∷ 0x409 ∷ 0x1014 ∷ []) ∷
+    (0x320F ∷ 0x1000 ∷ 0x1020 ∷ []) ∷ [])
     ((Some (0 ∷ [])) ∷ (Some (3 ∷ 1 ∷ [])) ∷ (Some (3 ∷ 2 ∷ [])) ∷ (Some (3 ∷ [])) ∷ (Some []) ∷ [])
     _ refl refl refl refl refl

@@ -6,6 +6,8 @@ use Rattle.sqz_examples.proofs.refused.negative_stack.Goals as goal
 pub returns : goal.returns
 returns c =
     IsRefused-for_defect _ Little
-    ((0x1007 ∷ []) ∷ (0x100B ∷ 1 ∷ []) ∷ (0x100B ∷ 1 ∷ []) ∷ (0x100B ∷ 1 ∷ []) ∷ (0xD32F ∷ 0x1000 ∷ 1 ∷ 0xFFFFFFFF ∷ 0x1000 ∷ 0x1000 ∷ 0x1000 ∷ 0x100C ∷ 0x1014 ∷ 2 ∷ 0xFFFFFFFE ∷ []) ∷ (0x320F ∷ 0x1000 ∷ 0x101C ∷ []) ∷ [])
+    ((0x1007 ∷ []) ∷ (0x100B ∷ 1 ∷ []) ∷ (0x100B ∷ 1 ∷ []) ∷ (0x100B ∷ 1 ∷ []) ∷
+    (0xD32F ∷ 0x1000 ∷ 1 ∷ 0xFFFFFFFF ∷ 0x1000 ∷ 0x1000 ∷ 0x1000 ∷ 0x100C ∷ 0x1014 ∷ 2 ∷ 0xFFFFFFFE ∷ []) ∷
+    (0x320F ∷ 0x1000 ∷ 0x101C ∷ []) ∷ [])
     ((Some (0 ∷ [])) ∷ None ∷ None ∷ None ∷ (Some (4 ∷ [])) ∷ (Some []) ∷ [])
     _ refl refl refl refl

@@ -1,33 +1,44 @@
-use Rattle.std.proofs.Common.{drop, arith}
-use Rattle.std.proofs.lemmas.List.{length-drop}
-use Rattle.sqz_object.proofs.ChunkLemmas.{HasOneHeader, HasOneHeader-free_at, HasOneHeader-short_at, one_header_zero_size, one_header_overrun, one_header_begins, slice_index-drop}
+use Rattle.std.proofs.Common.{refl, ◌≡◌, ◌+◌, ◌-◌, List, ℕ, length, take, drop, slice_index, subst, sym, ◌∙◌, arith}
+use Rattle.std.proofs.lemmas.List.{take_rest, length-drop}
+use Rattle.sqz_object.specs.Reading.{BeginsWith, HasNoChunk}
+use Rattle.sqz_object.specs.declared.chunk.Chunk.{Chunk}
+use Rattle.sqz_object.specs.declared.chunk.ChunkFault.TheVariants.{ZeroSize, HeaderMismatch, Overrun}
+use Rattle.sqz_object.proofs.ChunkLemmas.{HasNoChunk-mixed_header, HasNoChunk-zero_size, HasNoChunk-overrun, BeginsWith-stated}
 use Rattle.sqz_object.proofs.chunk.chunk_at.Goals as goal
-use Rattle.sqz_object.proofs.chunk.chunk_at.Goals.{then-base-eq2, else-base-eq2, Then-length-eq0, Else-length-eq0}
 
-header_if_empty : (c : Then-length-eq0) → HasOneHeader (drop c.args.p c.args.words.now) c.if-base-eq2.kind.0 c.if-base-eq2.kind.1
-header_if_empty c =
-    elim c.if-base-eq2.branch [
-      | then-base-eq2 w ↦ HasOneHeader-free_at c.args.words.now c.args.p c.if-base-eq2.kind w.if-base-eq2.true w.kind-is
-      | else-base-eq2 w ↦ HasOneHeader-short_at c.args.words.now c.args.p c.if-base-eq2.kind w.base_of.result c.requires.one_word_header w.if-base-eq2.false w.base_of.ensures w.kind-is
-    ]
+-- the words from a place on, as the slice has them
+abbrev rest : List ℕ → ℕ → List ℕ
+rest words p = take (length words - p) (drop p words)
 
-header_of_some : (c : Else-length-eq0) → HasOneHeader (drop c.args.p c.args.words.now) c.if-base-eq2.kind.0 c.if-base-eq2.kind.1
-header_of_some c =
-    elim c.if-base-eq2.branch [
-      | then-base-eq2 w ↦ HasOneHeader-free_at c.args.words.now c.args.p c.if-base-eq2.kind w.if-base-eq2.true w.kind-is
-      | else-base-eq2 w ↦ HasOneHeader-short_at c.args.words.now c.args.p c.if-base-eq2.kind w.base_of.result c.requires.one_word_header w.if-base-eq2.false w.base_of.ensures w.kind-is
-    ]
+length-rest : (words : List ℕ) (p : ℕ) → length (rest words p) ≡ length words - p
+length-rest words p = rw (take_rest words p, length-drop) refl
 
-pub returns-then-length-eq0-clause-fault : goal.returns-then-length-eq0-clause-fault
-returns-then-length-eq0-clause-fault c =
-    one_header_zero_size (drop c.args.p c.args.words.now) _ _ (header_if_empty c) (rw length-drop (omega arith)) c.if-length-eq0.true
+pub returns-then-not-is_of_one_type-clause-fault : goal.returns-then-not-is_of_one_type-clause-fault
+returns-then-not-is_of_one_type-clause-fault c =
+    subst (λ (w : List ℕ). HasNoChunk w HeaderMismatch) (take_rest c.args.words.now c.args.p)
+    (HasNoChunk-mixed_header (rest c.args.words.now c.args.p) c.kind_of-kind.result c.words_before-before.result c.kind_of-kind.ensures c.words_before-before.ensures.before
+    (omega (arith, length-rest c.args.words.now c.args.p)) (sym c.is_of_one_type.ensures ∙ c.if-not-is_of_one_type.true))
 
-pub returns-then-length-words-clause-fault : goal.returns-then-length-words-clause-fault
-returns-then-length-words-clause-fault c =
-    let h = header_of_some (goal.at.returns-then-length-words-clause-fault c).Else-length-eq0 in
-    one_header_overrun (drop c.args.p c.args.words.now) _ _ h (rw length-drop (omega arith)) (omega arith) (rw length-drop (omega arith))
+pub returns-then-size-eq0-clause-fault : goal.returns-then-size-eq0-clause-fault
+returns-then-size-eq0-clause-fault c =
+    subst (λ (w : List ℕ). HasNoChunk w ZeroSize) (take_rest c.args.words.now c.args.p)
+    (HasNoChunk-zero_size (rest c.args.words.now c.args.p) c.kind_of-kind.result c.words_before-before.result c.kind_of-kind.ensures c.words_before-before.ensures.before
+    c.stated_size-size.result (omega (arith, length-rest c.args.words.now c.args.p)) (sym c.is_of_one_type.ensures ∙ c.if-not-is_of_one_type.false) c.stated_size-size.ensures c.if-size-eq0.true)
+
+pub returns-then-words-length-clause-fault : goal.returns-then-words-length-clause-fault
+returns-then-words-length-clause-fault c =
+    subst (λ (w : List ℕ). HasNoChunk w Overrun) (take_rest c.args.words.now c.args.p)
+    (HasNoChunk-overrun (rest c.args.words.now c.args.p) c.kind_of-kind.result c.words_before-before.result c.kind_of-kind.ensures c.words_before-before.ensures.before
+    c.stated_size-size.result (omega (arith, length-rest c.args.words.now c.args.p)) (sym c.is_of_one_type.ensures ∙ c.if-not-is_of_one_type.false) c.stated_size-size.ensures
+    (omega arith) (omega (arith, length-rest c.args.words.now c.args.p)))
 
 pub returns-clause-chunk : goal.returns-clause-chunk
 returns-clause-chunk c =
-    let h = header_of_some (goal.at.returns-clause-chunk c).Else-length-eq0 in
-    rw (← slice_index-drop c.args.words.now c.args.p) (one_header_begins (drop c.args.p c.args.words.now) _ _ h (rw length-drop (omega arith)) (omega arith) (rw length-drop (omega arith)))
+    let words = rest c.args.words.now c.args.p in
+    let count = c.words_before-before.result in
+    let size = c.stated_size-size.result in
+    let chunk : Chunk = record { kind = c.kind_of-kind.result; before = count; length = count + size; base = slice_index words count } in
+    subst (λ (w : List ℕ). BeginsWith w chunk) (take_rest c.args.words.now c.args.p)
+    (BeginsWith-stated words c.kind_of-kind.result count c.kind_of-kind.ensures c.words_before-before.ensures.before
+    size (omega (arith, length-rest c.args.words.now c.args.p)) (sym c.is_of_one_type.ensures ∙ c.if-not-is_of_one_type.false) c.stated_size-size.ensures
+    (omega arith) (omega (arith, length-rest c.args.words.now c.args.p)))

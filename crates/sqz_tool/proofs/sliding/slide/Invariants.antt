@@ -2,5 +2,5 @@ use Rattle.std.proofs.Common.{◌≡◌}
 use Rattle.sqz_slide.proofs.MovedLemmas.{moved_below}
 use Rattle.sqz_tool.proofs.sliding.slide.Given as goal
 
-abbrev pub invariant-loop-object : goal.invariant-loop-object
-invariant-loop-object l = l.words.items ≡ moved_below l.heap l.marks l.object
+abbrev pub invariant-loop-index : goal.invariant-loop-index
+invariant-loop-index l = l.words.items ≡ moved_below l.heap l.marks l.index

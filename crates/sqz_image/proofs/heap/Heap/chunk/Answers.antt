@@ -1,16 +1,11 @@
 use Rattle.std.proofs.Common.{arith}
-use Rattle.sqz_image.proofs.HeapLemmas.{listed_is, has_object, chunk_there, no_fault_there, header_there}
+use Rattle.sqz_image.proofs.HeapLemmas.{listed_is, has_object, chunk_there, no_fault_there}
 use Rattle.sqz_image.proofs.heap.Heap.chunk.Goals as goal
 
 pub chunk_at-requires-clause-inside : goal.chunk_at-requires-clause-inside
 chunk_at-requires-clause-inside c =
     let here = has_object (listed_is c.self.view_is c.self.invariant) c.args.object c.requires in
     omega (arith, here.stands.inside, here.header, c.first.ensures.first, c.deref.ensures.len, c.self.inside.words.ok.0)
-
-pub chunk_at-requires-clause-one_word_header : goal.chunk_at-requires-clause-one_word_header
-chunk_at-requires-clause-one_word_header c =
-    let here = has_object (listed_is c.self.view_is c.self.invariant) c.args.object c.requires in
-    rw (c.deref.ensures.value, c.first.ensures.first) (header_there here)
 
 pub unreachable-requires : goal.unreachable-requires
 unreachable-requires c =

@@ -1,0 +1,62 @@
+//! One object of an object memory.
+
+ghost use Rattle.std.specs.Prelude.{◌≡◌, ◌^◌, ◌<◌};
+ghost use Rattle.sqz_object.specs.Chunk.{fields};
+ghost use Rattle.sqz_object.specs.Reading.{description};
+
+use sqz_object::Chunk;
+use std::marker::Model;
+
+/// An object's chunk: what its header says, and all its words. Contracts see it as the list of its
+/// words.
+#[derive(Drop)]
+pub struct Object<'a> {
+    header: Chunk,
+    words: &'a [u32],
+}
+
+impl<'a> Model for Object<'a> {
+    ghost use Rattle.std.specs.Prelude.{ℕ, List};
+    ghost use Rattle.sqz_image.specs.Header.{IsHeaderOf};
+
+    ghost Value = { List ℕ };
+
+    ghost view = { λ object. object.words.now };
+
+    ghost invariant = { λ object. IsHeaderOf object.words.now object.header };
+}
+
+impl<'a> Object<'a> {
+    /// An object with this header and these words, all header words among them.
+    pub(crate) fn new(header: Chunk, words: &'a [u32]) -> Self
+        requires described { header ≡ description words.now }
+        requires headed { header.before < header.length }
+        requires few { header.length < 2 ^ 30 }
+        ensures { result ≡ words.now }
+    {
+        Object { header, words }
+    }
+
+    /// What the header words say.
+    pub fn header(&self) -> Chunk
+        ensures described { result ≡ description self.now }
+        ensures headed { result.before < result.length }
+        ensures few { result.length < 2 ^ 30 }
+    {
+        self.header
+    }
+
+    /// All words of the chunk, the header words among them.
+    pub fn words(&self) -> &'a [u32]
+        ensures { result.now ≡ self.now }
+    {
+        self.words
+    }
+
+    /// The words after the base header.
+    pub fn fields(&self) -> &'a [u32]
+        ensures { result.now ≡ fields self.now }
+    {
+        &self.words[self.header.before as usize + 1..]
+    }
+}

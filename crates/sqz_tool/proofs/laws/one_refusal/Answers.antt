@@ -1,0 +1,8 @@
+use Rattle.sqz_tool.proofs.Uniqueness.{IsRefused-unique, IsRefused-not_accepted}
+use Rattle.sqz_tool.proofs.laws.one_refusal.Goals as goal
+
+pub returns-clause-one : goal.returns-clause-one
+returns-clause-one c = IsRefused-unique
+
+pub returns-clause-not_accepted : goal.returns-clause-not_accepted
+returns-clause-not_accepted c = IsRefused-not_accepted

@@ -1,0 +1,240 @@
+-- Marking with a worklist: what holds between two steps of it, and what that shows at its end.
+use Rattle.std.proofs.Common.{◌≡◌, ℕ, zero, suc, ◌+◌, ◌<◌, ◌⊎◌, Bool, true, false, List, [], ◌∷◌, ◌++◌, length, set, take, drop, refl, sym, ap, subst, ◌∙◌, arith, inl, inr}
+use Rattle.std.specs.Prelude.{replicate}
+use Rattle.std.proofs.lemmas.List.{length-set, length-append, length-replicate, get_or-set_same, take_at}
+use Rattle.sqz_trace.specs.Graph.{Graph, IsReachable, is_marked, MarksReachable}
+use Rattle.sqz_trace.proofs.ReachabilityLemmas.{IsReachable-next, MarksReachable-from_tracing}
+use Rattle.sqz_trace.specs.Marking.{IsIn, unmarked_count, MarksTargets}
+
+-- ---- lists
+
+IsIn-front : (x : ℕ) (xs ys : List ℕ) → IsIn x xs → IsIn x (xs ++ ys)
+IsIn-front x [] ys h = absurd h
+IsIn-front x (y ∷ xs) ys (inl e) = inl e
+IsIn-front x (y ∷ xs) ys (inr h) = inr (IsIn-front x xs ys h)
+
+pub IsIn-back : (x : ℕ) (xs ys : List ℕ) → IsIn x ys → IsIn x (xs ++ ys)
+IsIn-back x [] ys h = h
+IsIn-back x (y ∷ xs) ys h = inr (IsIn-back x xs ys h)
+
+IsIn-push : (x y : ℕ) (xs : List ℕ) → IsIn x (xs ++ y ∷ []) → IsIn x xs ⊎ (x ≡ y)
+IsIn-push x y [] (inl e) = inr (sym e)
+IsIn-push x y [] (inr h) = absurd h
+IsIn-push x y (z ∷ xs) (inl e) = inl (inl e)
+IsIn-push x y (z ∷ xs) (inr h) =
+    elim (IsIn-push x y xs h) [
+      | inl there ↦ inl (inr there)
+      | inr e ↦ inr e
+    ]
+
+-- a mark more is an unmarked object less
+unmarked_count-set : (marks : List Bool) (i : ℕ) → i < length marks → is_marked marks i ≡ false
+    → unmarked_count (set marks i true) + 1 ≡ unmarked_count marks
+unmarked_count-set [] i lt e = absurd (omega arith)
+unmarked_count-set (true ∷ marks) zero lt e = absurd cc
+unmarked_count-set (false ∷ marks) zero lt e = omega arith
+unmarked_count-set (true ∷ marks) (suc i) lt e = unmarked_count-set marks i (omega arith) e
+unmarked_count-set (false ∷ marks) (suc i) lt e =
+    let rest = unmarked_count-set marks i (omega arith) e in
+    omega (arith, rest)
+
+-- what is marked after a mark more was marked before, or got the mark
+is_marked-set : (marks : List Bool) (i j : ℕ) → is_marked (set marks i true) j ≡ true → (j ≡ i) ⊎ (is_marked marks j ≡ true)
+is_marked-set [] i j e = inr e
+is_marked-set (mark ∷ marks) zero zero e = inl refl
+is_marked-set (mark ∷ marks) zero (suc j) e = inr e
+is_marked-set (mark ∷ marks) (suc i) zero e = inr e
+is_marked-set (mark ∷ marks) (suc i) (suc j) e =
+    elim (is_marked-set marks i j e) [
+      | inl same ↦ inl (ap suc same)
+      | inr marked ↦ inr marked
+    ]
+
+-- a mark more takes no mark away
+is_marked-keeps : (marks : List Bool) (i j : ℕ) → is_marked marks j ≡ true → is_marked (set marks i true) j ≡ true
+is_marked-keeps [] i j e = e
+is_marked-keeps (mark ∷ marks) zero zero e = refl
+is_marked-keeps (mark ∷ marks) zero (suc j) e = e
+is_marked-keeps (mark ∷ marks) (suc i) zero e = e
+is_marked-keeps (mark ∷ marks) (suc i) (suc j) e = is_marked-keeps marks i j e
+
+is_marked-in_range : (marks : List Bool) (i : ℕ) → is_marked marks i ≡ true → i < length marks
+is_marked-in_range [] i e = absurd cc
+is_marked-in_range (mark ∷ marks) zero e = omega arith
+is_marked-in_range (mark ∷ marks) (suc i) e = let lt = is_marked-in_range marks i e in omega arith
+
+none_marked : (count i : ℕ) → is_marked (replicate count false) i ≡ true → ⊥
+none_marked zero i e = cc
+none_marked (suc count) zero e = cc
+none_marked (suc count) (suc i) e = none_marked count i e
+
+-- ---- the targets of one object
+
+module _ (IsTarget : ℕ → Type 0) (marks : List Bool) (queue : List ℕ) where
+  -- nothing is to be done where the targets have their marks
+  pub MarksTargets-none : ((index : ℕ) → IsTarget index → is_marked marks index ≡ true) → MarksTargets IsTarget marks queue marks queue
+  MarksTargets-none have =
+      record {
+        sized = refl;
+        keeps = λ index marked. marked;
+        targets = have;
+        only = λ index marked. inl marked;
+        queued = λ index there. there;
+        added = λ index there. inl there;
+        measure = refl;
+      }
+
+  -- one target without a mark gets it
+  pub MarksTargets-one : (found : ℕ) → found < length marks → is_marked marks found ≡ false → IsTarget found
+      → ((index : ℕ) → IsTarget index → found ≡ index) → MarksTargets IsTarget marks queue (set marks found true) (queue ++ found ∷ [])
+  MarksTargets-one found in_range new is_target only_one =
+      record {
+        sized = length-set marks found true;
+        keeps = is_marked-keeps marks found;
+        targets = λ index target. marked_at index (only_one index target);
+        only = λ index marked. elim (is_marked-set marks found index marked) [
+          | inl same ↦ inr (subst IsTarget (sym same) is_target, IsIn-back index queue (found ∷ []) (inl (sym same)))
+          | inr before ↦ inl before
+        ];
+        queued = λ index. IsIn-front index queue (found ∷ []);
+        added = λ index there. elim (IsIn-push index found queue there) [
+          | inl before ↦ inl before
+          | inr same ↦ inr (marked_at index (sym same))
+        ];
+        measure = omega (arith, unmarked_count-set marks found in_range new, length-append queue (found ∷ []));
+      } where
+        marked_at : (index : ℕ) → found ≡ index → is_marked (set marks found true) index ≡ true
+        marked_at index same =
+            subst (λ (i : ℕ). is_marked (set marks found true) i ≡ true) same (get_or-set_same marks found true false in_range)
+
+module _ (IsFirst IsSecond IsTarget : ℕ → Type 0)
+    (either : (index : ℕ) → IsTarget index → IsFirst index ⊎ IsSecond index)
+    (from_first : (index : ℕ) → IsFirst index → IsTarget index)
+    (from_second : (index : ℕ) → IsSecond index → IsTarget index) where
+  -- some targets are marked, and then the others
+  pub MarksTargets-then : (old marks new : List Bool) (queue worklist longer : List ℕ) → MarksTargets IsFirst old queue marks worklist
+      → MarksTargets IsSecond marks worklist new longer → MarksTargets IsTarget old queue new longer
+  MarksTargets-then old marks new queue worklist longer first second =
+      record {
+        sized = second.sized ∙ first.sized;
+        keeps = λ index marked. second.keeps index (first.keeps index marked);
+        targets = λ index target. elim (either index target) [
+          | inl one ↦ second.keeps index (first.targets index one)
+          | inr other ↦ second.targets index other
+        ];
+        only = λ index marked. elim (second.only index marked) [
+          | inl before ↦ elim (first.only index before) [
+            | inl old_mark ↦ inl old_mark
+            | inr (one, there) ↦ inr (from_first index one, second.queued index there)
+          ]
+          | inr (other, there) ↦ inr (from_second index other, there)
+        ];
+        queued = λ index there. second.queued index (first.queued index there);
+        added = λ index there. elim (second.added index there) [
+          | inl before ↦ elim (first.added index before) [
+            | inl old_place ↦ inl old_place
+            | inr marked ↦ inr (second.keeps index marked)
+          ]
+          | inr marked ↦ inr marked
+        ];
+        measure = second.measure ∙ first.measure;
+      }
+
+-- ---- between two steps
+
+-- marked objects are reachable, and all that they have an edge to is marked but for those on the worklist
+pub record IsMarking (graph : Graph) (marks : List Bool) (worklist : List ℕ) : Type 0 where
+  pub sized : length marks ≡ graph.count
+  pub has_start : is_marked marks graph.start ≡ true
+  pub sound : (index : ℕ) → is_marked marks index ≡ true → IsReachable graph index
+  pub queued : (index : ℕ) → IsIn index worklist → is_marked marks index ≡ true
+  pub closed : (index : ℕ) → is_marked marks index ≡ true
+      → IsIn index worklist ⊎ ((next : ℕ) → graph.Edge index next → is_marked marks next ≡ true)
+
+module _ (graph : Graph) (lt : graph.start < graph.count) where
+  -- the start alone is marked
+  abbrev first_marks : List Bool
+  first_marks = set (replicate graph.count false) graph.start true
+
+  start_marked : is_marked first_marks graph.start ≡ true
+  start_marked =
+      get_or-set_same (replicate graph.count false) graph.start true false (omega (arith, length-replicate graph.count false))
+
+  start_only : (index : ℕ) → is_marked first_marks index ≡ true → graph.start ≡ index
+  start_only index marked =
+      elim (is_marked-set (replicate graph.count false) graph.start index marked) [
+        | inl same ↦ sym same
+        | inr before ↦ absurd (none_marked graph.count index before)
+      ]
+
+  -- at first the start alone is marked, and on the worklist
+  pub IsMarking-start : IsMarking graph first_marks (graph.start ∷ [])
+  IsMarking-start =
+      record {
+        sized = length-set (replicate graph.count false) graph.start true ∙ length-replicate graph.count false;
+        has_start = start_marked;
+        sound = λ index marked. record { path = []; leads = start_only index marked };
+        queued = λ index there. elim there [
+          | inl same ↦ subst (λ (i : ℕ). is_marked first_marks i ≡ true) same start_marked
+          | inr none ↦ absurd none
+        ];
+        closed = λ index marked. inl (inl (start_only index marked));
+      }
+
+-- then an object is taken from the worklist, and its targets are marked
+pub IsMarking-step : (graph : Graph) (object : ℕ) (marks new : List Bool) (rest longer : List ℕ)
+    → IsMarking graph marks (rest ++ object ∷ [])
+    → MarksTargets (graph.Edge object) marks rest new longer → IsMarking graph new longer
+IsMarking-step graph object marks new rest longer marking step =
+    record {
+      sized = step.sized ∙ marking.sized;
+      has_start = step.keeps graph.start marking.has_start;
+      sound = λ index marked. elim (step.only index marked) [
+        | inl before ↦ marking.sound index before
+        | inr (edge, there) ↦ IsReachable-next graph object index taken edge
+      ];
+      queued = λ index there. elim (step.added index there) [
+        | inl before ↦ step.keeps index (marking.queued index (IsIn-front index rest (object ∷ []) before))
+        | inr marked ↦ marked
+      ];
+      closed = λ index marked. elim (step.only index marked) [
+        | inl before ↦ elim (marking.closed index before) [
+          | inl queued ↦ elim (IsIn-push index object rest queued) [
+            | inl there ↦ inl (step.queued index there)
+            | inr same ↦ inr (λ next edge. step.targets next (subst (λ (i : ℕ). graph.Edge i next) same edge))
+          ]
+          | inr all ↦ inr (λ next edge. step.keeps next (all next edge))
+        ]
+        | inr (edge, there) ↦ inl there
+      ];
+    } where
+      taken : IsReachable graph object
+      taken = marking.sound object (marking.queued object (IsIn-back object rest (object ∷ []) (inl refl)))
+
+-- at the end the worklist is empty, and the marked objects are the reachable ones
+pub MarksReachable-from_marking : (graph : Graph) (marks : List Bool) → IsMarking graph marks [] → MarksReachable graph marks
+MarksReachable-from_marking graph marks marking =
+    MarksReachable-from_tracing graph marks
+    (record {
+      sized = marking.sized;
+      has_start = marking.has_start;
+      closed = record {
+        along = λ from to marked edge. elim (marking.closed from marked) [
+          | inl none ↦ absurd none
+          | inr all ↦ all to edge
+        ];
+      };
+      reached = marking.sound;
+    })
+
+-- what stands on the worklist is an object
+pub IsMarking-inside : (graph : Graph) (marks : List Bool) (worklist : List ℕ) (index : ℕ) → IsMarking graph marks worklist
+    → IsIn index worklist → index < graph.count
+IsMarking-inside graph marks worklist index marking there =
+    let lt = is_marked-in_range marks index (marking.queued index there) in
+    omega (arith, lt, marking.sized)
+
+-- a vector whose whole slice was written
+pub whole_slice : (count : ℕ) (new old : List Bool) → length new ≡ length old → count ≡ length old
+    → take count (new ++ drop (length new) old) ≡ new
+whole_slice count new old same is = take_at new (drop (length new) old) count (sym (is ∙ sym same))

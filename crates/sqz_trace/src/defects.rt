@@ -1,0 +1,109 @@
+//! What is wrong with an object.
+
+ghost use Rattle.std.specs.Prelude.{◌≡◌, ◌<◌};
+ghost use Rattle.sqz_object.specs.Value.{value_of};
+ghost use Rattle.sqz_image.specs.Objects.{object_count, object_at};
+ghost use Rattle.sqz_trace.specs.Slots.{traced, field_slots};
+ghost use Rattle.sqz_trace.specs.Defects.{lacks_class, states_too_many, is_bad_method, is_bad_context, is_bad_value, first_bad, bad_slot, defect};
+
+use crate::contexts::{context_fields, is_context};
+use crate::methods::{is_method, method_fields};
+use crate::slots::{class_address, traced_fields};
+use sqz_image::{Fault, Heap, Object, Slot};
+use sqz_object::{Kind, Value, base_of, value_of};
+
+/// The first thing that is wrong with an object: `NoClass`, else `BadMethod` or `BadContext`, else
+/// `BadPointer` with its first slot that holds neither an integer nor the address of an object.
+pub fn defect(heap: &Heap, object: u32) -> Option<Fault>
+    requires { object < object_count heap.now }
+    ensures { result ≡ defect heap.now (object_at heap.now object) }
+{
+    let chunk = heap.object(object);
+    if lacks_class(&chunk) {
+        let address = heap.address(object);
+        return Some(Fault::NoClass { address });
+    }
+    if is_bad_method(&chunk) {
+        let address = heap.address(object);
+        return Some(Fault::BadMethod { address });
+    }
+    if is_bad_context(&chunk) {
+        let address = heap.address(object);
+        return Some(Fault::BadContext { address });
+    }
+    let slot = bad_slot(heap, &chunk)?;
+    let address = heap.address(object);
+    Some(Fault::BadPointer { address, slot })
+}
+
+/// Whether the object's header names no class.
+fn lacks_class(object: &Object<'_>) -> bool
+    ensures { result ≡ lacks_class object.now }
+{
+    let header = object.header();
+    header.kind == Kind::Short && base_of(header.base).compact == 0
+}
+
+/// Whether the object is a method that states no number of traced fields, or more than it has.
+fn is_bad_method(object: &Object<'_>) -> bool
+    ensures { result ≡ is_bad_method object.now }
+{
+    let base = base_of(object.header().base);
+    let fields = object.fields();
+    is_method(&base) && states_too_many(method_fields(fields), fields.len() as u32)
+}
+
+/// Whether the object is a context that states no number of traced fields, or more than it has.
+fn is_bad_context(object: &Object<'_>) -> bool
+    ensures { result ≡ is_bad_context object.now }
+{
+    let base = base_of(object.header().base);
+    let fields = object.fields();
+    is_context(&base) && states_too_many(context_fields(fields), fields.len() as u32)
+}
+
+/// Whether no number is stated, or a number above this count.
+fn states_too_many(stated: Option<u32>, count: u32) -> bool
+    ensures { result ≡ states_too_many stated count }
+{
+    match stated {
+        None => true,
+        Some(stated) => stated > count,
+    }
+}
+
+/// Whether a word is neither an integer nor the address of an object.
+fn is_bad_word(heap: &Heap, word: u32) -> bool
+    ensures { result ≡ is_bad_value heap.now (value_of word) }
+{
+    match value_of(word) {
+        Value::Int(_) => false,
+        Value::Pointer(address) => heap.find(address).is_none(),
+        Value::Odd(_) => true,
+    }
+}
+
+/// The first slot of the object that holds a bad word.
+fn bad_slot(heap: &Heap, object: &Object<'_>) -> Option<Slot>
+    ensures { result ≡ bad_slot heap.now object.now }
+{
+    if let Some(class) = class_address(object)
+        && is_bad_word(heap, class)
+    {
+        return Some(Slot::ClassWord);
+    }
+    bad_field(heap, object)
+}
+
+/// The slot of the first traced field of the object that holds a bad word.
+fn bad_field(heap: &Heap, object: &Object<'_>) -> Option<Slot>
+    ensures { result ≡ first_bad heap.now object.now (field_slots 0 (traced object.now)) }
+{
+    let fields = &object.fields()[..traced_fields(object) as usize];
+    for (index, word) in fields.iter().enumerate() {
+        if is_bad_word(heap, *word) {
+            return Some(Slot::Field(index as u32));
+        }
+    }
+    None
+}

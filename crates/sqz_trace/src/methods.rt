@@ -1,0 +1,27 @@
+//! Compiled methods: how many of their fields are traced.
+
+ghost use Rattle.std.specs.Prelude.{◌≡◌, nat_le};
+ghost use Rattle.sqz_trace.specs.Slots.{method_fields};
+
+use sqz_object::Base;
+
+/// Whether an object with this base header is a compiled method.
+pub(crate) fn is_method(base: &Base) -> bool
+    ensures { result ≡ nat_le 12 base.now.format }
+{
+    base.format >= 12
+}
+
+/// How many traced fields a method with these fields states: its header and its literals. None where
+/// its header is missing or no integer.
+pub(crate) fn method_fields(fields: &[u32]) -> Option<u32>
+    ensures { result ≡ method_fields fields.now }
+{
+    let [header, ..] = fields else {
+        return None;
+    };
+    if header % 2 != 1 {
+        return None;
+    }
+    Some(1 + header / 1024 % 256)
+}
