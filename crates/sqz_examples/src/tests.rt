@@ -9,4 +9,5 @@ mod fault_lines;
 mod files;
 mod headers;
 mod program;
+mod tracing;
 mod unreadable;

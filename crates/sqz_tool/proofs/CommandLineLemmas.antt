@@ -43,7 +43,7 @@ id_begins name a w other e = rw (← e, w.id) refl
 -- such an argument fits into a chain, where its name begins with a capital letter
 required_fits : (name : Text) (a : Arg) → IsRequired name a → 0 < slice_index name 0 → slice_index name 0 < 97 → FitsChain a
 required_fits name a w above below = (
-  w.plain,
+  w.simple,
   w.local,
   (λ e. let bad : 0 ≡ slice_index name 0 = id_begins name a w [] e in absurd (omega arith)),
   (λ auto. elim auto [

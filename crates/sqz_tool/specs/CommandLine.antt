@@ -20,7 +20,7 @@ command_line =
 pub record IsRequired (name : Text) (a : Arg) : Type 0 where
   pub id : a.id.now ≡ name
   pub rule : rule_of a ≡ required_word name
-  pub plain : IsPlainArg a
+  pub simple : IsPlainArg a
   pub local : a.global ≡ false
   pub value : TakesValue a
 

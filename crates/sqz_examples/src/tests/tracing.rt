@@ -1,0 +1,106 @@
+//! What objects name, which of them are reachable, and what is wrong with them, in small images.
+
+ghost use Rattle.std.specs.Prelude.{◌<◌, length};
+
+use super::files::file_of;
+use sqz_image::{Fault, Image, Slot, read_image};
+use sqz_object::Order;
+use sqz_trace::{defect, first_defect, mark_plain, target, traced};
+use std::alloc::Global;
+use std::test::Fail;
+
+/// The image in a little-endian file with these data words from the address 0x1000 on.
+fn image_of(alloc: Global, words: &[u32], special: u32) -> Result<Image, Fail>
+    requires { length words.now < 1000 }
+{
+    let file = file_of(alloc, Order::Little, 0x1000, words, special)?;
+    Ok(read_image(alloc, &file)?)
+}
+
+#[test]
+fn marks_of_a_dead_cycle(rt: HostRuntime) -> Result<(), Fail> {
+    let words = [
+        0x1007, 0x110B, 0x1014, 0x110B, 0x101C, 0x110B, 0x1004, 0x110B, 0x100C, 0x320F, 0x1000,
+        0x1004,
+    ];
+    let image = image_of(rt.alloc(), &words, 0x1024)?;
+    let heap = image.heap();
+    assert_eq!(rt; heap.len(), 6);
+    let marks = mark_plain(rt.alloc(), heap)?;
+    assert_eq!(rt; marks.count(), 4);
+    for (object, reachable) in [true, true, false, true, false, true].iter().enumerate() {
+        assert_eq!(rt; marks.has(object as u32), *reachable, "object {object}");
+    }
+    assert_eq!(rt; first_defect(&rt, heap, &marks), None);
+    Ok(())
+}
+
+#[test]
+fn targets_of_slots(rt: HostRuntime) -> Result<(), Fail> {
+    let words = [
+        0x1007, 0x320F, 1, 1, 0x100B, 1, 0x1011, 0x109, 1, 0x320F, 0x1000, 0x101C,
+    ];
+    let image = image_of(rt.alloc(), &words, 0x1024)?;
+    let heap = image.heap();
+    assert_eq!(rt; heap.len(), 5);
+    assert_eq!(rt; target(heap, 3, Slot::ClassWord), Some(2));
+    assert_eq!(rt; target(heap, 3, Slot::Field(0)), None, "an integer");
+    assert_eq!(rt; target(heap, 4, Slot::Field(1)), Some(3));
+    assert_eq!(rt; target(heap, 4, Slot::Field(2)), None, "no such field");
+    assert_eq!(rt; target(heap, 4, Slot::ClassWord), None, "no class word");
+    Ok(())
+}
+
+#[test]
+fn traced_fields_of_a_context_and_a_method(rt: HostRuntime) -> Result<(), Fail> {
+    let words = [
+        0x1007,
+        0xD32F,
+        0x1000,
+        1,
+        3,
+        0x1000,
+        0x1000,
+        0x1000,
+        0x1000,
+        1,
+        2,
+        0xFFFF_FFFE,
+        0x5C17,
+        0x801,
+        0x1000,
+        0x1000,
+        0x100C,
+        0x320F,
+        0x1004,
+        0x1030,
+    ];
+    let image = image_of(rt.alloc(), &words, 0x1044)?;
+    let heap = image.heap();
+    assert_eq!(rt; heap.len(), 4);
+    assert_eq!(rt; traced(heap, 1), 7, "up to the top of the stack");
+    assert_eq!(rt; traced(heap, 2), 3, "the header and two literals");
+    assert_eq!(rt;
+        heap.object(2).fields(),
+        [0x801, 0x1000, 0x1000, 0x100C].as_slice()
+    );
+    Ok(())
+}
+
+#[test]
+fn defects_of_two_objects(rt: HostRuntime) -> Result<(), Fail> {
+    let words = [0x1007, 0x320F, 0x1002, 0x1010, 0x10B, 1];
+    let image = image_of(rt.alloc(), &words, 0x1004)?;
+    let heap = image.heap();
+    assert_eq!(rt; heap.len(), 3);
+    let bad_pointer = Fault::BadPointer {
+        address: 0x1004,
+        slot: Slot::Field(0),
+    };
+    assert_eq!(rt; defect(heap, 0), None);
+    assert_eq!(rt; defect(heap, 1), Some(bad_pointer));
+    assert_eq!(rt; defect(heap, 2), Some(Fault::NoClass { address: 0x1010 }));
+    let marks = mark_plain(rt.alloc(), heap)?;
+    assert_eq!(rt; first_defect(&rt, heap, &marks), Some(bad_pointer));
+    Ok(())
+}
