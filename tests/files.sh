@@ -7,6 +7,7 @@ shopt -s nullglob
 
 root=$(dirname "$(dirname "$(readlink -f "${BASH_SOURCE[0]}")")")
 images=$root/images
+program=$root/crates/sqzcompact/out/sqzcompact
 folder=$(mktemp -d) || exit 1
 trap 'rm -rf "$folder"' EXIT
 cd "$folder" || exit 1
@@ -19,6 +20,15 @@ run() {
   status=$?
 }
 
+# Runs the built program itself with these words, after a command that sets a limit. What builds and starts
+# it else is not to meet that limit.
+run_after() {
+  local limit=$1
+  shift
+  ($limit && exec "$program" "$@") >printed 2>said
+  status=$?
+}
+
 # Whether the last run ended so, and printed nothing but this one line on standard error.
 faulted() {
   [ "$status" -eq "$1" ] && [ ! -s printed ] && printf '%s\n' "$2" | cmp -s - said
@@ -27,6 +37,16 @@ faulted() {
 # Whether the last run succeeded, printed nothing, and wrote to this file the same as is in that one.
 wrote() {
   [ "$status" -eq 0 ] && [ ! -s printed ] && [ ! -s said ] && cmp -s "$1" "$2"
+}
+
+# Puts an old file where the answer is to go.
+put_old_output() {
+  echo 'as it was' >out
+}
+
+# Whether the old file is still as it was.
+has_old_output() {
+  echo 'as it was' | cmp -s - out
 }
 
 # Counts a case, which the command decides.
@@ -60,9 +80,9 @@ empties_old_file() {
 }
 
 refuses() {
-  echo 'as it was' >out
+  put_old_output
   run "$1" out
-  faulted 1 "$(cat "$2")" && echo 'as it was' | cmp -s - out
+  faulted 1 "$(cat "$2")" && has_old_output
 }
 
 refuses_and_makes_nothing() {
@@ -83,9 +103,124 @@ reports_folder_as_input() {
   faulted 3 'fault 16: cannot read the image' && [ ! -e out ]
 }
 
+leaves_old_file_where_input_is_folder() {
+  put_old_output
+  run . out
+  faulted 3 'fault 16: cannot read the image' && has_old_output
+}
+
 reports_output_in_missing_folder() {
   run "$1" missing/out
   faulted 3 'fault 17: cannot write the output'
+}
+
+reports_full_device() {
+  run "$1" /dev/full
+  faulted 3 'fault 17: cannot write the output'
+}
+
+# No file may be of more than 64 KiB, and the signal that says so is ignored: of a write past that only the
+# front is taken, and a write behind it fails.
+limit_files() {
+  trap '' XFSZ
+  ulimit -f 64
+}
+
+reports_limit_on_files() {
+  rm -f out
+  run_after limit_files "$1" out
+  faulted 3 'fault 17: cannot write the output' && head -c 65536 "$2" | cmp -s - out
+}
+
+# Makes a file of this name with an image: a class, an object of so many bytes, and the special objects
+# array, which names it. They have 28 bytes more. All is reachable, so the image is its own compaction.
+make_image() {
+  {
+    put_words 6502 64 $(($2 + 28)) 0x1000 $(($2 + 0x1010)) 0 0 0 0 0 0 0 0 0 0 0
+    put_words 0x1007 $(($2 + 4)) 0x1000 0x800
+    head -c "$2" /dev/zero
+    put_words 0x320F 0x1000 0x100C
+  } >"$1"
+}
+
+# Prints words, the lowest byte of each first.
+put_words() {
+  local word
+  for word in "$@"; do
+    printf '%b' "$(printf '\\x%02x\\x%02x\\x%02x\\x%02x' \
+      $((word & 255)) $((word >> 8 & 255)) $((word >> 16 & 255)) $((word >> 24 & 255)))"
+  done
+}
+
+# The address space may have $kib KiB.
+limit_memory() {
+  ulimit -v "$kib"
+}
+
+# Finds how many KiB the program needs at rest: the least address space in which it compacts an image of
+# some words. That is the program, the C library, the stack and the room that reading begins with.
+find_need_at_rest() {
+  for ((kib = 1024; kib < 1 << 18; kib += 256)); do
+    compacts_in_memory "$1" "$2" && break
+  done
+  at_rest=$kib
+}
+
+compacts_in_memory() {
+  rm -f out
+  run_after limit_memory "$1" out
+  wrote out "$2"
+}
+
+# Beside what is needed at rest there is room for half the image.
+reports_want_of_memory() {
+  kib=$((at_rest + $(stat -c %s "$1") / 2 / 1024))
+  put_old_output
+  run_after limit_memory "$1" out
+  faulted 4 'fault 15: out of memory' && has_old_output
+}
+
+# Beside what is needed at rest there is room for four times the image. It has few objects, so no thread
+# is started, of which the stack would count too.
+compacts_in_four_times_its_size() {
+  kib=$((at_rest + 4 * $(stat -c %s "$1") / 1024))
+  compacts_in_memory "$1" "$1"
+}
+
+# The bytes come through a pipe, a few thousand at a time.
+compacts_from_pipe() {
+  local writer
+  rm -f out pipe
+  mkfifo pipe
+  cat "$1" >pipe &
+  writer=$!
+  run pipe out
+  kill "$writer" 2>/dev/null
+  wait "$writer" 2>/dev/null
+  wrote out "$2"
+}
+
+reports_input_without_right() {
+  rm -f out closed
+  cp "$1" closed
+  chmod 000 closed
+  run closed out
+  faulted 3 'fault 16: cannot read the image' && [ ! -e out ]
+}
+
+reports_output_without_right() {
+  put_old_output
+  chmod 400 out
+  run "$1" out
+  chmod 600 out
+  faulted 3 'fault 17: cannot write the output' && has_old_output
+}
+
+# Runs the program with these words, of which one is no text.
+refuses_words() {
+  rm -f out
+  run "$@"
+  faulted 2 'error: an argument is not valid text' && [ ! -e out ]
 }
 
 wants_output() {
@@ -125,10 +260,32 @@ case_of 'compacts in place' compacts_in_place "$image" "$answer"
 case_of 'empties an old file' empties_old_file "$image" "$answer"
 case_of 'reports a missing input' reports_missing_input
 case_of 'reports a folder as input' reports_folder_as_input
+case_of 'leaves an old file where the input is a folder' leaves_old_file_where_input_is_folder
 case_of 'reports an output in a missing folder' reports_output_in_missing_folder "$image"
+case_of 'reports a full device' reports_full_device "$image"
 case_of 'wants an output' wants_output "$image"
 case_of 'wants no third word' wants_no_third_word "$image"
+case_of 'refuses an input that is no text' refuses_words $'in\xff' out
+case_of 'refuses an output that is no text' refuses_words "$image" $'out\xff'
+case_of 'refuses a third word that is no text' refuses_words "$image" out $'\xff'
 case_of 'helps' helps
+case_of 'compacts from a pipe' compacts_from_pipe "$image" "$answer"
+if [ "$(id -u)" -ne 0 ]; then
+  case_of 'reports an input without the right to read it' reports_input_without_right "$image"
+  case_of 'reports an output without the right to write it' reports_output_without_right "$image"
+fi
+
+# Of the first the data are one block of 64 KiB, so that the limit cuts the last write short.
+make_image one_block 65508
+make_image large2 $((2 << 20))
+make_image large16 $((16 << 20))
+find_need_at_rest "$image" "$answer"
+case_of 'reports a limit on the size of files' reports_limit_on_files one_block one_block
+case_of 'compacts 2 MiB from a pipe' compacts_from_pipe large2 large2
+case_of 'reports want of memory for 2 MiB' reports_want_of_memory large2
+case_of 'reports want of memory for 16 MiB' reports_want_of_memory large16
+case_of 'compacts 2 MiB in four times their size' compacts_in_four_times_its_size large2
+case_of 'compacts 16 MiB in four times their size' compacts_in_four_times_its_size large16
 
 echo "$passed passed, $failed failed"
 [ "$failed" -eq 0 ]

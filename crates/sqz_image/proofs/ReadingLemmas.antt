@@ -140,8 +140,9 @@ module _ (file header : List ℕ) (order : Order) (sound : file_fault file ≡ N
       })
 
   -- the same of a call that may be refused memory, too
-  pub refused-memory : (fault : Fault) → (fault ≡ OutOfMemory) ⊎ IsNoMemory order (base_address header) (special_address header) (data_of order file) fault → (fault ≡ OutOfMemory) ⊎ IsUnreadable file fault
-  refused-memory fault (inl none) = inl none
+  pub refused-memory : (fault : Fault) → (fault ≡ OutOfMemory) ⊎ IsNoMemory order (base_address header) (special_address header) (data_of order file) fault
+      → ((fault ≡ OutOfMemory) × (file_fault file ≡ None)) ⊎ IsUnreadable file fault
+  refused-memory fault (inl none) = inl (none, sound)
   refused-memory fault (inr missing) = inr (IsUnreadable-memory fault missing)
 
 -- ---- the refusals 1 to 6 are these

@@ -1,11 +1,12 @@
 -- A loop of reads: what it has read so far, and how it ends.
-use Rattle.std.proofs.Common.{◌≡◌, ℕ, ◌+◌, List, ◌++◌, take, Ok, Err, Result, sym, ap, ◌∙◌, refl, inl, inr, subst}
+use Rattle.std.proofs.Common.{◌≡◌, ℕ, ◌+◌, ◌<◌, arith, List, ◌++◌, take, Ok, Err, Result, sym, ap, ◌∙◌, refl, inl, inr, subst}
 use Rattle.std.specs.Io.KnownBytes.{Consumes}
 use Rattle.std.proofs.KnownBytes.{Consumes-trans, Consumes-kept}
 use Rattle.sqz_image.specs.declared.device.DeviceFault.{DeviceFault}
 use Rattle.sqz_image.specs.declared.fault.Fault.TheVariants.{OutOfMemory, ReadFailed}
 use Rattle.sqz_image.specs.Devices.{SourceState, IsRead, one_more, turn_limit, MeetsLimit, count_after, ReadStops}
-use Rattle.sqz_image.proofs.Turns.{one_more-count_after, MeetsLimit-all}
+use Rattle.std.proofs.lemmas.Bool.{ne_eqb}
+use Rattle.sqz_image.proofs.Turns.{one_more-count_after, count_after-lt, MeetsLimit-all}
 
 -- so many reads gave these bytes, each of them some
 pub record HasRead (old now : SourceState) (file : List ℕ) (turns : ℕ) : Type 0 where
@@ -31,6 +32,17 @@ module _ (old now new : SourceState) (file piece : List ℕ) (turns : ℕ) (so_f
   ReadStops-limit (Err fault) read all = ReadStops-failed fault read
 
   -- there is no memory for what was read
-  pub ReadStops-memory : (count : ℕ) → IsRead now new piece (Ok count) → ReadStops old new OutOfMemory
-  ReadStops-memory count read =
-      ((file ++ take count piece, Consumes-trans old.left now.left new.left file (take count piece) so_far.bytes read.3), inl refl)
+  pub ReadStops-memory : (count : ℕ) → IsRead now new piece (Ok count) → 0 < count → turns + 1 < turn_limit → ReadStops old new OutOfMemory
+  ReadStops-memory count read some left =
+      let no_end : new.empty_reads ≡ now.empty_reads = read.5 ∙ rw (ne_eqb count 0 (λ e. omega arith)) refl in
+      let counted : new.reads ≡ count_after old.reads (turns + 1) = counted_more read.4 in (
+        (file ++ take count piece, Consumes-trans old.left now.left new.left file (take count piece) so_far.bytes read.3),
+        inl (
+          refl,
+          record {
+            sound = read.1;
+            below_limit = rw counted (count_after-lt old.reads (turns + 1) left);
+            no_end = no_end ∙ so_far.none_empty;
+          },
+        ),
+      )

@@ -13,10 +13,16 @@ pub record SourceState : Type 0 where
   pub empty_reads : ℕ
   pub failed : Bool
 
--- the bytes that a sink holds, where it tells them; how many writes it had; and whether it failed
+-- a source that was not read from yet, with these bytes left
+abbrev pub new_source : Option (List ℕ) → SourceState
+new_source left = record { left = left; reads = 0; empty_reads = 0; failed = false }
+
+-- the bytes that a sink holds, where it tells them; how many writes it had; whether it took bytes that no
+-- flush has passed on; and whether it failed
 pub record SinkState : Type 0 where
   pub contents : Option (List ℕ)
   pub writes : ℕ
+  pub unflushed : Bool
   pub failed : Bool
 
 -- the count after one more call: a count stays at the greatest number of 64 bits
@@ -36,15 +42,16 @@ abbrev pub IsWrite : SinkState → SinkState → List ℕ → Result ℕ DeviceF
 IsWrite old new piece (Ok count) =
     (old.failed ≡ false) × (new.failed ≡ false) × (count ≤ length piece) × (0 < length piece → 0 < count) × Appends old.contents new.contents (take count piece)
     × (new.writes ≡ one_more old.writes)
+    × (new.unflushed ≡ (if count == 0 then old.unflushed else true))
 IsWrite old new piece (Err fault) =
-    (new.failed ≡ true) × Keeps old.contents new.contents × (new.writes ≡ one_more old.writes)
+    (new.failed ≡ true) × Keeps old.contents new.contents × (new.writes ≡ one_more old.writes) × (new.unflushed ≡ old.unflushed)
 
 -- a flush, which is no write
 abbrev pub IsFlush : {T : Type 0} → SinkState → SinkState → Result T DeviceFault → Type 0
 IsFlush old new (Ok _) =
-    (old.failed ≡ false) × (new.failed ≡ false) × Keeps old.contents new.contents × (new.writes ≡ old.writes)
+    (old.failed ≡ false) × (new.failed ≡ false) × Keeps old.contents new.contents × (new.writes ≡ old.writes) × (new.unflushed ≡ false)
 IsFlush old new (Err fault) =
-    (new.failed ≡ true) × Keeps old.contents new.contents × (new.writes ≡ old.writes)
+    (new.failed ≡ true) × Keeps old.contents new.contents × (new.writes ≡ old.writes) × (new.unflushed ≡ old.unflushed)
 
 -- how many reads or writes one call of this crate makes at most
 abbrev pub turn_limit : ℕ
@@ -62,17 +69,24 @@ pub record ReadsWhole (old new : SourceState) (file : List ℕ) : Type 0 where
   pub sound : new.failed ≡ false
   pub below_limit : new.reads < old.reads + turn_limit
 
+-- the source has not failed, is below its limit, and was not yet at its end
+pub record IsUnfinished (old new : SourceState) : Type 0 where
+  pub sound : new.failed ≡ false
+  pub below_limit : new.reads < old.reads + turn_limit
+  pub no_end : new.empty_reads ≡ old.empty_reads
+
 -- why not all was read; bytes from the front of what was left may be gone
 abbrev pub ReadStops : SourceState → SourceState → Fault → Type 0
 ReadStops old new fault =
     ((file : List ℕ) × Consumes old.left new.left file)
-    × ((fault ≡ OutOfMemory) ⊎ ((fault ≡ ReadFailed) × ((new.failed ≡ true) ⊎ MeetsLimit old.reads new.reads)))
+    × (((fault ≡ OutOfMemory) × IsUnfinished old new) ⊎ ((fault ≡ ReadFailed) × ((new.failed ≡ true) ⊎ MeetsLimit old.reads new.reads)))
 
 -- the sink took these bytes and nothing else, and was flushed
 pub record WritesWhole (old new : SinkState) (bytes : List ℕ) : Type 0 where
   pub bytes_added : Appends old.contents new.contents bytes
   pub started_sound : old.failed ≡ false
   pub sound : new.failed ≡ false
+  pub flushed : new.unflushed ≡ false
   pub below_limit : new.writes < old.writes + turn_limit
 
 -- why not all was written; bytes from the front of what was to be written, perhaps all of them, went out

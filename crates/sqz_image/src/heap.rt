@@ -85,7 +85,8 @@ impl Heap {
 
     /// The address of the first data word.
     pub fn base(&self) -> u32
-        ensures { result ≡ self.now.base }
+        ensures base { result ≡ self.now.base }
+        ensures aligned { result % 4 ≡ 0 }
     {
         self.base
     }

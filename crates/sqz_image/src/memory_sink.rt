@@ -17,6 +17,7 @@ pub struct MemorySink {
     fail: Option<u64>,
     calls: u64,
     writes: u64,
+    unflushed: bool,
     failed: bool,
     ghost within: { vec_len taken ≤ room },
     ghost reserved: { room ≤ vec_capacity taken },
@@ -31,7 +32,7 @@ impl MemorySink {
     /// Fails with `OutOfMemory`.
     pub fn new(alloc: Global, room: u32, fail: Option<u64>) -> Result<Self, Fault>
         ensures starts { IfOk result (λ sink. ⟦<MemorySink as Sink>⟧.state sink
-            ≡ record { contents = Some []; writes = 0; failed = false }) }
+            ≡ record { contents = Some []; writes = 0; unflushed = false; failed = false }) }
         ensures room { IfOk result (λ sink. room_left sink ≡ room) }
         ensures fails { IfOk result (λ sink. (calls_of sink ≡ 0) × (failing_call sink ≡ fail)) }
         ensures stopped { IfErr result (λ fault. fault ≡ OutOfMemory) }
@@ -43,6 +44,7 @@ impl MemorySink {
             fail,
             calls: 0,
             writes: 0,
+            unflushed: false,
             failed: false,
         })
     }
@@ -61,6 +63,7 @@ impl MemorySink {
         ensures refused { OnErr result (self.new.failed ≡ true) }
         ensures counted { calls_of self.new ≡ one_more (calls_of self.old) }
         ensures same_writes { self.new.writes ≡ self.old.writes }
+        ensures same_unflushed { self.new.unflushed ≡ self.old.unflushed }
         ensures same_bytes { self.new.taken ≡ self.old.taken }
         ensures same_room { self.new.room ≡ self.old.room }
         ensures fails_next { failing_call self.new ≡ failing_call self.old }
@@ -78,7 +81,7 @@ impl MemorySink {
 impl Sink for MemorySink {
     ghost use Rattle.sqz_image.specs.MemoryDevices.{room_left, calls_of, failing_call};
 
-    ghost state = { λ s. record { contents = Some s.taken.items; writes = s.writes; failed = s.failed } };
+    ghost state = { λ s. record { contents = Some s.taken.items; writes = s.writes; unflushed = s.unflushed; failed = s.failed } };
 
     fn write(&mut self, from: &[u8]) -> Result<usize, DeviceFault>
         ensures written { IsWrite (⟦<MemorySink as Sink>⟧.state self.old)
@@ -99,6 +102,7 @@ impl Sink for MemorySink {
             return Err(DeviceFault);
         }
         self.taken.extend_from_slice(&from[..count]).unwrap();
+        self.unflushed = self.unflushed || count > 0;
         Ok(count)
     }
 
@@ -111,7 +115,9 @@ impl Sink for MemorySink {
         ensures counted { calls_of self.new ≡ one_more (calls_of self.old) }
         ensures fails_next { failing_call self.new ≡ failing_call self.old }
     {
-        self.begin()
+        self.begin()?;
+        self.unflushed = false;
+        Ok(())
     }
 
     fn failed(&self) -> bool {

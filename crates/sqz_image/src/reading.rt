@@ -1,8 +1,8 @@
 //! Reading an image from the bytes of its file.
 
-ghost use Rattle.std.specs.Prelude.{◌≡◌, ◌⊎◌, IfOk, IfErr};
+ghost use Rattle.std.specs.Prelude.{◌≡◌, ◌⊎◌, IfOk, IfErr, None};
 ghost use Rattle.sqz_image.specs.declared.fault.Fault.TheVariants.{OutOfMemory};
-ghost use Rattle.sqz_image.specs.Refusals.{Holds, IsUnreadable};
+ghost use Rattle.sqz_image.specs.Refusals.{file_fault, Holds, IsUnreadable};
 
 use crate::fault::Fault;
 use crate::header::{HEADER_SIZE, read_header};
@@ -15,10 +15,11 @@ use std::alloc::Global;
 ///
 /// Refused with the first fault of a file that applies: `TooShort`, `BadVersion`, `BadHeaderSize`,
 /// `BadDataSize`, `BadBase`, `Truncated`; then `ZeroSize`, `HeaderMismatch` or `Overrun` at the first
-/// chunk that cannot be read; then `BadSpecialObjects`. Else for want of memory alone.
+/// chunk that cannot be read; then `BadSpecialObjects`. Else for want of memory alone, which is never the
+/// answer where the header is at fault.
 pub fn read_image(alloc: Global, bytes: &[u8]) -> Result<Image, Fault>
     ensures image { IfOk result (λ image. Holds bytes.now image) }
-    ensures refused { IfErr result (λ fault. (fault ≡ OutOfMemory) ⊎ IsUnreadable bytes.now fault) }
+    ensures refused { IfErr result (λ fault. ((fault ≡ OutOfMemory) × (file_fault bytes.now ≡ None)) ⊎ IsUnreadable bytes.now fault) }
 {
     let header = read_header(bytes)?;
     let [_, _, data_size, base, special, ..] = header.words;

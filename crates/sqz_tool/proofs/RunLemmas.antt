@@ -1,5 +1,5 @@
 -- From the parts of a run to what it did.
-use Rattle.std.proofs.Common.{◌≡◌, ◌≢◌, ℕ, ◌*◌, ◌^◌, ◌<◌, ◌≤◌, ◌⊎◌, Bool, true, List, [], ◌∷◌, ◌++◌, length, Some, refl, sym, ap, subst, ◌∙◌, arith, inl, inr}
+use Rattle.std.proofs.Common.{◌≡◌, ◌≢◌, ℕ, ◌*◌, ◌^◌, ◌<◌, ◌≤◌, ◌⊎◌, Bool, true, List, [], ◌∷◌, ◌++◌, length, Some, None, refl, sym, ap, subst, ◌∙◌, arith, inl, inr}
 use Rattle.std.specs.List.{concat, AllByRecursion}
 use Rattle.std.proofs.lemmas.List.{append-nil}
 use Rattle.sqz_object.specs.Chunk.{IsChunk}
@@ -12,7 +12,7 @@ use Rattle.sqz_image.specs.declared.fault.Fault.TheVariants.{OutOfMemory, ReadFa
 use Rattle.sqz_image.specs.File.{renewed, file_with}
 use Rattle.sqz_image.specs.Objects.{Memory, SavedImage, find, file_bytes}
 use Rattle.sqz_image.specs.Numbers.{number_of_fault}
-use Rattle.sqz_image.specs.Refusals.{Holds, IsUnreadable, refusal_of}
+use Rattle.sqz_image.specs.Refusals.{file_fault, Holds, IsUnreadable, refusal_of}
 use Rattle.sqz_image.specs.Devices.{SourceState, SinkState, ReadsWhole, ReadStops, WritesWhole, WriteStops}
 use Rattle.sqz_image.proofs.ReadingLemmas.{file_fault_low}
 use Rattle.sqz_trace.specs.Reachability.{IsReachability}
@@ -62,13 +62,15 @@ same_summary p q r s = cc
 pub refuses_reading : (from to : SourceState) (old new : SinkState) (fault : Fault) → new ≡ old → ReadStops from to fault → Refuses from to old new fault
 refuses_reading from to old new fault untouched stops =
     elim stops.1 [
-      | inl memory ↦ subst (Refuses from to old new) (sym memory) (record { front = stops.0.0; taken = stops.0.1; untouched = untouched })
+      | inl (memory, unfinished) ↦
+          subst (Refuses from to old new) (sym memory) (record { front = stops.0.0; taken = stops.0.1; cause = inl unfinished; untouched = untouched })
       | inr (named, cause) ↦ subst (Refuses from to old new) (sym named) (record { stops = (stops.0, inr (refl, cause)); untouched = untouched })
     ]
 
-pub refuses_memory : (from to : SourceState) (old new : SinkState) (fault : Fault) (file : List ℕ) → new ≡ old → ReadsWhole from to file → fault ≡ OutOfMemory → Refuses from to old new fault
-refuses_memory from to old new fault file untouched read memory =
-    subst (Refuses from to old new) (sym memory) (record { front = file; taken = read.bytes; untouched = untouched })
+-- memory was refused once a file with a sound header was read
+refuses_memory : (from to : SourceState) (old new : SinkState) (fault : Fault) (file : List ℕ) → new ≡ old → ReadsWhole from to file → fault ≡ OutOfMemory → file_fault file ≡ None → Refuses from to old new fault
+refuses_memory from to old new fault file untouched read memory sound =
+    subst (Refuses from to old new) (sym memory) (record { front = file; taken = read.bytes; cause = inr (read, sound); untouched = untouched })
 
 -- the refusals of a file have the numbers up to 14
 unreadable-number : (file : List ℕ) (fault : Fault) → IsUnreadable file fault → number_of_fault fault ≤ 14
@@ -96,12 +98,12 @@ refuses_for : (from to : SourceState) (old new : SinkState) (fault : Fault) (fil
 refuses_for from to old new fault file untouched read refused =
     file_refuses from to old new fault (IsRefused-number file fault refused) (record { file = file; read = read; refused = refused; untouched = untouched })
 
-pub refuses_file : (from to : SourceState) (old new : SinkState) (fault : Fault) (file : List ℕ) → new ≡ old → ReadsWhole from to file → (fault ≡ OutOfMemory) ⊎ IsUnreadable file fault → Refuses from to old new fault
-refuses_file from to old new fault file untouched read (inl memory) = refuses_memory from to old new fault file untouched read memory
+pub refuses_file : (from to : SourceState) (old new : SinkState) (fault : Fault) (file : List ℕ) → new ≡ old → ReadsWhole from to file → ((fault ≡ OutOfMemory) × (file_fault file ≡ None)) ⊎ IsUnreadable file fault → Refuses from to old new fault
+refuses_file from to old new fault file untouched read (inl (memory, sound)) = refuses_memory from to old new fault file untouched read memory sound
 refuses_file from to old new fault file untouched read (inr unreadable) = refuses_for from to old new fault file untouched read (inl unreadable)
 
 pub refuses_image : (from to : SourceState) (old new : SinkState) (fault : Fault) (file : List ℕ) (image : SavedImage) → new ≡ old → ReadsWhole from to file → Holds file image → (fault ≡ OutOfMemory) ⊎ HasDefectIn image fault → Refuses from to old new fault
-refuses_image from to old new fault file image untouched read holds (inl memory) = refuses_memory from to old new fault file untouched read memory
+refuses_image from to old new fault file image untouched read holds (inl memory) = refuses_memory from to old new fault file untouched read memory holds.parts.sound
 refuses_image from to old new fault file image untouched read holds (inr defect) =
     refuses_for from to old new fault file untouched read
     (inr (record { image = image; marks = defect.marks; holds = holds; reachable = defect.reachable; defect = defect.defect }))

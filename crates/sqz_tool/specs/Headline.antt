@@ -1,12 +1,13 @@
 -- What a run does: it writes exactly the compaction of what it read, or says why not.
-use Rattle.std.specs.Prelude.{◌≡◌, ℕ, ◌*◌, ◌^◌, ◌<◌, Bool, List, length, Some, None}
+use Rattle.std.specs.Prelude.{◌≡◌, ◌⊎◌, ℕ, ◌*◌, ◌^◌, ◌<◌, Bool, List, length, Some, None}
 use Rattle.std.specs.List.{concat}
 use Rattle.std.specs.Io.KnownBytes.{Consumes}
 use Rattle.sqz_image.specs.declared.fault.Fault.{Fault}
 use Rattle.sqz_image.specs.declared.fault.Fault.TheVariants.{OutOfMemory, ReadFailed, WriteFailed}
 use Rattle.sqz_image.specs.File.{data_size, file_with}
 use Rattle.sqz_image.specs.Objects.{SavedImage, object_count, file_bytes}
-use Rattle.sqz_image.specs.Devices.{SourceState, SinkState, ReadsWhole, ReadStops, WritesWhole, WriteStops}
+use Rattle.sqz_image.specs.Refusals.{file_fault}
+use Rattle.sqz_image.specs.Devices.{SourceState, SinkState, ReadsWhole, IsUnfinished, ReadStops, WritesWhole, WriteStops}
 use Rattle.sqz_trace.specs.Reachability.{IsReachability}
 use Rattle.sqz_trace.specs.Live.{live}
 use Rattle.sqz_trace.specs.Defects.{first_defect}
@@ -58,10 +59,12 @@ pub record RefusesFile (fault : Fault) (from to : SourceState) (old new : SinkSt
   pub refused : IsRefused file fault
   pub untouched : new ≡ old
 
--- memory was refused: bytes from the front of what was left may be gone, and the sink is as it was
+-- memory was refused while the source was read, which has not failed and was not yet at its end, or once it had
+-- given a file with a sound header; bytes from the front of what was left may be gone, and the sink is as it was
 pub record IsOutOfMemory (from to : SourceState) (old new : SinkState) : Type 0 where
   pub front : List ℕ
   pub taken : Consumes from.left to.left front
+  pub cause : IsUnfinished from to ⊎ (ReadsWhole from to front × (file_fault front ≡ None))
   pub untouched : new ≡ old
 
 -- the source stopped before the end, and the sink is as it was

@@ -1,21 +1,19 @@
 //! The program.
 
-ghost use Rattle.std.specs.Prelude.{◌≡◌, ◌≢◌, ◌<◌, ◌≤◌, [], map, string_bytes, IfErr, IsOk, MatchResult};
+ghost use Rattle.std.specs.Prelude.{◌≡◌, ◌≢◌, ◌<◌, ◌≤◌, [], map, string_bytes, IsOk, MatchResult};
 ghost use Rattle.clap.specs.Words.{fault_of, kind_of};
 ghost use Rattle.sqz_tool.specs.CommandLine.{command_line};
 ghost use Rattle.sqz_tool.specs.Exits.{IsExitBy, exit_of, exit_of_kind};
 
-use crate::arguments::{Arguments, read_arguments};
+use crate::arguments::read_arguments;
+use crate::compact_files::compact;
 use crate::exits::{BAD_ARGUMENTS, DONE, exit_of};
-use crate::output_file::OutputFile;
 use crate::printing::print;
-use crate::running::run;
 use crate::summary::Summary;
 use clap::Error;
 use clap::error::ErrorKind;
-use sqz_image::{Fault, ReadSource, Sink};
+use sqz_image::{Fault, Sink};
 use std::alloc::Global;
-use std::fs::File;
 use std::rt::Files;
 use std::thread::Threads;
 
@@ -45,26 +43,6 @@ pub fn program<T: Files + Threads + Sync, C: Sink, E: Sink>(
         Ok(arguments) => finish(compact(rt, alloc, arguments), err),
         Err(error) => explain(&error, out, err),
     }
-}
-
-/// Compacts the image in one file into another.
-///
-/// Fails as `run` does, with `ReadFailed` also where the image cannot be opened, and with
-/// `WriteFailed` also where the other file cannot be made. Unless it fails with `WriteFailed`, that
-/// file is then as it was.
-fn compact<T: Files + Threads + Sync>(
-    rt: &T,
-    alloc: Global,
-    arguments: Arguments<'_>,
-) -> Result<Summary, Fault>
-    ensures { IfErr result (λ fault. exit_of fault ≢ 2) }
-{
-    let Ok(file) = File::open(rt, arguments.input) else {
-        return Err(Fault::ReadFailed);
-    };
-    let mut source = ReadSource::new(file);
-    let mut sink = OutputFile::new(rt, arguments.output);
-    run(rt, alloc, &mut source, &mut sink)
 }
 
 /// Prints the line of the fault that stopped a run, if one did, and answers what the program is to end

@@ -4,6 +4,7 @@
 
 mod arguments;
 mod command;
+mod compact_files;
 mod compaction;
 mod exits;
 pub mod laws;
@@ -13,7 +14,9 @@ mod printing;
 mod running;
 mod sliding;
 mod summary;
+mod wrong_words;
 
 pub use command::{program, refuse};
 pub use running::run;
 pub use summary::Summary;
+pub use wrong_words::refuse_words;

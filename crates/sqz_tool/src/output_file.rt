@@ -1,7 +1,9 @@
 //! The file that is written.
 
-ghost use Rattle.std.specs.Prelude.{◌≡◌, ◌<◌, ◌≤◌, None, false, length, IfOk};
+ghost use Rattle.std.specs.Prelude.{◌≡◌, ◌<◌, ◌≤◌, None, false, length, IfOk, OnOk, OnErr};
+ghost use Rattle.std.specs.Io.KnownBytes.{Keeps, WriteAppends};
 ghost use Rattle.sqz_image.specs.Devices.{SinkState};
+ghost use Rattle.sqz_tool.specs.OutputFiles.{known_bytes};
 
 use sqz_image::{DeviceFault, Sink};
 use std::fs::File;
@@ -16,6 +18,7 @@ pub(crate) struct OutputFile<'a, T: Files> {
     path: &'a str,
     file: Option<T::File>,
     writes: u64,
+    unflushed: bool,
     failed: bool,
     ghost made_by_write: { writes ≡ 0 → file ≡ None },
 }
@@ -24,13 +27,14 @@ impl<'a, T: Files> OutputFile<'a, T> {
     /// The file with this path, which is not made yet.
     pub(crate) fn new(rt: &'a T, path: &'a str) -> Self
         ensures { ⟦<OutputFile<'a, T> as Sink>⟧.state result
-            ≡ record { contents = None; writes = 0; failed = false } }
+            ≡ record { contents = None; writes = 0; unflushed = false; failed = false } }
     {
         OutputFile {
             rt,
             path,
             file: None,
             writes: 0,
+            unflushed: false,
             failed: false,
         }
     }
@@ -40,7 +44,9 @@ impl<'a, T: Files> OutputFile<'a, T> {
         requires { 0 < self.old.writes }
         ensures count { IfOk result (λ count. count ≤ length from.now) }
         ensures same_writes { self.new.writes ≡ self.old.writes }
+        ensures same_unflushed { self.new.unflushed ≡ self.old.unflushed }
         ensures same_state { self.new.failed ≡ self.old.failed }
+        ensures bytes { WriteAppends (known_bytes T.File.contents self.old.file) (known_bytes T.File.contents self.new.file) result from.now }
     {
         if self.file.is_none() {
             self.file = Some(File::create(self.rt, self.path)?);
@@ -50,10 +56,25 @@ impl<'a, T: Files> OutputFile<'a, T> {
             None => unreachable!(),
         }
     }
+
+    /// Passes on what the file took, if it was made.
+    fn flush_file(&mut self) -> io::Result<()>
+        ensures flushed { OnOk result (self.new.unflushed ≡ false) }
+        ensures left { OnErr result (self.new.unflushed ≡ self.old.unflushed) }
+        ensures same_writes { self.new.writes ≡ self.old.writes }
+        ensures same_state { self.new.failed ≡ self.old.failed }
+        ensures same_bytes { Keeps (known_bytes T.File.contents self.old.file) (known_bytes T.File.contents self.new.file) }
+    {
+        if let Some(file) = &mut self.file {
+            file.flush()?;
+        }
+        self.unflushed = false;
+        Ok(())
+    }
 }
 
 impl<T: Files> Sink for OutputFile<'_, T> {
-    ghost state = { λ s. record { contents = None; writes = s.writes; failed = s.failed } };
+    ghost state = { λ s. record { contents = known_bytes T.File.contents s.file; writes = s.writes; unflushed = s.unflushed; failed = s.failed } };
 
     fn write(&mut self, from: &[u8]) -> Result<usize, DeviceFault> {
         self.writes = self.writes.saturating_add(1);
@@ -61,7 +82,10 @@ impl<T: Files> Sink for OutputFile<'_, T> {
             return Err(DeviceFault);
         }
         match self.write_to_file(from) {
-            Ok(count) if count > 0 || from.is_empty() => Ok(count),
+            Ok(count) if count > 0 || from.is_empty() => {
+                self.unflushed = self.unflushed || count > 0;
+                Ok(count)
+            }
             _ => {
                 self.failed = true;
                 Err(DeviceFault)
@@ -73,14 +97,13 @@ impl<T: Files> Sink for OutputFile<'_, T> {
         if self.failed {
             return Err(DeviceFault);
         }
-        let Some(file) = &mut self.file else {
-            return Ok(());
-        };
-        if file.flush().is_err() {
-            self.failed = true;
-            return Err(DeviceFault);
+        match self.flush_file() {
+            Ok(()) => Ok(()),
+            Err(_) => {
+                self.failed = true;
+                Err(DeviceFault)
+            }
         }
-        Ok(())
     }
 
     fn failed(&self) -> bool {

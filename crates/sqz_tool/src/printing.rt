@@ -11,7 +11,16 @@ struct TextSink<'a, W> {
 }
 
 impl<W: Sink> fmt::Write for TextSink<'_, W> {
-    fn write_str(&mut self, text: &str) -> fmt::Result {
+    ghost use Rattle.std.specs.Prelude.{IsOk, IsErr};
+    ghost use Rattle.sqz_image.specs.declared.fault.Fault.TheVariants.{WriteFailed};
+    ghost use Rattle.sqz_image.specs.Devices.{WritesWhole, WriteStops};
+
+    ghost write_str_gives = { λ old text new. WritesWhole (W.state old.sink.now) (W.state new.sink.now) text };
+
+    fn write_str(&mut self, text: &str) -> fmt::Result
+        ensures ok { IsOk result → WritesWhole (W.state self.old.sink.now) (W.state self.new.sink.now) text.now }
+        ensures stopped { IsErr result → WriteStops (W.state self.old.sink.now) (W.state self.new.sink.now) text.now WriteFailed }
+    {
         write_all(self.sink, text.as_bytes()).map_err(|_| fmt::Error)
     }
 }

@@ -2,19 +2,16 @@
 #![tactic(auto)]
 
 use sqz_image::{Fault, WriteSink};
-use sqz_tool::{program, refuse};
-use std::alloc::AllocError;
-use std::env;
+use sqz_tool::{program, refuse, refuse_words};
 use std::io::ErrorKind;
 use std::process::ExitCode;
+use std::{env, io};
 
-/// The words of the command line, or none where one of them is no text.
-fn words(rt: &HostRuntime) -> Result<Vec<String>, AllocError> {
-    match env::args(rt) {
-        Ok(words) => words.collect(rt.alloc()),
-        Err(error) if error.kind() == ErrorKind::OutOfMemory => Err(AllocError),
-        Err(_) => Ok(Vec::new(rt.alloc())),
-    }
+/// The words of the command line.
+///
+/// Fails with `OutOfMemory` for want of memory, and else where a word is no text.
+fn words(rt: &HostRuntime) -> io::Result<Vec<String>> {
+    Ok(env::args(rt)?.collect(rt.alloc())?)
 }
 
 fn main(rt: HostRuntime) -> ExitCode {
@@ -22,7 +19,10 @@ fn main(rt: HostRuntime) -> ExitCode {
     let mut err = WriteSink::new(rt.stderr());
     let exit = match words(&rt) {
         Ok(words) => program(&rt, rt.alloc(), &words, &mut out, &mut err),
-        Err(_) => refuse(&Fault::OutOfMemory, &mut err),
+        Err(error) if error.kind() == ErrorKind::OutOfMemory => {
+            refuse(&Fault::OutOfMemory, &mut err)
+        }
+        Err(_) => refuse_words(&mut err),
     };
     ExitCode::from(exit)
 }

@@ -1,7 +1,7 @@
-//! The line of each fault, and the exit that goes with it.
+//! The line of each fault, and that of words that are no text, and the exit that goes with it.
 
 use sqz_image::{Fault, MemorySink, Slot};
-use sqz_tool::refuse;
+use sqz_tool::{refuse, refuse_words};
 use std::test::Fail;
 
 #[test]
@@ -92,5 +92,16 @@ fn lines_of_faults(rt: HostRuntime) -> Result<(), Fail> {
         assert_eq!(rt; refuse(fault, &mut err), *exit, "at {line}");
         assert_eq!(rt; err.contents(), line.as_bytes());
     }
+    Ok(())
+}
+
+#[test]
+fn line_of_words_that_are_no_text(rt: HostRuntime) -> Result<(), Fail> {
+    let mut err = MemorySink::new(rt.alloc(), 100, None)?;
+    assert_eq!(rt; refuse_words(&mut err), 2);
+    assert_eq!(rt;
+        err.contents(),
+        b"error: an argument is not valid text\n".as_slice()
+    );
     Ok(())
 }

@@ -4,6 +4,7 @@ use super::files::file_of;
 use sqz_image::MemorySink;
 use sqz_object::Order;
 use sqz_tool::program;
+use std::alloc::Global;
 use std::fs::File;
 use std::io::{Read, Write};
 use std::process::Abort;
@@ -13,25 +14,26 @@ use std::thread::Threads;
 
 /// What the program ended with and printed.
 #[derive(Drop)]
-struct Ended {
-    exit: u8,
-    out: MemorySink,
-    err: MemorySink,
+pub struct Ended {
+    pub exit: u8,
+    pub out: MemorySink,
+    pub err: MemorySink,
 }
 
 /// Runs the program with these words after its name.
-fn run_program<R: Threads + Sync + Abort + AllocGlobal + Files>(
+pub fn run_program<R: Threads + Sync + Files>(
     rt: &R,
+    alloc: Global,
     words: &[&str],
 ) -> Result<Ended, Fail> {
-    let mut line = Vec::new(rt.alloc());
-    line.push(String::from_str(rt.alloc(), "sqzcompact")?)?;
+    let mut line = Vec::new(alloc);
+    line.push(String::from_str(alloc, "sqzcompact")?)?;
     for word in words {
-        line.push(String::from_str(rt.alloc(), word)?)?;
+        line.push(String::from_str(alloc, word)?)?;
     }
-    let mut out = MemorySink::new(rt.alloc(), 4096, None)?;
-    let mut err = MemorySink::new(rt.alloc(), 4096, None)?;
-    let exit = program(rt, rt.alloc(), &line, &mut out, &mut err);
+    let mut out = MemorySink::new(alloc, 4096, None)?;
+    let mut err = MemorySink::new(alloc, 4096, None)?;
+    let exit = program(rt, alloc, &line, &mut out, &mut err);
     Ok(Ended { exit, out, err })
 }
 
@@ -42,7 +44,7 @@ fn assert_faults<R: Threads + Sync + Abort + AllocGlobal + Files>(
     exit: u8,
     line: &str,
 ) -> Result<(), Fail> {
-    let ended = run_program(rt, words)?;
+    let ended = run_program(rt, rt.alloc(), words)?;
     assert_eq!(rt; ended.exit, exit);
     assert_eq!(rt; ended.err.contents(), line.as_bytes());
     assert!(rt; ended.out.contents().is_empty());
@@ -50,7 +52,7 @@ fn assert_faults<R: Threads + Sync + Abort + AllocGlobal + Files>(
 }
 
 /// The words of an image of three objects, of which one is dead.
-const WHOLE: [u32; 6] = [0x1007, 0x320F, 1, 1, 0x320B, 0x1000];
+pub const WHOLE: [u32; 6] = [0x1007, 0x320F, 1, 1, 0x320B, 0x1000];
 
 /// Makes a file with the image of three objects.
 fn make_image<R: AllocGlobal + Files>(rt: &R, path: &str) -> Result<(), Fail> {
@@ -72,7 +74,7 @@ fn assert_compacted<R: Abort + AllocGlobal + Files>(rt: &R, path: &str) -> Resul
 #[test]
 fn compacts_into_another_file(rt: HostRuntime) -> Result<(), Fail> {
     make_image(&rt, "whole.image")?;
-    let ended = run_program(&rt, &["whole.image", "compacted.image"])?;
+    let ended = run_program(&rt, rt.alloc(), &["whole.image", "compacted.image"])?;
     assert_eq!(rt; ended.exit, 0);
     assert!(rt; ended.out.contents().is_empty() && ended.err.contents().is_empty());
     assert_compacted(&rt, "compacted.image")
@@ -81,7 +83,7 @@ fn compacts_into_another_file(rt: HostRuntime) -> Result<(), Fail> {
 #[test]
 fn compacts_in_place(rt: HostRuntime) -> Result<(), Fail> {
     make_image(&rt, "both.image")?;
-    let ended = run_program(&rt, &["both.image", "both.image"])?;
+    let ended = run_program(&rt, rt.alloc(), &["both.image", "both.image"])?;
     assert_eq!(rt; ended.exit, 0);
     assert_compacted(&rt, "both.image")
 }
@@ -148,7 +150,7 @@ fn wants_two_paths(rt: HostRuntime) -> Result<(), Fail> {
         &["--other", "whole.image", "never.image"],
     ];
     for words in some {
-        let ended = run_program(&rt, words)?;
+        let ended = run_program(&rt, rt.alloc(), words)?;
         assert_eq!(rt; ended.exit, 2, "at {words:?}");
         assert!(rt; ended.out.contents().is_empty(), "at {words:?}");
         assert!(rt; !ended.err.contents().is_empty(), "at {words:?}");
@@ -158,7 +160,7 @@ fn wants_two_paths(rt: HostRuntime) -> Result<(), Fail> {
 
 #[test]
 fn helps(rt: HostRuntime) -> Result<(), Fail> {
-    let ended = run_program(&rt, &["--help"])?;
+    let ended = run_program(&rt, rt.alloc(), &["--help"])?;
     assert_eq!(rt; ended.exit, 0);
     assert!(rt; !ended.out.contents().is_empty() && ended.err.contents().is_empty());
     Ok(())

@@ -1,0 +1,119 @@
+//! An open file of a test's file system.
+
+ghost use Rattle.std.specs.Prelude.{IsErr};
+
+use super::test_files::{Disk, Written};
+use std::fs::{Metadata, OpenFile};
+use std::io;
+use std::io::{Error, ErrorKind, Read, Seek, SeekFrom, Write};
+use std::sync::MutexGuard;
+
+/// IN, with the bytes that it has left, or OUT.
+#[derive(Drop)]
+pub enum TestFile<'a> {
+    Input { disk: &'a Disk<'a>, left: &'a [u8] },
+    Output { disk: &'a Disk<'a> },
+}
+
+/// What is answered for each thing that the two files do not do.
+pub fn refuse<T>() -> io::Result<T>
+    ensures { IsErr result }
+{
+    Err(Error::from(ErrorKind::Unsupported))
+}
+
+/// What was done to OUT, to be read or changed.
+fn written<'a>(disk: &'a Disk<'_>) -> io::Result<MutexGuard<'a, Written>> {
+    disk.output
+        .try_lock()
+        .ok_or(Error::from(ErrorKind::WouldBlock))
+}
+
+impl<'a> TestFile<'a> {
+    /// IN, of which nothing was read yet.
+    pub fn open_input(disk: &'a Disk<'a>) -> Self {
+        TestFile::Input {
+            disk,
+            left: disk.input,
+        }
+    }
+
+    /// OUT, made or emptied.
+    pub fn make_output(disk: &'a Disk<'a>) -> io::Result<Self> {
+        if !disk.behavior.makes {
+            return Err(Error::from(ErrorKind::PermissionDenied));
+        }
+        let mut output = written(disk)?;
+        output.made = true;
+        output.bytes.clear();
+        Ok(TestFile::Output { disk })
+    }
+}
+
+impl Read for TestFile<'_> {
+    fn read(&mut self, into: &mut [u8]) -> io::Result<usize> {
+        let TestFile::Input { disk, left } = self else {
+            return refuse();
+        };
+        if left.is_empty() && disk.behavior.read_fails {
+            return Err(Error::from(ErrorKind::Other));
+        }
+        let count = left.len().min(into.len()).min(disk.behavior.piece);
+        let (front, rest) = left.split_at(count);
+        into[..count].copy_from_slice(front);
+        *left = rest;
+        Ok(count)
+    }
+}
+
+impl Write for TestFile<'_> {
+    fn write(&mut self, from: &[u8]) -> io::Result<usize> {
+        let TestFile::Output { disk } = self else {
+            return refuse();
+        };
+        let mut output = written(disk)?;
+        let room = disk.behavior.room.saturating_sub(output.bytes.len());
+        if room == 0 && !from.is_empty() {
+            return Err(Error::from(ErrorKind::StorageFull));
+        }
+        let count = from.len().min(room).min(disk.behavior.piece);
+        output.bytes.extend_from_slice(&from[..count])?;
+        output.flushed = false;
+        Ok(count)
+    }
+
+    fn flush(&mut self) -> io::Result<()> {
+        let TestFile::Output { disk } = self else {
+            return refuse();
+        };
+        if disk.behavior.flush_fails {
+            return Err(Error::from(ErrorKind::Other));
+        }
+        written(disk)?.flushed = true;
+        Ok(())
+    }
+}
+
+impl Seek for TestFile<'_> {
+    fn seek(&mut self, _to: SeekFrom) -> io::Result<u64> {
+        refuse()
+    }
+}
+
+impl OpenFile for TestFile<'_> {
+    fn metadata(&self) -> io::Result<Metadata> {
+        refuse()
+    }
+
+    fn set_len(&self, _size: u64) -> io::Result<()> {
+        refuse()
+    }
+
+    fn sync_all(&self) -> io::Result<()> {
+        refuse()
+    }
+
+    fn sync_data(&self) -> io::Result<()> {
+        refuse()
+    }
+}
