@@ -87,6 +87,7 @@ impl Heap {
     pub fn base(&self) -> u32
         ensures base { result ≡ self.now.base }
         ensures aligned { result % 4 ≡ 0 }
+        ensures within { result + 4 * length (concat self.now.chunks) ≤ 2 ^ 32 }
     {
         self.base
     }
@@ -104,6 +105,7 @@ impl Heap {
     pub fn len(&self) -> u32
         ensures objects { result ≡ object_count self.now }
         ensures few { result < 2 ^ 30 }
+        ensures few_words { length (concat self.now.chunks) < 2 ^ 30 }
     {
         self.firsts.len() as u32
     }

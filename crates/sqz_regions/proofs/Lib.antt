@@ -1,2 +1,8 @@
 pub mod MarkedLemmas
 pub mod PlaceLemmas
+pub mod CountLemmas
+pub mod CutLemmas
+pub mod RegionLemmas
+pub mod RisingLemmas
+pub mod SumLemmas
+pub mod EntryLemmas

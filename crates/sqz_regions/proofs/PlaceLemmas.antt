@@ -12,15 +12,15 @@ use Rattle.sqz_regions.proofs.MarkedLemmas.{marked_more_yes, marked_more_no, mar
 abbrev no_object : Object
 no_object = record { first = 0; chunk = [] }
 
-abbrev size : Object → ℕ
+abbrev pub size : Object → ℕ
 size object = length object.chunk
 
 -- one object and the others
-words_in-cons : (object : Object) (objects : List Object) → words_in (object ∷ objects) ≡ length object.chunk + words_in objects
+pub words_in-cons : (object : Object) (objects : List Object) → words_in (object ∷ objects) ≡ length object.chunk + words_in objects
 words_in-cons object objects = sum_by-cons size object objects
 
 -- objects behind more words have as many words
-words_in-moved_on : (count : ℕ) (objects : List Object) → words_in (map (moved_on count) objects) ≡ words_in objects
+pub words_in-moved_on : (count : ℕ) (objects : List Object) → words_in (map (moved_on count) objects) ≡ words_in objects
 words_in-moved_on count [] = refl
 words_in-moved_on count (object ∷ objects) =
     omega (arith, words_in-cons (moved_on count object) (map (moved_on count) objects), words_in-cons object objects, words_in-moved_on count objects)

@@ -1,5 +1,5 @@
 -- From the parts of a run to what it did.
-use Rattle.std.proofs.Common.{◌≡◌, ◌≢◌, ℕ, ◌*◌, ◌^◌, ◌<◌, ◌≤◌, ◌⊎◌, Bool, true, List, [], ◌∷◌, ◌++◌, length, Some, None, refl, sym, ap, subst, ◌∙◌, arith, inl, inr}
+use Rattle.std.proofs.Common.{◌≡◌, ◌≢◌, ℕ, ◌*◌, ◌^◌, ◌<◌, ◌≤◌, ◌⊎◌, Bool, true, List, [], ◌∷◌, ◌++◌, length, slice_index_or, Option, Some, None, refl, sym, ap, subst, ◌∙◌, arith, inl, inr}
 use Rattle.std.specs.List.{concat, AllByRecursion}
 use Rattle.std.proofs.lemmas.List.{append-nil}
 use Rattle.sqz_object.specs.Chunk.{IsChunk}
@@ -10,7 +10,7 @@ use Rattle.sqz_object.specs.declared.chunk.ChunkFault.TheVariants.{ZeroSize, Hea
 use Rattle.sqz_image.specs.declared.fault.Fault.{Fault}
 use Rattle.sqz_image.specs.declared.fault.Fault.TheVariants.{OutOfMemory, ReadFailed, WriteFailed, BadWorkers, BadCut}
 use Rattle.sqz_image.specs.File.{renewed, file_with}
-use Rattle.sqz_image.specs.Objects.{Memory, SavedImage, find, file_bytes}
+use Rattle.sqz_image.specs.Objects.{Memory, SavedImage, object_count, find, file_bytes}
 use Rattle.sqz_image.specs.Numbers.{number_of_fault}
 use Rattle.sqz_image.specs.Refusals.{file_fault, Holds, IsUnreadable, refusal_of}
 use Rattle.sqz_image.specs.Devices.{SourceState, SinkState, ReadsWhole, ReadStops, WritesWhole, WriteStops}
@@ -19,6 +19,7 @@ use Rattle.sqz_trace.specs.Reachability.{IsReachability}
 use Rattle.sqz_trace.specs.Graph.{is_marked}
 use Rattle.sqz_trace.proofs.DefectLemmas.{first_defect-number}
 use Rattle.sqz_regions.specs.Places.{place, live_words}
+use Rattle.sqz_regions.specs.Bases.{ArePlacesOf}
 use Rattle.sqz_slide.specs.Moved.{new_address, moved_objects}
 use Rattle.sqz_slide.proofs.LengthLemmas.{length-moved_objects}
 use Rattle.sqz_tool.specs.declared.summary.Summary.{Summary}
@@ -37,6 +38,12 @@ special_is_marked memory marks special_object reachable found =
 new_special-place : (memory : Memory) (marks : List Bool) (special_object : ℕ) → IsReachability memory marks → find memory memory.special ≡ Some special_object → new_special memory marks ≡ place memory marks special_object
 new_special-place memory marks special_object reachable found =
     ap (new_address memory marks memory.special) found ∙ rw (special_is_marked memory marks special_object reachable found) refl
+
+-- and that is what a list of places has for it
+pub place_of_special : (memory : Memory) (marks : List Bool) (places : List (Option ℕ)) (special_object : ℕ) → ArePlacesOf memory marks places → IsReachability memory marks
+    → find memory memory.special ≡ Some special_object → special_object < object_count memory → slice_index_or places special_object None ≡ Some (place memory marks special_object)
+place_of_special memory marks places special_object are reachable found inside =
+    are.each special_object inside ∙ rw (special_is_marked memory marks special_object reachable found) refl
 
 -- the one piece is what the definition writes
 pub bytes_are : (image : SavedImage) (marks : List Bool) (special special_object : ℕ) (words : List ℕ) → AllByRecursion IsChunk image.memory.chunks

@@ -1,4 +1,3 @@
-pub mod Sliding
 pub mod Compacted
 pub mod Verdict
 pub mod Headline

@@ -8,6 +8,7 @@ ghost use Rattle.sqz_tool.specs.Exits.{IsExitBy, exit_of, exit_of_kind};
 use crate::arguments::read_arguments;
 use crate::compact_files::compact;
 use crate::exits::{BAD_ARGUMENTS, DONE, exit_of};
+use crate::plan::Plan;
 use crate::printing::print;
 use crate::summary::Summary;
 use clap::Error;
@@ -40,7 +41,10 @@ pub fn program<T: Files + Threads + Sync, C: Sink, E: Sink>(
     ensures quiet { 0 < result → out.new ≡ out.old }
 {
     match read_arguments(alloc, words) {
-        Ok(arguments) => finish(compact(rt, alloc, arguments), err),
+        Ok(arguments) => {
+            let plan = Plan::of_program();
+            finish(compact(rt, alloc, &plan, arguments), err)
+        }
         Err(error) => explain(&error, out, err),
     }
 }

@@ -7,6 +7,7 @@ ghost use Rattle.sqz_tool.specs.Headline.{Compacts, Refuses};
 
 use crate::arguments::Arguments;
 use crate::output_file::OutputFile;
+use crate::plan::Plan;
 use crate::running::run;
 use crate::summary::Summary;
 use sqz_image::{Fault, ReadSource, Sink};
@@ -24,6 +25,7 @@ use std::thread::Threads;
 pub(crate) fn compact<T: Files + Threads + Sync>(
     rt: &T,
     alloc: Global,
+    plan: &Plan,
     arguments: Arguments<'_>,
 ) -> Result<Summary, Fault>
     ensures { IfErr result (λ fault. exit_of fault ≢ 2) }
@@ -32,13 +34,14 @@ pub(crate) fn compact<T: Files + Threads + Sync>(
         return Err(Fault::ReadFailed);
     };
     let mut sink = OutputFile::new(rt, arguments.output);
-    compact_from(rt, alloc, file, &mut sink)
+    compact_from(rt, alloc, plan, file, &mut sink)
 }
 
 /// A run over all that a reader has left. Fails as `run` does.
 fn compact_from<T: Threads + Sync, R: Read + Drop, W: Sink>(
     rt: &T,
     alloc: Global,
+    plan: &Plan,
     reader: R,
     sink: &mut W,
 ) -> Result<Summary, Fault>
@@ -48,5 +51,5 @@ fn compact_from<T: Threads + Sync, R: Read + Drop, W: Sink>(
         × Refuses (new_source (R.remaining reader)) to (W.state sink.old) (W.state sink.new) fault) }
 {
     let mut source = ReadSource::new(reader);
-    run(rt, alloc, &mut source, sink)
+    run(rt, alloc, plan, &mut source, sink)
 }

@@ -1,15 +1,16 @@
 //! What is written of an image: its live objects in their new places.
 
-ghost use Rattle.std.specs.Prelude.{◌≡◌, ◌⊎◌, map, IfOk, IfErr};
+ghost use Rattle.std.specs.Prelude.{◌≡◌, ◌⊎◌, ◌^◌, ◌<◌, map, sum, IfOk, IfErr};
 ghost use Rattle.std.specs.List.{AllByRecursion};
 ghost use Rattle.sqz_object.specs.Chunk.{IsChunk};
 ghost use Rattle.sqz_image.specs.declared.fault.Fault.TheVariants.{OutOfMemory};
 ghost use Rattle.sqz_tool.specs.Headline.{IsCompaction, HasDefectIn};
 
-use crate::placing::places;
+use crate::plan::Plan;
 use crate::sliding::slide;
 use crate::summary::Summary;
 use sqz_image::{Fault, Image};
+use sqz_regions::{Forward, Regions, bases, live_words};
 use sqz_trace::{first_defect, mark_plain};
 use std::alloc::Global;
 use std::thread::Threads;
@@ -29,6 +30,7 @@ pub(crate) struct Compaction {
 pub(crate) fn compaction_of(
     rt: &(impl Threads + Sync),
     alloc: Global,
+    plan: &Plan,
     image: &Image,
 ) -> Result<Compaction, Fault>
     requires { AllByRecursion IsChunk image.now.memory.chunks }
@@ -40,14 +42,18 @@ pub(crate) fn compaction_of(
     if let Some(fault) = first_defect(rt, heap, &marks) {
         return Err(fault);
     }
-    let placing = places(alloc, heap, &marks)?;
-    let words = slide(alloc, heap, &marks, &placing)?;
-    let special = placing.addresses[heap.special() as usize];
+    let regions = Regions::of(alloc, heap, &plan.cut)?;
+    let sums = live_words(alloc, heap, &regions, &marks)?;
+    let bases = bases(alloc, heap.base(), &sums)?;
+    let forward = Forward::build(rt, alloc, heap, &regions, &marks, &bases)?;
+    let live = total(&sums);
+    let words = slide(alloc, heap, &marks, &forward, live)?;
+    let special = forward.place(heap.special()).unwrap();
     let summary = Summary {
         objects: heap.len(),
         kept: marks.count(),
         data_before: image.header(2),
-        data_after: 4 * placing.words,
+        data_after: 4 * live,
     };
     let pieces = vec![in alloc; words]?;
     Ok(Compaction {
@@ -55,4 +61,12 @@ pub(crate) fn compaction_of(
         pieces,
         summary,
     })
+}
+
+/// The sum of numbers.
+fn total(numbers: &[u32]) -> u32
+    requires { sum numbers.now < 2 ^ 32 }
+    ensures { result ≡ sum numbers.now }
+{
+    numbers.iter().sum()
 }

@@ -9,7 +9,7 @@ mod compaction;
 mod exits;
 pub mod laws;
 mod output_file;
-mod placing;
+mod plan;
 mod printing;
 mod running;
 mod sliding;
@@ -17,6 +17,7 @@ mod summary;
 mod wrong_words;
 
 pub use command::{program, refuse};
+pub use plan::Plan;
 pub use running::run;
 pub use summary::Summary;
 pub use wrong_words::refuse_words;

@@ -4,6 +4,7 @@ ghost use Rattle.std.specs.Prelude.{IfOk, IfErr};
 ghost use Rattle.sqz_tool.specs.Headline.{Compacts, Refuses};
 
 use crate::compaction::compaction_of;
+use crate::plan::Plan;
 use crate::summary::Summary;
 use sqz_image::{Fault, Sink, Source, read_all, read_image, write_image};
 use std::alloc::Global;
@@ -20,6 +21,7 @@ use std::thread::Threads;
 pub fn run<T: Threads + Sync, R: Source, W: Sink>(
     rt: &T,
     alloc: Global,
+    plan: &Plan,
     source: &mut R,
     sink: &mut W,
 ) -> Result<Summary, Fault>
@@ -31,7 +33,7 @@ pub fn run<T: Threads + Sync, R: Source, W: Sink>(
     let bytes = read_all(alloc, source)?;
     let image = read_image(alloc, &bytes)?;
     drop(bytes);
-    let compaction = compaction_of(rt, alloc, &image)?;
+    let compaction = compaction_of(rt, alloc, plan, &image)?;
     write_image(&image, compaction.special, &compaction.pieces, sink)?;
     Ok(compaction.summary)
 }

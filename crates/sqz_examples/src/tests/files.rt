@@ -2,9 +2,10 @@
 
 ghost use Rattle.std.specs.Prelude.{◌<◌, length};
 
-use sqz_image::{Fault, MemorySink, MemorySource};
+use sqz_image::{Fault, Image, MemorySink, MemorySource, read_image};
 use sqz_object::{Order, put_word};
-use sqz_tool::{Summary, run};
+use sqz_regions::Cut;
+use sqz_tool::{Plan, Summary, run};
 use std::alloc::{AllocError, Global};
 use std::process::Abort;
 use std::test::Fail;
@@ -41,12 +42,36 @@ pub struct Outcome {
     pub sink: MemorySink,
 }
 
-/// A run over a file, with room for all it may write.
-pub fn run_over<R: Threads + Sync>(rt: &R, alloc: Global, file: Vec<u8>) -> Result<Outcome, Fail> {
+/// A plan with a region every so many words.
+pub fn plan_of(words: u32) -> Result<Plan, Fault> {
+    let cut = Cut::every(words)?;
+    Ok(Plan { cut })
+}
+
+/// A run over a file by a plan, with room for all it may write.
+pub fn run_by_plan<R: Threads + Sync>(
+    rt: &R,
+    alloc: Global,
+    plan: &Plan,
+    file: Vec<u8>,
+) -> Result<Outcome, Fail> {
     let mut source = MemorySource::new(file, 100, None);
     let mut sink = MemorySink::new(alloc, 4096, None)?;
-    let answer = run(rt, alloc, &mut source, &mut sink);
+    let answer = run(rt, alloc, plan, &mut source, &mut sink);
     Ok(Outcome { answer, sink })
+}
+
+/// A run over a file with regions of 64 Ki words.
+pub fn run_over<R: Threads + Sync>(rt: &R, alloc: Global, file: Vec<u8>) -> Result<Outcome, Fail> {
+    run_by_plan(rt, alloc, &plan_of(65_536)?, file)
+}
+
+/// The image in a little-endian file with these data words from the address 0x1000 on.
+pub fn image_of(alloc: Global, words: &[u32], special: u32) -> Result<Image, Fail>
+    requires { length words.now < 1000 }
+{
+    let file = file_of(alloc, Order::Little, 0x1000, words, special)?;
+    Ok(read_image(alloc, &file)?)
 }
 
 /// Asserts that a file is compacted to another, and answers the numbers of the run.

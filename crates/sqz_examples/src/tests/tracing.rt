@@ -1,21 +1,9 @@
 //! What objects name, which of them are reachable, and what is wrong with them, in small images.
 
-ghost use Rattle.std.specs.Prelude.{◌<◌, length};
-
-use super::files::file_of;
-use sqz_image::{Fault, Image, Slot, read_image};
-use sqz_object::Order;
+use super::files::image_of;
+use sqz_image::{Fault, Slot};
 use sqz_trace::{defect, first_defect, mark_plain, target, traced};
-use std::alloc::Global;
 use std::test::Fail;
-
-/// The image in a little-endian file with these data words from the address 0x1000 on.
-fn image_of(alloc: Global, words: &[u32], special: u32) -> Result<Image, Fail>
-    requires { length words.now < 1000 }
-{
-    let file = file_of(alloc, Order::Little, 0x1000, words, special)?;
-    Ok(read_image(alloc, &file)?)
-}
 
 #[test]
 fn marks_of_a_dead_cycle(rt: HostRuntime) -> Result<(), Fail> {

@@ -1,9 +1,32 @@
-use Rattle.std.proofs.Common.{◌*◌, ℕ, ap, ◌∙◌, sym, arith}
-use Rattle.std.proofs.lemmas.List.{get_or_read}
+use Rattle.std.proofs.Common.{◌*◌, ℕ, is_some, ap, ◌∙◌, sym, arith}
+use Rattle.std.proofs.lemmas.Option.{same_Some}
 use Rattle.sqz_image.specs.Objects.{object_count}
 use Rattle.sqz_regions.proofs.PlaceLemmas.{length-live}
-use Rattle.sqz_tool.proofs.RunLemmas.{bytes_are, few_words, same_summary}
+use Rattle.sqz_regions.proofs.SumLemmas.{live_words-le-words}
+use Rattle.sqz_tool.proofs.RunLemmas.{bytes_are, few_words, place_of_special, same_summary}
 use Rattle.sqz_tool.proofs.compaction.compaction_of.Goals as goal
+
+pub bases-requires : goal.bases-requires
+bases-requires g c =
+    let le = live_words-le-words c.heap-heap.result.now c.in_ok-marks.marks c.in_ok-marks.ensures.reachable.reached.sized in
+    rw c.deref.ensures.value (omega (arith, c.in_ok-sums.ensures.whole, c.base.ensures.within, le))
+
+pub total-live-requires : goal.total-live-requires
+total-live-requires g c =
+    let le = live_words-le-words c.heap-heap.result.now c.in_ok-marks.marks c.in_ok-marks.ensures.reachable.reached.sized in
+    rw c.deref-3.ensures.value (omega (arith, c.in_ok-sums.ensures.whole, c.base.ensures.within, le))
+
+pub unwrap-special-requires : goal.unwrap-special-requires
+unwrap-special-requires g c =
+    let marks = c.in_ok-marks.marks in
+    let special = place_of_special c.heap-heap.result.now marks c.in_ok-forward.forward c.special.result c.in_ok-forward.ensures.places c.in_ok-marks.ensures.reachable c.special.ensures.special c.special.ensures.inside in
+    ap is_some (c.place.ensures.place ∙ special)
+
+pub overflow_mul-summary : goal.overflow_mul-summary
+overflow_mul-summary g c =
+    let le = live_words-le-words c.heap-heap.result.now c.in_ok-marks.marks c.in_ok-marks.ensures.reachable.reached.sized in
+    let live = rw c.deref-3.ensures.value at c.total-live.ensures in
+    omega (arith, live, c.in_ok-sums.ensures.whole, c.len.ensures.few_words, le)
 
 pub returns-clause-compaction : goal.returns-clause-compaction
 returns-clause-compaction g c =
@@ -12,17 +35,19 @@ returns-clause-compaction g c =
     let is = c.heap-heap.ensures in
     let reachable = rw is at c.in_ok-marks.ensures.reachable in
     let words = rw is at c.in_ok-words.ensures in
-    let live = rw is at c.in_ok-placing.ensures.words in
-    let special = c.special.result in
+    let whole = rw is at c.in_ok-sums.ensures.whole in
+    let found = rw is at c.special.ensures.special in
     let inside = rw is at c.special.ensures.inside in
-    let read = get_or_read c.in_ok-placing.placing.addresses.items special c.index-special.result.now (omega (arith, c.special.ensures.inside, c.in_ok-placing.ensures.one_each)) c.index-special.ensures 0 in
-    let place_is = rw is at (read ∙ c.in_ok-placing.ensures.addresses special c.special.ensures.inside) in
+    let places = rw is at c.in_ok-forward.ensures.places in
+    let special = place_of_special image.memory marks c.in_ok-forward.forward c.special.result places reachable found inside in
     let kept = c.count.ensures ∙ sym (length-live image.memory marks reachable.reached.sized) in
+    let le = live_words-le-words image.memory marks reachable.reached.sized in
+    let live = (rw c.deref-3.ensures.value at c.total-live.ensures) ∙ whole in
     rw c.in_ok-pieces.ensures.items (record {
       marks = marks;
       reachable = reachable;
       sound = sym (rw is at c.in_default.ensures);
-      bytes = bytes_are image marks c.index-special.result.now special c.in_ok-words.words.items c.requires reachable (rw is at c.special.ensures.special) place_is words;
-      few = few_words image.memory marks c.in_ok-words.words.items c.requires words (omega (arith, live, c.in_ok-placing.ensures.few));
+      bytes = bytes_are image marks c.unwrap-special.result c.special.result c.in_ok-words.words.items c.requires reachable found (same_Some _ _ (sym c.unwrap-special.ensures ∙ c.place.ensures.place ∙ special)) words;
+      few = few_words image.memory marks c.in_ok-words.words.items c.requires words (omega (arith, le, rw is at c.len.ensures.few_words));
       counted = same_summary (c.len.ensures.objects ∙ ap object_count is) kept c.header.ensures (ap (λ (n : ℕ). 4 * n) live);
     })

@@ -4,21 +4,21 @@ use Rattle.sqz_tool.proofs.SlidingLemmas.{moved_header-of_three, moved_header-of
 use Rattle.sqz_tool.proofs.sliding.push_header.Goals as goal
 
 pub returns-in_ok-extend_from_slice-in-Three : goal.returns-in_ok-extend_from_slice-in-Three
-returns-in_ok-extend_from_slice-in-Three c marks places named =
+returns-in_ok-extend_from_slice-in-Three c marks places =
     let kind = sym (ap (λ (header : Chunk). header.kind) c.header.ensures.described) ∙ c.in-Three.is in
     let class = c.moved_class-class in
     let words = c.words-header in
     c.in_ok-extend_from_slice-in-Three.ensures.items
     ∙ ap (λ (header : List ℕ). c.args.words.now.items ++ header)
-    (moved_header-of_three c.args.heap.now marks c.args.object.now named c.requires.chunk words.result.now words.ensures class.result
+    (moved_header-of_three c.args.heap.now marks c.args.object.now c.requires.chunk words.result.now words.ensures class.result
     kind (class.ensures marks places))
 
 pub returns-in_ok-extend_from_slice-in-Two : goal.returns-in_ok-extend_from_slice-in-Two
-returns-in_ok-extend_from_slice-in-Two c marks places named =
+returns-in_ok-extend_from_slice-in-Two c marks places =
     let kind = sym (ap (λ (header : Chunk). header.kind) c.header.ensures.described) ∙ c.in-Two.is in
     let class = c.moved_class-class-in-Two in
     let words = c.words-header in
     c.in_ok-extend_from_slice-in-Two.ensures.items
     ∙ ap (λ (header : List ℕ). c.args.words.now.items ++ header)
-    (moved_header-of_two c.args.heap.now marks c.args.object.now named c.requires.chunk words.result.now words.ensures class.result
+    (moved_header-of_two c.args.heap.now marks c.args.object.now c.requires.chunk words.result.now words.ensures class.result
     kind (class.ensures marks places))

@@ -1,10 +1,7 @@
-use Rattle.std.proofs.Common.{◌≡◌, ℕ, ◌<◌, List, ◌++◌, map, length, take, drop, slice_index, sym, ap, subst, ◌∙◌, append_assoc, arith}
-use Rattle.std.proofs.lemmas.List.{get_or-take}
+use Rattle.std.proofs.Common.{◌≡◌, ℕ, List, ◌++◌, map, take, drop, ap, ◌∙◌, append_assoc}
 use Rattle.sqz_object.specs.Chunk.{chunk_kind, fields}
 use Rattle.sqz_trace.specs.Slots.{traced}
 use Rattle.sqz_slide.specs.Moved.{moved_field, moved_header}
-use Rattle.sqz_tool.specs.Sliding.{NamesMarked}
-use Rattle.sqz_tool.proofs.SlidingLemmas.{NamesMarked-field}
 use Rattle.sqz_tool.proofs.sliding.push_moved.Goals as goal
 
 -- three pieces that are added one after the other
@@ -12,7 +9,7 @@ three_pieces : (old header front rest : List ℕ) → ((old ++ header) ++ front)
 three_pieces old header front rest = simp append_assoc
 
 pub returns : goal.returns
-returns c marks places named =
+returns c marks places =
     let memory = c.args.heap.now in
     let chunk = c.args.object.now in
     let f : ℕ → ℕ = moved_field memory marks in
@@ -27,16 +24,10 @@ returns c marks places named =
     ∙ ap (drop c.traced_fields.result) c.fields.ensures
     ∙ ap (λ (n : ℕ). drop n (fields chunk)) c.traced_fields.ensures.traced
     in
-    let fields_named : (k : ℕ) → k < length cut.0.now → NamesMarked memory marks (slice_index cut.0.now k) =
-    λ k lt.
-    let inside : k < traced chunk = omega (arith, c.split_at.ensures.front_len, c.traced_fields.ensures.traced) in
-    let same = ap (λ (xs : List ℕ). slice_index xs k) front ∙ get_or-take (traced chunk) (fields chunk) k 0 inside in
-    subst (NamesMarked memory marks) (sym same) (NamesMarked-field memory marks chunk named k inside)
-    in
     let header = moved_header memory marks (chunk_kind chunk) chunk in
     let with_traced =
-    c.in_ok-push_traced.ensures marks places fields_named
-    ∙ ap (λ (words : List ℕ). words ++ map f cut.0.now) (c.in_ok-push_header.ensures marks places named)
+    c.in_ok-push_traced.ensures marks places
+    ∙ ap (λ (words : List ℕ). words ++ map f cut.0.now) (c.in_ok-push_header.ensures marks places)
     in
     c.in_ok-extend_from_slice.ensures.items
     ∙ ap (λ (words : List ℕ). words ++ cut.1.now) with_traced

@@ -3,8 +3,7 @@ use Rattle.sqz_object.specs.Chunk.{IsChunk}
 use Rattle.sqz_image.specs.Objects.{object_count}
 use Rattle.sqz_slide.specs.Moved.{moved}
 use Rattle.sqz_slide.proofs.MovedLemmas.{moved_below, moved_below_none, moved_below_yes, moved_below_no, moved_below_all}
-use Rattle.sqz_tool.specs.Sliding.{SlotsNameMarked}
-use Rattle.sqz_tool.proofs.SlidingLemmas.{IsChunk_at, SlotsNameMarked-live}
+use Rattle.sqz_tool.proofs.SlidingLemmas.{IsChunk_at}
 use Rattle.sqz_tool.proofs.sliding.slide.Goals as goal
 use Rattle.sqz_tool.proofs.sliding.slide.Goals.{then-has+in_ok-push_moved, else-has}
 
@@ -24,10 +23,8 @@ loop-index-preserved c =
       | then-has+in_ok-push_moved w ↦
           let is_live = sym c.has.ensures ∙ w.if-has.true in
           let same = w.object-object.ensures in
-          let live_slots = SlotsNameMarked-live memory marks c.loop-index.index c.requires.reachable lt is_live in
-          let named = subst (SlotsNameMarked memory marks) (sym same) live_slots in
           rw w.words-is
-          (w.in_ok-push_moved.ensures marks (record { each = rw w.deref.ensures.value c.requires.addresses }) named
+          (w.in_ok-push_moved.ensures marks c.requires.places
           ∙ ap (λ (words : List ℕ). words ++ moved memory marks w.object-object.result) c.loop-index.invariant
           ∙ ap (λ (chunk : List ℕ). moved_below memory marks c.loop-index.index ++ moved memory marks chunk) same
           ∙ sym (moved_below_yes memory marks c.loop-index.index lt is_live))
@@ -39,4 +36,4 @@ loop-index-preserved c =
 pub returns : goal.returns
 returns c =
     c.loop-index.invariant
-    ∙ moved_below_all c.args.heap.now c.args.marks.now c.loop-index.index c.requires.reachable.reached.sized (omega arith)
+    ∙ moved_below_all c.args.heap.now c.args.marks.now c.loop-index.index c.requires.sized (omega arith)

@@ -1,0 +1,113 @@
+//! Regions of small images, their live words and bases, and the places of their objects.
+
+use super::files::image_of;
+use sqz_image::Image;
+use sqz_regions::{Cut, Forward, Regions, bases, live_words};
+use sqz_trace::mark_plain;
+use std::alloc::Global;
+use std::process::Abort;
+use std::test::Fail;
+use std::thread::Threads;
+
+/// Two dead objects that name each other, and two live ones that do so.
+const DEAD_CYCLE: [u32; 12] = [
+    0x1007, 0x110B, 0x1014, 0x110B, 0x101C, 0x110B, 0x1004, 0x110B, 0x100C, 0x320F, 0x1000, 0x1004,
+];
+
+/// Where the live objects of that image go.
+const DEAD_CYCLE_PLACES: [Option<u32>; 6] = [
+    Some(0x1000),
+    Some(0x1004),
+    None,
+    Some(0x100C),
+    None,
+    Some(0x1014),
+];
+
+/// Asserts that under a cut the regions of an image have these live words and bases, and its objects
+/// these places.
+fn assert_places<R: Threads + Sync + Abort + AllocGlobal>(
+    rt: &R,
+    image: &Image,
+    cut: &Cut,
+    wanted_sums: &[u32],
+    wanted_bases: &[u64],
+    places: &[Option<u32>],
+) -> Result<(), Fail> {
+    let heap = image.heap();
+    let marks = mark_plain(rt.alloc(), heap)?;
+    let regions = Regions::of(rt.alloc(), heap, cut)?;
+    assert_eq!(rt; regions.count() as usize, wanted_sums.len());
+    let sums = live_words(rt.alloc(), heap, &regions, &marks)?;
+    assert_eq!(rt; sums.as_slice(), wanted_sums);
+    let starts = bases(rt.alloc(), heap.base(), &sums)?;
+    assert_eq!(rt; starts.as_slice(), wanted_bases);
+    let forward = Forward::build(rt, rt.alloc(), heap, &regions, &marks, &starts)?;
+    assert_eq!(rt; places.len(), heap.len() as usize);
+    for (object, place) in places.iter().enumerate() {
+        assert_eq!(rt; forward.place(object as u32), *place, "object {object}");
+    }
+    Ok(())
+}
+
+/// The cut at these words.
+fn cut_at(alloc: Global, points: &[u32]) -> Result<Cut, Fail> {
+    Ok(Cut::at(points.to_vec(alloc)?)?)
+}
+
+#[test]
+fn dead_cycle_cut_at_two_words(rt: HostRuntime) -> Result<(), Fail> {
+    let image = image_of(rt.alloc(), &DEAD_CYCLE, 0x1024)?;
+    let cut = cut_at(rt.alloc(), &[1, 3])?;
+    let bases = [0x1000, 0x1004, 0x100C];
+    assert_places(&rt, &image, &cut, &[1, 2, 5], &bases, &DEAD_CYCLE_PLACES)
+}
+
+#[test]
+fn dead_cycle_cut_at_each_word(rt: HostRuntime) -> Result<(), Fail> {
+    let image = image_of(rt.alloc(), &DEAD_CYCLE, 0x1024)?;
+    let sums = [1, 2, 0, 0, 0, 2, 0, 0, 0, 3, 0, 0];
+    let bases = [
+        0x1000, 0x1004, 0x100C, 0x100C, 0x100C, 0x100C, 0x1014, 0x1014, 0x1014, 0x1014, 0x1020,
+        0x1020,
+    ];
+    assert_places(&rt, &image, &Cut::every(1)?, &sums, &bases, &DEAD_CYCLE_PLACES)
+}
+
+#[test]
+fn cut_points_inside_objects(rt: HostRuntime) -> Result<(), Fail> {
+    let mut words = [0x1007, 0x320F, 1, 1, 0x100, 0x1000, 0x200].to_vec(rt.alloc())?;
+    words.resize(70, 1)?;
+    words.extend_from_slice(&[0x320F, 0x1000, 0x1018])?;
+    assert_eq!(rt; words.len(), 73);
+    let image = image_of(rt.alloc(), &words, 0x1118)?;
+    let places = [Some(0x1000), None, Some(0x100C), Some(0x110C)];
+    let inside = cut_at(rt.alloc(), &[2, 6, 40])?;
+    let bases = [0x1000, 0x1004, 0x110C, 0x110C];
+    assert_places(&rt, &image, &inside, &[1, 66, 0, 3], &bases, &places)?;
+    let first_and_last_words = cut_at(rt.alloc(), &[4, 69, 1 << 30])?;
+    let bases = [0x1000, 0x1004, 0x110C, 0x1118];
+    assert_places(&rt, &image, &first_and_last_words, &[1, 66, 3, 0], &bases, &places)
+}
+
+#[test]
+fn one_object(rt: HostRuntime) -> Result<(), Fail> {
+    let image = image_of(rt.alloc(), &[0x3207], 0x1000)?;
+    let places = [Some(0x1000)];
+    assert_places(&rt, &image, &Cut::every(1)?, &[1], &[0x1000], &places)?;
+    let behind = cut_at(rt.alloc(), &[5])?;
+    assert_places(&rt, &image, &behind, &[1, 0], &[0x1000, 0x1004], &places)
+}
+
+#[test]
+fn free_chunks_at_the_end(rt: HostRuntime) -> Result<(), Fail> {
+    let words = [0x1007, 0x320B, 0x1000, 6, 0xA, 1];
+    let image = image_of(rt.alloc(), &words, 0x1004)?;
+    let places = [Some(0x1000), Some(0x1004)];
+    let whole = cut_at(rt.alloc(), &[])?;
+    assert_places(&rt, &image, &whole, &[3], &[0x1000], &places)?;
+    let sums = [1, 2, 0];
+    let bases = [0x1000, 0x1004, 0x100C];
+    let cut = cut_at(rt.alloc(), &[1, 3])?;
+    assert_places(&rt, &image, &cut, &sums, &bases, &places)
+}

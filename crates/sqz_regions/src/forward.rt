@@ -1,0 +1,168 @@
+//! The place of each live object.
+
+ghost use Rattle.std.specs.Prelude.{◌≡◌, ◌+◌, ◌*◌, ◌^◌, ◌<◌, ◌≤◌, None, length, slice_index_or, IfOk, IfErr, IfSome};
+ghost use Rattle.std.specs.List.{concat, flat_map};
+ghost use Rattle.sqz_image.specs.declared.fault.Fault.TheVariants.{OutOfMemory};
+ghost use Rattle.sqz_image.specs.Objects.{object_count};
+ghost use Rattle.sqz_regions.specs.Places.{live_words_below};
+ghost use Rattle.sqz_regions.specs.Bases.{AreBasesOf, ArePlacesOf};
+ghost use Rattle.sqz_regions.specs.Entries.{AreEntriesOf, range_begin, AreEntriesOfRange};
+
+use crate::regions::Regions;
+use rayon::prelude::*;
+use sqz_image::{Fault, Heap};
+use sqz_trace::Marks;
+use std::alloc::{AllocError, Global};
+use std::marker::Model;
+use std::thread::Threads;
+
+/// The entry of an object that is not marked. No address is odd.
+const DEAD: u32 = u32::MAX;
+
+/// How many objects a range has, before its ends are moved to the first objects of their regions.
+const RANGE: u32 = 4096;
+
+/// The place of each marked object in the compacted memory. Contracts see it as a list with an entry for each object: the
+/// address of its base header there, or none.
+#[derive(Drop)]
+pub struct Forward {
+    /// The address for each object; `DEAD` where it has none. Addresses are multiples of four.
+    places: Vec<u32>,
+}
+
+impl Model for Forward {
+    ghost use Rattle.std.specs.Prelude.{ℕ, List, Option, map};
+    ghost use Rattle.sqz_regions.specs.Entries.{place_of_entry, HaveRoom};
+
+    ghost Value = { List (Option ℕ) };
+
+    ghost view = { λ forward. map place_of_entry forward.places.items };
+
+    ghost invariant = { λ forward. HaveRoom forward.places.items };
+}
+
+impl Forward {
+    /// The places of the marked objects, by the bases of their regions. Built in several threads, in ranges of thousands of objects.
+    /// Fails for want of memory alone.
+    pub fn build(
+        rt: &(impl Threads + Sync),
+        alloc: Global,
+        heap: &Heap,
+        regions: &Regions<'_>,
+        marks: &Marks,
+        bases: &[u64],
+    ) -> Result<Forward, Fault>
+        requires regions { regions.now.memory ≡ heap.now }
+        requires sized { length marks.now ≡ object_count heap.now }
+        requires bases { AreBasesOf regions.now marks.now bases.now }
+        ensures places { IfOk result (λ forward. ArePlacesOf heap.now marks.now forward) }
+        ensures refused { IfErr result (λ fault. fault ≡ OutOfMemory) }
+    {
+        let ranges = heap.len().div_ceil(RANGE);
+        let parts = (0..ranges)
+            .into_par_iter()
+            .with_min_len(1)
+            .map(
+                |range: u32| -> Result<Vec<u32>, AllocError>
+                    requires inside { range * RANGE < object_count heap.now }
+                    requires regions { regions.now.memory ≡ heap.now }
+                    requires sized { length marks.now ≡ object_count heap.now }
+                    requires bases { AreBasesOf regions.now marks.now bases.now }
+                    ensures { IfOk result (λ places. AreEntriesOfRange regions.entry.now.cut heap.entry.now marks.entry.now range places.items) }
+                { range_places(alloc, heap, regions, marks, bases, range) },
+            )
+            .collect::<Result<Vec<Vec<u32>>, AllocError>>(rt, alloc)??;
+        let places = joined(alloc, heap.len(), &parts)?;
+        Ok(Forward { places })
+    }
+
+    /// The new address of the object's base header; none for an object that is not marked.
+    pub fn place(&self, object: u32) -> Option<u32>
+        requires { object < length self.now }
+        ensures place { result ≡ slice_index_or self.now object None }
+        ensures within { IfSome result (λ place. place + 4 ≤ 2 ^ 32) }
+    {
+        let place = self.places[object as usize];
+        if place == DEAD { None } else { Some(place) }
+    }
+}
+
+/// The first object of the range with this number: the first one of the region of object `range * RANGE`. Behind the last
+/// range it is the number of objects.
+fn first_of_range(regions: &Regions<'_>, objects: u32, range: u32) -> u32
+    requires objects { objects ≡ object_count regions.now.memory }
+    requires few { range * RANGE < 2 ^ 32 }
+    ensures { result ≡ range_begin regions.now.cut regions.now.memory range }
+{
+    let object = range * RANGE;
+    if object < objects {
+        regions.objects(regions.region(object)).0
+    } else {
+        objects
+    }
+}
+
+/// The entries of the objects of the range with this number.
+fn range_places(
+    alloc: Global,
+    heap: &Heap,
+    regions: &Regions<'_>,
+    marks: &Marks,
+    bases: &[u64],
+    range: u32,
+) -> Result<Vec<u32>, AllocError>
+    requires inside { range * RANGE < object_count heap.now }
+    requires regions { regions.now.memory ≡ heap.now }
+    requires sized { length marks.now ≡ object_count heap.now }
+    requires bases { AreBasesOf regions.now marks.now bases.now }
+    ensures { IfOk result (λ places. AreEntriesOfRange regions.now.cut heap.now marks.now range places.items) }
+{
+    let objects = heap.len();
+    let region = regions.region(range * RANGE);
+    let (from, _) = regions.objects(region);
+    let to = first_of_range(regions, objects, range + 1);
+    // all data words lie below 2^32
+    let _words = heap.words();
+    places_between(alloc, heap, marks, from, to, bases[region as usize])
+}
+
+/// The entries of the objects `from..to`, where the live words from object `from` on go to an address.
+fn places_between(
+    alloc: Global,
+    heap: &Heap,
+    marks: &Marks,
+    from: u32,
+    to: u32,
+    address: u64,
+) -> Result<Vec<u32>, AllocError>
+    requires ordered { from ≤ to }
+    requires inside { to ≤ object_count heap.now }
+    requires sized { length marks.now ≡ object_count heap.now }
+    requires begins { address ≡ heap.now.base + 4 * live_words_below heap.now marks.now from }
+    requires within { heap.now.base + 4 * length (concat heap.now.chunks) ≤ 2 ^ 32 }
+    ensures { IfOk result (λ places. AreEntriesOf heap.now marks.now from to places.items) }
+{
+    let mut places = Vec::with_capacity(alloc, (to - from) as usize)?;
+    let mut next = address;
+    for object in from..to {
+        if marks.has(object) {
+            let chunk = heap.chunk(object);
+            places.push((next + 4 * u64::from(chunk.before)) as u32)?;
+            next += 4 * u64::from(chunk.length);
+        } else {
+            places.push(DEAD)?;
+        }
+    }
+    Ok(places)
+}
+
+/// The entries of all ranges, in one list.
+fn joined(alloc: Global, objects: u32, parts: &[Vec<u32>]) -> Result<Vec<u32>, AllocError>
+    ensures { IfOk result (λ places. places.items ≡ flat_map (λ part. part.items) parts.now) }
+{
+    let mut places = Vec::with_capacity(alloc, objects as usize)?;
+    for part in parts {
+        places.extend_from_slice(part)?;
+    }
+    Ok(places)
+}

@@ -1,0 +1,24 @@
+//! Where the live words of each region go.
+
+ghost use Rattle.std.specs.Prelude.{◌≡◌, ◌+◌, ◌*◌, ◌^◌, ◌≤◌, sum, IfOk, IfErr};
+ghost use Rattle.sqz_image.specs.declared.fault.Fault.TheVariants.{OutOfMemory};
+ghost use Rattle.sqz_regions.specs.Bases.{AreBases};
+
+use sqz_image::Fault;
+use std::alloc::Global;
+
+/// For each region the address at which its live words begin: the base, and behind it the live words of the regions before. An
+/// address may be 2^32. Fails for want of memory alone.
+pub fn bases(alloc: Global, base: u32, sums: &[u32]) -> Result<Vec<u64>, Fault>
+    requires { base + 4 * sum sums.now ≤ 2 ^ 32 }
+    ensures bases { IfOk result (λ bases. AreBases base sums.now bases.items) }
+    ensures refused { IfErr result (λ fault. fault ≡ OutOfMemory) }
+{
+    let mut bases = Vec::with_capacity(alloc, sums.len())?;
+    let mut address = u64::from(base);
+    for words in sums {
+        bases.push(address)?;
+        address += 4 * u64::from(*words);
+    }
+    Ok(bases)
+}

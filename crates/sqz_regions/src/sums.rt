@@ -1,0 +1,55 @@
+//! How many live words each region has.
+
+ghost use Rattle.std.specs.Prelude.{◌≡◌, ◌+◌, ◌^◌, ◌<◌, ◌≤◌, length, IfOk, IfErr};
+ghost use Rattle.std.specs.List.{concat, sum};
+ghost use Rattle.sqz_image.specs.declared.fault.Fault.TheVariants.{OutOfMemory};
+ghost use Rattle.sqz_image.specs.Objects.{object_count};
+ghost use Rattle.sqz_regions.specs.Places.{live_words, live_words_below};
+ghost use Rattle.sqz_regions.specs.Bases.{AreSums};
+
+use crate::regions::Regions;
+use sqz_image::{Fault, Heap};
+use sqz_trace::Marks;
+use std::alloc::Global;
+
+/// The sum of the lengths of the chunks of the marked ones among the objects `from..to`, in words.
+fn live_words_between(heap: &Heap, marks: &Marks, from: u32, to: u32) -> u32
+    requires ordered { from ≤ to }
+    requires inside { to ≤ object_count heap.now }
+    requires sized { length marks.now ≡ object_count heap.now }
+    requires few { length (concat heap.now.chunks) < 2 ^ 30 }
+    ensures { live_words_below heap.now marks.now from + result ≡ live_words_below heap.now marks.now to }
+{
+    let mut words = 0;
+    for object in from..to {
+        if marks.has(object) {
+            let chunk = heap.chunk(object);
+            words += chunk.length;
+        }
+    }
+    words
+}
+
+/// For each region the sum of the lengths of its marked objects' chunks, in words. Fails for want of memory alone.
+pub fn live_words(
+    alloc: Global,
+    heap: &Heap,
+    regions: &Regions<'_>,
+    marks: &Marks,
+) -> Result<Vec<u32>, Fault>
+    requires regions { regions.now.memory ≡ heap.now }
+    requires sized { length marks.now ≡ object_count heap.now }
+    ensures sums { IfOk result (λ sums. AreSums regions.now marks.now sums.items) }
+    ensures whole { IfOk result (λ sums. sum sums.items ≡ live_words heap.now marks.now) }
+    ensures refused { IfErr result (λ fault. fault ≡ OutOfMemory) }
+{
+    // no sum is above the number of data words
+    let _most = heap.words();
+    let count = regions.count();
+    let mut sums = Vec::with_capacity(alloc, count as usize)?;
+    for region in 0..count {
+        let (from, to) = regions.objects(region);
+        sums.push(live_words_between(heap, marks, from, to))?;
+    }
+    Ok(sums)
+}
