@@ -15,7 +15,8 @@ use Rattle.sqz_regions.specs.Regions.{Cutting, Regioning, region_at, objects_bef
 use Rattle.sqz_regions.specs.Bases.{place_if_marked, ArePlacesOf}
 use Rattle.sqz_regions.specs.Entries.{dead, entry_of, entries_between, place_of_entry, HaveRoom, AreEntriesOf, range_begin, AreEntriesOfRange}
 use Rattle.sqz_regions.proofs.PlaceLemmas.{live_words_more_yes}
-use Rattle.sqz_regions.proofs.RisingLemmas.{region_at-rises, objects_before-rises, objects_before-le-object_count, objects_before-first}
+use Rattle.sqz_regions.proofs.RegionLemmas.{region_at-rises, objects_before-rises, objects_before-le}
+use Rattle.sqz_regions.proofs.RisingLemmas.{objects_before-first}
 use Rattle.sqz_regions.proofs.SumLemmas.{live_words_below-le-words}
 
 -- ---- values of a function at the numbers of a range
@@ -136,7 +137,7 @@ module _ (cut : Cutting) (memory : Memory) where
   pub range_begin-le-object_count : (range : ℕ) → range_begin cut memory range ≤ object_count memory
   range_begin-le-object_count range =
       elim (cases_lt (range * 4096) (object_count memory)) [
-        | inl lt ↦ omega (arith, range_begin-inside range lt, objects_before-le-object_count cut memory (region_at cut memory (range * 4096)))
+        | inl lt ↦ omega (arith, range_begin-inside range lt, objects_before-le cut memory (region_at cut memory (range * 4096)))
         | inr ge ↦ omega (arith, range_begin-past range ge)
       ]
 

@@ -1,6 +1,6 @@
 use Rattle.std.proofs.Common.{◌≡◌, ◌+◌, length, ap, ◌∙◌, below_more, arith}
 use Rattle.std.proofs.lemmas.List.{get_or_append_left, get_or_push, length_push}
-use Rattle.sqz_regions.proofs.RisingLemmas.{objects_before-rises}
+use Rattle.sqz_regions.proofs.RegionLemmas.{objects_before-rises}
 use Rattle.sqz_regions.proofs.SumLemmas.{live_words_in-between, sum-AreSums}
 use Rattle.sqz_regions.specs.Bases.{AreSums}
 use Rattle.sqz_regions.proofs.sums.live_words.Goals as goal
