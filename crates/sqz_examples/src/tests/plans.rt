@@ -13,7 +13,9 @@ fn same_answer_for_each_cut(rt: HostRuntime) -> Result<(), Fail> {
         0x1007, 0x110B, 0x1014, 0x110B, 0x101C, 0x110B, 0x1004, 0x110B, 0x100C, 0x320F, 0x1000,
         0x1004,
     ];
-    let answer = [0x1007, 0x110B, 0x100C, 0x110B, 0x1004, 0x320F, 0x1000, 0x1004];
+    let answer = [
+        0x1007, 0x110B, 0x100C, 0x110B, 0x1004, 0x320F, 0x1000, 0x1004,
+    ];
     let wanted = file_of(rt.alloc(), Order::Little, 0x1000, &answer, 0x1014)?;
     let cuts = [
         Cut::every(1)?,
@@ -35,7 +37,11 @@ fn same_answer_for_each_cut(rt: HostRuntime) -> Result<(), Fail> {
 #[test]
 fn cuts_that_are_refused(rt: HostRuntime) -> Result<(), Fail> {
     for words in [0, (1 << 30) + 1] {
-        assert_eq!(rt; Cut::every(words).err(), Some(Fault::BadCut), "every {words}");
+        assert_eq!(rt;
+            Cut::every(words).err(),
+            Some(Fault::BadCut),
+            "every {words}"
+        );
     }
     for points in [[3, 3], [4, 3], [1, (1 << 30) + 1]] {
         let cut = Cut::at(points.to_vec(rt.alloc())?);

@@ -71,7 +71,14 @@ fn dead_cycle_cut_at_each_word(rt: HostRuntime) -> Result<(), Fail> {
         0x1000, 0x1004, 0x100C, 0x100C, 0x100C, 0x100C, 0x1014, 0x1014, 0x1014, 0x1014, 0x1020,
         0x1020,
     ];
-    assert_places(&rt, &image, &Cut::every(1)?, &sums, &bases, &DEAD_CYCLE_PLACES)
+    assert_places(
+        &rt,
+        &image,
+        &Cut::every(1)?,
+        &sums,
+        &bases,
+        &DEAD_CYCLE_PLACES,
+    )
 }
 
 #[test]
@@ -87,7 +94,14 @@ fn cut_points_inside_objects(rt: HostRuntime) -> Result<(), Fail> {
     assert_places(&rt, &image, &inside, &[1, 66, 0, 3], &bases, &places)?;
     let first_and_last_words = cut_at(rt.alloc(), &[4, 69, 1 << 30])?;
     let bases = [0x1000, 0x1004, 0x110C, 0x1118];
-    assert_places(&rt, &image, &first_and_last_words, &[1, 66, 3, 0], &bases, &places)
+    assert_places(
+        &rt,
+        &image,
+        &first_and_last_words,
+        &[1, 66, 3, 0],
+        &bases,
+        &places,
+    )
 }
 
 #[test]
