@@ -1,7 +1,7 @@
 -- The points of a cut.
-use Rattle.std.proofs.Common.{◌≡◌, ◌⊎◌, ◌↔◌, ℕ, zero, suc, ◌+◌, ◌^◌, ◌<◌, ◌≤◌, true, false, List, length, get_or, refl, IsTrue, leb, ltb, arith, inl, inr}
+use Rattle.std.proofs.Common.{◌≡◌, ◌⊎◌, ◌↔◌, ℕ, zero, suc, ◌+◌, ◌^◌, ◌<◌, ◌≤◌, true, false, List, length, get_or, refl, leb, arith, inl, inr}
 use Rattle.std.specs.List.Sorted.{IsPartitionedBy, IsPartitionPoint, IsNonDecreasing}
-use Rattle.std.proofs.lemmas.Bool.{cases_lt, leb-true, leb-false, ltb-true, lt-ltb}
+use Rattle.std.proofs.lemmas.Bool.{cases_lt, leb-true, leb-false}
 use Rattle.std.proofs.lemmas.Grind.{get_or_default_zero}
 use Rattle.std.proofs.lemmas.List.Sorted.{IsPartitionedBy-leb}
 use Rattle.sqz_regions.specs.Regions.{Cutting, At, points_up_to}
@@ -55,14 +55,10 @@ below_point points word region list inside =
     )
 
 -- a point tells whether a word is in its region or in one before
-pub point_tells : (cut : Cutting) (points : List ℕ) (word region point : ℕ) → At points ≡ cut → IsCutList points
-    → region < length points → point ≡ get_or points region 0 → IsTrue (ltb word point) ↔ (points_up_to cut word ≤ region)
-point_tells cut points word region point is list inside at =
-    rw (← is) (
-    let both = below_point points word region list inside in (
-      (λ below. both.0 (let lt = ltb-true word point below in omega arith)),
-      (λ le. lt-ltb word point (let lt = both.1 le in omega arith)),
-    ))
+pub point_tells : (cut : Cutting) (points : List ℕ) (region point : ℕ) → At points ≡ cut → IsCutList points
+    → region < length points → point ≡ get_or points region 0 → (word : ℕ) → (word < point) ↔ (points_up_to cut word ≤ region)
+point_tells cut points region point is list inside at word =
+    rw (← is, at) (below_point points word region list inside)
 
 -- the points up to a word are those before the place where they end
 pub region_at_point : (cut : Cutting) (points : List ℕ) (word region : ℕ) → At points ≡ cut → IsCutList points

@@ -1,6 +1,6 @@
 //! Where data words are cut into regions.
 
-ghost use Rattle.std.specs.Prelude.{◌≡◌, ◌+◌, ◌^◌, ◌≤◌, ◌↔◌, IfOk, IfErr, IsOk, IsTrue};
+ghost use Rattle.std.specs.Prelude.{◌≡◌, ℕ, ◌+◌, ◌^◌, ◌<◌, ◌≤◌, ◌↔◌, IfOk, IfErr, IsOk, IsTrue};
 ghost use Rattle.sqz_image.specs.declared.fault.Fault.TheVariants.{BadCut};
 ghost use Rattle.sqz_regions.specs.Regions.{Every, At, points_up_to, region_count};
 ghost use Rattle.sqz_regions.specs.Cuts.{IsCutList, IsValidCut};
@@ -89,15 +89,15 @@ impl Cut {
         }
     }
 
-    /// Whether a word is in this region or in one before, in constant time.
-    pub(crate) fn is_up_to(&self, region: u32, word: u32) -> bool
-        ensures { IsTrue result ↔ (points_up_to self.now word ≤ region) }
+    /// The first word behind this region, in constant time; 2^32 where no cut point is behind it.
+    pub(crate) fn end(&self, region: u32) -> u64
+        ensures { (word : ℕ) → word < 2 ^ 32 → (word < result) ↔ (points_up_to self.now word ≤ region) }
     {
         match &self.division {
-            Division::Every(words) => word / *words <= region,
+            Division::Every(words) => (u64::from(region) + 1) * u64::from(*words),
             Division::At(points) => match points.get(region as usize) {
-                Some(point) => word < *point,
-                None => true,
+                Some(point) => u64::from(*point),
+                None => 1 << 32,
             },
         }
     }

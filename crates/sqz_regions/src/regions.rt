@@ -93,8 +93,9 @@ fn end_of(heap: &Heap, cut: &Cut, region: u32, known: u32) -> u32
     requires { known ≤ objects_before cut.now heap.now (region + 1) }
     ensures { result ≡ objects_before cut.now heap.now (region + 1) }
 {
+    let end = cut.end(region);
     let mut object = known;
-    while object < heap.len() && cut.is_up_to(region, heap.first(object)) {
+    while object < heap.len() && u64::from(heap.first(object)) < end {
         object += 1;
     }
     object

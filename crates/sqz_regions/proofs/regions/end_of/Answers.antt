@@ -7,12 +7,12 @@ use Rattle.sqz_regions.proofs.regions.end_of.Goals as goal
 pub loop-object-preserved : goal.loop-object-preserved
 loop-object-preserved c =
     let inside : c.loop-object.object < object_count c.args.heap.now = omega arith in
-    known_more c.args.cut.now c.args.heap.now _ _ _ inside c.first.ensures.first (c.is_up_to.ensures.0 c.if-is_up_to.true)
+    let told = c.end-end.ensures c.first.result (omega arith) in
+    known_more c.args.cut.now c.args.heap.now _ _ _ inside c.first.ensures.first (told.0 (omega arith))
 
-told : (c : goal.Else-is_up_to) → points_up_to c.args.cut.now c.first.result ≤ c.args.region → ⊥
-told c le = let is = c.is_up_to.ensures.1 le in let is_not = c.if-is_up_to.false in cc
-
-pub returns-else-is_up_to : goal.returns-else-is_up_to
-returns-else-is_up_to c =
+pub returns-else-from-end : goal.returns-else-from-end
+returns-else-from-end c =
     let inside : c.loop-object.object < object_count c.args.heap.now = omega arith in
-    known_all c.args.cut.now c.args.heap.now _ _ _ inside c.first.ensures.first (told c) c.loop-object.invariant
+    let told = c.end-end.ensures c.first.result (omega arith) in
+    let above : points_up_to c.args.cut.now c.first.result ≤ c.args.region → ⊥ = λ le. absurd (let lt = told.1 le in omega arith) in
+    known_all c.args.cut.now c.args.heap.now _ _ _ inside c.first.ensures.first above c.loop-object.invariant
