@@ -3,7 +3,8 @@
 #![tactic(auto)]
 
 pub mod compacted;
-pub mod refused;
+pub mod defects;
 #[cfg(test)]
 mod tests;
+pub mod unreadable;
 pub mod words;

@@ -1,0 +1,11 @@
+use Rattle.std.proofs.Common.{[], ◌∷◌, Some, refl}
+use Rattle.sqz_object.specs.declared.order.Order.TheVariants.{Little}
+use Rattle.sqz_examples.proofs.WorkedImages.{IsRefused-for_defect}
+use Rattle.sqz_examples.proofs.defects.context_before_class_word.Goals as goal
+
+pub returns : goal.returns
+returns c =
+    IsRefused-for_defect _ Little
+    ((0x1007 ∷ []) ∷ (0x2001 ∷ 0xD309 ∷ 1 ∷ []) ∷ (0x320F ∷ 0x1000 ∷ 0x1008 ∷ []) ∷ [])
+    ((Some (0 ∷ [])) ∷ (Some (1 ∷ [])) ∷ (Some []) ∷ [])
+    _ refl refl refl refl

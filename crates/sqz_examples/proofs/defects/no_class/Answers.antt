@@ -1,0 +1,11 @@
+use Rattle.std.proofs.Common.{[], ◌∷◌, Some, None, refl}
+use Rattle.sqz_object.specs.declared.order.Order.TheVariants.{Little}
+use Rattle.sqz_examples.proofs.WorkedImages.{IsRefused-for_defect}
+use Rattle.sqz_examples.proofs.defects.no_class.Goals as goal
+
+pub returns : goal.returns
+returns c =
+    IsRefused-for_defect _ Little
+    ((0x1007 ∷ []) ∷ (0x320B ∷ 0x100C ∷ []) ∷ (0x10B ∷ 1 ∷ []) ∷ [])
+    (None ∷ (Some []) ∷ (Some (2 ∷ [])) ∷ [])
+    _ refl refl refl refl

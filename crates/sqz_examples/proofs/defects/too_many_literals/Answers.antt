@@ -1,0 +1,11 @@
+use Rattle.std.proofs.Common.{[], ◌∷◌, Some, refl}
+use Rattle.sqz_object.specs.declared.order.Order.TheVariants.{Little}
+use Rattle.sqz_examples.proofs.WorkedImages.{IsRefused-for_defect}
+use Rattle.sqz_examples.proofs.defects.too_many_literals.Goals as goal
+
+pub returns : goal.returns
+returns c =
+    IsRefused-for_defect _ Little
+    ((0x1007 ∷ []) ∷ (0x5C0B ∷ 0x801 ∷ []) ∷ (0x320F ∷ 0x1000 ∷ 0x1004 ∷ []) ∷ [])
+    ((Some (0 ∷ [])) ∷ (Some (1 ∷ [])) ∷ (Some []) ∷ [])
+    _ refl refl refl refl

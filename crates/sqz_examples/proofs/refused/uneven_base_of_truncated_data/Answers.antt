@@ -1,5 +1,0 @@
-use Rattle.std.proofs.Common.{inl, refl}
-use Rattle.sqz_examples.proofs.refused.uneven_base_of_truncated_data.Goals as goal
-
-pub returns : goal.returns
-returns c = inl (inl refl)
