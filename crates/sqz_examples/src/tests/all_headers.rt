@@ -7,6 +7,12 @@ use std::test::Fail;
 
 const BASE: u32 = 0x1000;
 
+/// The first four bytes of `Squeak`, as a big-endian word.
+const SQUE: u32 = 0x5371_7565;
+
+/// The last two, and two of filling.
+const AK: u32 = 0x616B_0000;
+
 #[test]
 fn three_word_header(rt: HostRuntime) -> Result<(), Fail> {
     let mut words = Vec::from_slice(rt.alloc(), &[0x1007, 0x320F, 1, 1, 0x100, 0x1000, 0x200])?;
@@ -59,31 +65,10 @@ fn class_edge_of_three_words(rt: HostRuntime) -> Result<(), Fail> {
 #[test]
 fn big_endian_bytes(rt: HostRuntime) -> Result<(), Fail> {
     let words = [
-        0x1007,
-        0x320F,
-        1,
-        1,
-        0x100B,
-        1,
-        0x1011,
-        0xA0D,
-        0x5371_7565,
-        0x616B_0000,
-        0x320F,
-        0x1000,
-        0x101C,
+        0x1007, 0x320F, 1, 1, 0x100B, 1, 0x1011, 0xA0D, SQUE, AK, 0x320F, 0x1000, 0x101C,
     ];
     let answer = [
-        0x1007,
-        0x100B,
-        1,
-        0x1005,
-        0xA0D,
-        0x5371_7565,
-        0x616B_0000,
-        0x320F,
-        0x1000,
-        0x1010,
+        0x1007, 0x100B, 1, 0x1005, 0xA0D, SQUE, AK, 0x320F, 0x1000, 0x1010,
     ];
     let file = file_of(rt.alloc(), Order::Big, BASE, &words, 0x1028)?;
     let wanted = file_of(rt.alloc(), Order::Big, BASE, &answer, 0x101C)?;

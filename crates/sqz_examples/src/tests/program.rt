@@ -51,6 +51,19 @@ fn assert_faults<R: Threads + Sync + Abort + AllocGlobal + Files>(
     Ok(())
 }
 
+/// Asserts that a run from the one path to the other ends so, with this line, and makes no file there.
+fn assert_makes_nothing<R: Threads + Sync + Abort + AllocGlobal + Files>(
+    rt: &R,
+    from: &str,
+    to: &str,
+    exit: u8,
+    line: &str,
+) -> Result<(), Fail> {
+    assert_faults(rt, &[from, to], exit, line)?;
+    assert!(rt; File::open(rt, to).is_err());
+    Ok(())
+}
+
 /// The words of an image of three objects, of which one is dead.
 pub const WHOLE: [u32; 6] = [0x1007, 0x320F, 1, 1, 0x320B, 0x1000];
 
@@ -93,14 +106,8 @@ fn refuses_and_makes_nothing(rt: HostRuntime) -> Result<(), Fail> {
     let mut image = file_of(rt.alloc(), Order::Little, 0x1000, &WHOLE, 0x1010)?;
     image.truncate(87);
     File::create(&rt, "cut.image")?.write_all(&image)?;
-    assert_faults(
-        &rt,
-        &["cut.image", "none.image"],
-        1,
-        "fault 6: data are truncated\n",
-    )?;
-    assert!(rt; File::open(&rt, "none.image").is_err());
-    Ok(())
+    let line = "fault 6: data are truncated\n";
+    assert_makes_nothing(&rt, "cut.image", "none.image", 1, line)
 }
 
 #[test]
@@ -108,26 +115,14 @@ fn refuses_a_bad_pointer(rt: HostRuntime) -> Result<(), Fail> {
     let words = [0x1007, 0x320B, 0x1002];
     let image = file_of(rt.alloc(), Order::Little, 0x1000, &words, 0x1004)?;
     File::create(&rt, "bad_pointer.image")?.write_all(&image)?;
-    assert_faults(
-        &rt,
-        &["bad_pointer.image", "none.image"],
-        1,
-        "fault 14: bad pointer in object 00001004, field 0\n",
-    )?;
-    assert!(rt; File::open(&rt, "none.image").is_err());
-    Ok(())
+    let line = "fault 14: bad pointer in object 00001004, field 0\n";
+    assert_makes_nothing(&rt, "bad_pointer.image", "none.image", 1, line)
 }
 
 #[test]
 fn reports_a_missing_input(rt: HostRuntime) -> Result<(), Fail> {
-    assert_faults(
-        &rt,
-        &["missing.image", "never.image"],
-        3,
-        "fault 16: cannot read the image\n",
-    )?;
-    assert!(rt; File::open(&rt, "never.image").is_err());
-    Ok(())
+    let line = "fault 16: cannot read the image\n";
+    assert_makes_nothing(&rt, "missing.image", "never.image", 3, line)
 }
 
 #[test]

@@ -5,6 +5,9 @@ use sqz_image::{Fault, Slot};
 use sqz_trace::{defect, first_defect, mark_plain, target, traced};
 use std::test::Fail;
 
+/// A word that is neither an integer nor an address.
+const ODD: u32 = 0xFFFF_FFFE;
+
 #[test]
 fn marks_of_a_dead_cycle(rt: HostRuntime) -> Result<(), Fail> {
     let words = [
@@ -42,26 +45,8 @@ fn targets_of_slots(rt: HostRuntime) -> Result<(), Fail> {
 #[test]
 fn traced_fields_of_a_context_and_a_method(rt: HostRuntime) -> Result<(), Fail> {
     let words = [
-        0x1007,
-        0xD32F,
-        0x1000,
-        1,
-        3,
-        0x1000,
-        0x1000,
-        0x1000,
-        0x1000,
-        1,
-        2,
-        0xFFFF_FFFE,
-        0x5C17,
-        0x801,
-        0x1000,
-        0x1000,
-        0x100C,
-        0x320F,
-        0x1004,
-        0x1030,
+        0x1007, 0xD32F, 0x1000, 1, 3, 0x1000, 0x1000, 0x1000, 0x1000, 1, 2, ODD, 0x5C17, 0x801,
+        0x1000, 0x1000, 0x100C, 0x320F, 0x1004, 0x1030,
     ];
     let image = image_of(rt.alloc(), &words, 0x1044)?;
     let heap = image.heap();

@@ -1,4 +1,4 @@
-use Rattle.std.proofs.Common.{◌*◌, ℕ, arith}
+use Rattle.std.proofs.Common.{arith}
 use Rattle.sqz_regions.proofs.SumLemmas.{live_words-le-words}
 use Rattle.sqz_examples.proofs.tests.regions.assert_places.Goals as goal
 
