@@ -21,16 +21,19 @@ abbrev pub possible_slots : List ℕ → List Slot
 possible_slots chunk = ClassWord ∷ field_slots 0 (traced chunk)
 
 -- what a test finds of all of these fields it finds of each
-field_slots_at : (test : Slot → Bool) (first count index : ℕ) → list_all test (field_slots first count) ≡ true → index < count → test (Field (first + index)) ≡ true
-field_slots_at test first zero index h lt = absurd (omega arith)
-field_slots_at test first (suc count) zero h lt =
-    let parts = and_parts (test (Field first)) (list_all test (field_slots (suc first) count)) h in
-    let same : first ≡ first + zero = omega arith in
-    subst (λ (field : ℕ). test (Field field) ≡ true) same parts.0
-field_slots_at test first (suc count) (suc index) h lt =
-    let parts = and_parts (test (Field first)) (list_all test (field_slots (suc first) count)) h in
-    let same : suc first + index ≡ first + suc index = omega arith in
-    subst (λ (field : ℕ). test (Field field) ≡ true) same (field_slots_at test (suc first) count index parts.1 (omega arith))
+module _ (test : Slot → Bool) where
+  field_slots_at : (first count index : ℕ) → list_all test (field_slots first count) ≡ true → index < count
+      → test (Field (first + index)) ≡ true
+  field_slots_at first zero index h lt = absurd (omega arith)
+  field_slots_at first (suc count) zero h lt =
+      let parts = and_parts (test (Field first)) (list_all test (field_slots (suc first) count)) h in
+      let same : first ≡ first + zero = omega arith in
+      subst (λ (field : ℕ). test (Field field) ≡ true) same parts.0
+  field_slots_at first (suc count) (suc index) h lt =
+      let parts = and_parts (test (Field first)) (list_all test (field_slots (suc first) count)) h in
+      let same : suc first + index ≡ first + suc index = omega arith in
+      let later = field_slots_at (suc first) count index parts.1 (omega arith) in
+      subst (λ (field : ℕ). test (Field field) ≡ true) same later
 
 -- ---- edges
 
@@ -44,45 +47,48 @@ is_index-true : (named : Option ℕ) (index : ℕ) → is_index named index ≡ 
 is_index-true None index h = absurd cc
 is_index-true (Some named) index h = ap (λ (n : ℕ). Some n) (eqb-true named index h)
 
--- whether one of these slots names the object
-abbrev pub some_names : Memory → List ℕ → ℕ → List Slot → Bool
-some_names memory chunk to [] = false
-some_names memory chunk to (slot ∷ slots) =
-    is_index (named_in memory chunk slot) to || some_names memory chunk to slots
+module _ (memory : Memory) where
+  -- whether one of these slots names the object
+  abbrev pub some_names : List ℕ → ℕ → List Slot → Bool
+  some_names chunk to [] = false
+  some_names chunk to (slot ∷ slots) = is_index (named_in memory chunk slot) to || some_names chunk to slots
 
--- then there is such a slot
-naming_slot : (memory : Memory) (chunk : List ℕ) (to : ℕ) (slots : List Slot) → some_names memory chunk to slots ≡ true → (slot : Slot) × (named_in memory chunk slot ≡ Some to)
-naming_slot memory chunk to [] h = absurd cc
-naming_slot memory chunk to (slot ∷ slots) h =
-    elim (or_cases _ _ h) [
-      | inl here ↦ (slot, is_index-true (named_in memory chunk slot) to here)
-      | inr later ↦ naming_slot memory chunk to slots later
-    ]
+  -- then there is such a slot
+  naming_slot : (chunk : List ℕ) (to : ℕ) (slots : List Slot) → some_names chunk to slots ≡ true
+      → (slot : Slot) × (named_in memory chunk slot ≡ Some to)
+  naming_slot chunk to [] h = absurd cc
+  naming_slot chunk to (slot ∷ slots) h =
+      elim (or_cases _ _ h) [
+        | inl here ↦ (slot, is_index-true (named_in memory chunk slot) to here)
+        | inr later ↦ naming_slot chunk to slots later
+      ]
 
--- whether the one object has an edge to the other
-abbrev pub has_edge : Memory → ℕ → ℕ → Bool
-has_edge memory from to =
-    ltb from (object_count memory) && some_names memory (chunk_words memory from) to (possible_slots (chunk_words memory from))
+  -- whether the one object has an edge to the other
+  abbrev pub has_edge : ℕ → ℕ → Bool
+  has_edge from to =
+      let chunk : List ℕ = chunk_words memory from in
+      ltb from (object_count memory) && some_names chunk to (possible_slots chunk)
 
--- then it has one
-pub has_edge-true : (memory : Memory) (from to : ℕ) → has_edge memory from to ≡ true → HasEdge memory from to
-has_edge-true memory from to h =
-    let chunk : List ℕ = chunk_words memory from in
-    let parts = and_parts (ltb from (object_count memory)) (some_names memory chunk to (possible_slots chunk)) h in
-    let found = naming_slot memory chunk to (possible_slots chunk) parts.1 in
-    record { inside = ltb-true _ _ parts.0; slot = found.0; names = found.1 }
+  -- then it has one
+  pub has_edge-true : (from to : ℕ) → has_edge from to ≡ true → HasEdge memory from to
+  has_edge-true from to h =
+      let chunk : List ℕ = chunk_words memory from in
+      let parts = and_parts (ltb from (object_count memory)) (some_names chunk to (possible_slots chunk)) h in
+      let found = naming_slot chunk to (possible_slots chunk) parts.1 in
+      record { inside = ltb-true _ _ parts.0; slot = found.0; names = found.1 }
 
--- whether each object of the path has an edge from the one before, and the last is the goal
-abbrev pub leads_to : Memory → ℕ → List ℕ → ℕ → Bool
-leads_to memory from [] goal = eqb from goal
-leads_to memory from (next ∷ path) goal = has_edge memory from next && leads_to memory next path goal
+  -- whether each object of the path has an edge from the one before, and the last is the goal
+  abbrev pub leads_to : ℕ → List ℕ → ℕ → Bool
+  leads_to from [] goal = eqb from goal
+  leads_to from (next ∷ path) goal = has_edge from next && leads_to next path goal
 
--- then the path leads there
-leads_to-true : (memory : Memory) (start from : ℕ) (path : List ℕ) (goal : ℕ) → leads_to memory from path goal ≡ true → Leads (graph_from start memory) from path goal
-leads_to-true memory start from [] goal h = eqb-true from goal h
-leads_to-true memory start from (next ∷ path) goal h =
-    let parts = and_parts (has_edge memory from next) (leads_to memory next path goal) h in
-    (has_edge-true memory from next parts.0, leads_to-true memory start next path goal parts.1)
+  -- then the path leads there
+  leads_to-true : (start from : ℕ) (path : List ℕ) (goal : ℕ) → leads_to from path goal ≡ true
+      → Leads (graph_from start memory) from path goal
+  leads_to-true start from [] goal h = eqb-true from goal h
+  leads_to-true start from (next ∷ path) goal h =
+      let parts = and_parts (has_edge from next) (leads_to next path goal) h in
+      (has_edge-true from next parts.0, leads_to-true start next path goal parts.1)
 
 -- ---- no edge leads out of the marked objects, by a test
 
@@ -91,146 +97,172 @@ abbrev pub is_marked_if_named : List Bool → Option ℕ → Bool
 is_marked_if_named marks None = true
 is_marked_if_named marks (Some index) = is_marked marks index
 
--- whether the object that this slot names is marked, if it names one
-abbrev pub is_named_marked : Memory → List Bool → List ℕ → Slot → Bool
-is_named_marked memory marks chunk slot = is_marked_if_named marks (named_in memory chunk slot)
+module _ (memory : Memory) where
+  -- a word that is there only where a test holds names an object only where it holds
+  test_of_named : (holds : Bool) (word to : ℕ)
+      → option_and_then (named_by memory) (if holds then Some word else None) ≡ Some to → holds ≡ true
+  test_of_named true word to names = refl
+  test_of_named false word to names = absurd cc
 
--- whether all objects that this chunk's slots name are marked
-abbrev pub all_named_marked : Memory → List Bool → List ℕ → Bool
-all_named_marked memory marks chunk = list_all (is_named_marked memory marks chunk) (possible_slots chunk)
+  -- a field that names an object is one of the traced ones
+  field_is_traced : (chunk : List ℕ) (index to : ℕ) → named_in memory chunk (Field index) ≡ Some to
+      → index < traced chunk
+  field_is_traced chunk index to names =
+      ltb-true _ _ (test_of_named (nat_lt index (traced chunk)) (slice_index (fields chunk) index) to names)
 
--- a word that is there only where a test holds names an object only where it holds
-test_of_named : (memory : Memory) (holds : Bool) (word to : ℕ) → option_and_then (named_by memory) (if holds then Some word else None) ≡ Some to → holds ≡ true
-test_of_named memory true word to names = refl
-test_of_named memory false word to names = absurd cc
+module _ (memory : Memory) (marks : List Bool) where
+  -- whether the object that this slot names is marked, if it names one
+  abbrev pub is_named_marked : List ℕ → Slot → Bool
+  is_named_marked chunk slot = is_marked_if_named marks (named_in memory chunk slot)
 
--- a field that names an object is one of the traced ones
-field_is_traced : (memory : Memory) (chunk : List ℕ) (index to : ℕ) → named_in memory chunk (Field index) ≡ Some to → index < traced chunk
-field_is_traced memory chunk index to names =
-    ltb-true _ _ (test_of_named memory (nat_lt index (traced chunk)) (slice_index (fields chunk) index) to names)
+  -- whether all objects that this chunk's slots name are marked
+  abbrev pub all_named_marked : List ℕ → Bool
+  all_named_marked chunk = list_all (is_named_marked chunk) (possible_slots chunk)
 
--- what some slot names is marked, then
-all_named_marked_at : (memory : Memory) (marks : List Bool) (chunk : List ℕ) (slot : Slot) (to : ℕ) → all_named_marked memory marks chunk ≡ true → named_in memory chunk slot ≡ Some to → is_marked marks to ≡ true
-all_named_marked_at memory marks chunk ClassWord to h names =
-    let parts = and_parts (is_named_marked memory marks chunk ClassWord) (list_all (is_named_marked memory marks chunk) (field_slots 0 (traced chunk))) h in
-    sym (ap (is_marked_if_named marks) names) ∙ parts.0
-all_named_marked_at memory marks chunk (Field index) to h names =
-    let parts = and_parts (is_named_marked memory marks chunk ClassWord) (list_all (is_named_marked memory marks chunk) (field_slots 0 (traced chunk))) h in
-    let inside = field_is_traced memory chunk index to names in
-    let same : 0 + index ≡ index = omega arith in
-    let marked = subst (λ (field : ℕ). is_named_marked memory marks chunk (Field field) ≡ true) same (field_slots_at (is_named_marked memory marks chunk) 0 (traced chunk) index parts.1 inside) in
-    sym (ap (is_marked_if_named marks) names) ∙ marked
+  -- what some slot names is marked, then
+  all_named_marked_at : (chunk : List ℕ) (slot : Slot) (to : ℕ) → all_named_marked chunk ≡ true
+      → named_in memory chunk slot ≡ Some to → is_marked marks to ≡ true
+  all_named_marked_at chunk ClassWord to h names =
+      let test : Slot → Bool = is_named_marked chunk in
+      let parts = and_parts (test ClassWord) (list_all test (field_slots 0 (traced chunk))) h in
+      sym (ap (is_marked_if_named marks) names) ∙ parts.0
+  all_named_marked_at chunk (Field index) to h names =
+      let test : Slot → Bool = is_named_marked chunk in
+      let parts = and_parts (test ClassWord) (list_all test (field_slots 0 (traced chunk))) h in
+      let inside = field_is_traced memory chunk index to names in
+      let same : 0 + index ≡ index = omega arith in
+      let passes = field_slots_at test 0 (traced chunk) index parts.1 inside in
+      let marked = subst (λ (field : ℕ). test (Field field) ≡ true) same passes in
+      sym (ap (is_marked_if_named marks) names) ∙ marked
 
--- whether all that the marked ones of these objects name are marked; `own` has their marks
-abbrev pub is_closed_from : Memory → List Bool → List Bool → List Object → Bool
-is_closed_from memory marks (true ∷ own) (object ∷ objects) =
-    all_named_marked memory marks object.chunk && is_closed_from memory marks own objects
-is_closed_from memory marks (false ∷ own) (object ∷ objects) = is_closed_from memory marks own objects
-is_closed_from memory marks _ _ = true
+  -- whether all that the marked ones of these objects name are marked; `own` has their marks
+  abbrev pub is_closed_from : List Bool → List Object → Bool
+  is_closed_from (true ∷ own) (object ∷ objects) = all_named_marked object.chunk && is_closed_from own objects
+  is_closed_from (false ∷ own) (object ∷ objects) = is_closed_from own objects
+  is_closed_from _ _ = true
 
--- each of these objects, then
-is_closed_from_at : (memory : Memory) (marks own : List Bool) (objects : List Object) (index : ℕ) (d : Object) → is_closed_from memory marks own objects ≡ true → slice_index_or own index false ≡ true → index < length objects → all_named_marked memory marks (slice_index_or objects index d).chunk ≡ true
-is_closed_from_at memory marks own [] index d h m lt = absurd (omega arith)
-is_closed_from_at memory marks [] (object ∷ objects) index d h m lt = absurd cc
-is_closed_from_at memory marks (true ∷ own) (object ∷ objects) zero d h m lt =
-    (and_parts (all_named_marked memory marks object.chunk) (is_closed_from memory marks own objects) h).0
-is_closed_from_at memory marks (true ∷ own) (object ∷ objects) (suc index) d h m lt =
-    let parts = and_parts (all_named_marked memory marks object.chunk) (is_closed_from memory marks own objects) h in
-    is_closed_from_at memory marks own objects index d parts.1 m (omega arith)
-is_closed_from_at memory marks (false ∷ own) (object ∷ objects) zero d h m lt = absurd cc
-is_closed_from_at memory marks (false ∷ own) (object ∷ objects) (suc index) d h m lt =
-    is_closed_from_at memory marks own objects index d h m (omega arith)
+  -- each of these objects, then
+  is_closed_from_at : (own : List Bool) (objects : List Object) (index : ℕ) (d : Object)
+      → is_closed_from own objects ≡ true → slice_index_or own index false ≡ true → index < length objects
+      → all_named_marked (slice_index_or objects index d).chunk ≡ true
+  is_closed_from_at own [] index d h m lt = absurd (omega arith)
+  is_closed_from_at [] (object ∷ objects) index d h m lt = absurd cc
+  is_closed_from_at (true ∷ own) (object ∷ objects) zero d h m lt =
+      (and_parts (all_named_marked object.chunk) (is_closed_from own objects) h).0
+  is_closed_from_at (true ∷ own) (object ∷ objects) (suc index) d h m lt =
+      let parts = and_parts (all_named_marked object.chunk) (is_closed_from own objects) h in
+      is_closed_from_at own objects index d parts.1 m (omega arith)
+  is_closed_from_at (false ∷ own) (object ∷ objects) zero d h m lt = absurd cc
+  is_closed_from_at (false ∷ own) (object ∷ objects) (suc index) d h m lt =
+      is_closed_from_at own objects index d h m (omega arith)
 
 -- the same of all objects
-IsClosed-from_test : (memory : Memory) (start : ℕ) (marks : List Bool) → is_closed_from memory marks marks (objects memory) ≡ true → IsClosed (graph_from start memory) marks
+IsClosed-from_test : (memory : Memory) (start : ℕ) (marks : List Bool)
+    → is_closed_from memory marks marks (objects memory) ≡ true → IsClosed (graph_from start memory) marks
 IsClosed-from_test memory start marks h = record {
   along = λ from to m edge.
-      all_named_marked_at memory marks (chunk_words memory from) edge.slot to (is_closed_from_at memory marks marks (objects memory) from record { first = 0; chunk = [] } h m edge.inside) edge.names;
+      let some : Object = record { first = 0; chunk = [] } in
+      let all = is_closed_from_at memory marks marks (objects memory) from some h m edge.inside in
+      all_named_marked_at memory marks (chunk_words memory from) edge.slot to all edge.names;
 }
 
 -- ---- a path to each marked object, by a test
-
--- of a list that has a path for each object that is to be marked: whether those paths lead there; the
--- first of the list is for the object with this index
-abbrev pub all_lead : Memory → ℕ → ℕ → List (Option (List ℕ)) → Bool
-all_lead memory start index [] = true
-all_lead memory start index (None ∷ paths) = all_lead memory start (suc index) paths
-all_lead memory start index ((Some path) ∷ paths) =
-    leads_to memory start path index && all_lead memory start (suc index) paths
 
 -- the marks of the objects that have a path
 abbrev pub marks_of : List (Option (List ℕ)) → List Bool
 marks_of paths = map is_some paths
 
--- a path leads to each of these objects, then
-all_lead_at : (memory : Memory) (start first : ℕ) (paths : List (Option (List ℕ))) (index : ℕ) → all_lead memory start first paths ≡ true → is_marked (marks_of paths) index ≡ true → (path : List ℕ) × Leads (graph_from start memory) start path (first + index)
-all_lead_at memory start first [] index h m = absurd cc
-all_lead_at memory start first (None ∷ paths) zero h m = absurd cc
-all_lead_at memory start first ((Some path) ∷ paths) zero h m =
-    let parts = and_parts (leads_to memory start path first) (all_lead memory start (suc first) paths) h in
-    let same : first ≡ first + zero = omega arith in
-    (path, subst (λ (goal : ℕ). Leads (graph_from start memory) start path goal) same (leads_to-true memory start start path first parts.0))
-all_lead_at memory start first (None ∷ paths) (suc index) h m =
-    let found = all_lead_at memory start (suc first) paths index h m in
-    let same : suc first + index ≡ first + suc index = omega arith in
-    (found.0, subst (λ (goal : ℕ). Leads (graph_from start memory) start found.0 goal) same found.1)
-all_lead_at memory start first ((Some path) ∷ paths) (suc index) h m =
-    let parts = and_parts (leads_to memory start path first) (all_lead memory start (suc first) paths) h in
-    let found = all_lead_at memory start (suc first) paths index parts.1 m in
-    let same : suc first + index ≡ first + suc index = omega arith in
-    (found.0, subst (λ (goal : ℕ). Leads (graph_from start memory) start found.0 goal) same found.1)
+module _ (memory : Memory) (start : ℕ) where
+  -- of a list that has a path for each object that is to be marked: whether those paths lead there; the
+  -- first of the list is for the object with this index
+  abbrev pub all_lead : ℕ → List (Option (List ℕ)) → Bool
+  all_lead index [] = true
+  all_lead index (None ∷ paths) = all_lead (suc index) paths
+  all_lead index ((Some path) ∷ paths) = leads_to memory start path index && all_lead (suc index) paths
+
+  -- a path leads to each of these objects, then
+  all_lead_at : (first : ℕ) (paths : List (Option (List ℕ))) (index : ℕ) → all_lead first paths ≡ true
+      → is_marked (marks_of paths) index ≡ true
+      → (path : List ℕ) × Leads (graph_from start memory) start path (first + index)
+  all_lead_at first [] index h m = absurd cc
+  all_lead_at first (None ∷ paths) zero h m = absurd cc
+  all_lead_at first ((Some path) ∷ paths) zero h m =
+      let parts = and_parts (leads_to memory start path first) (all_lead (suc first) paths) h in
+      let same : first ≡ first + zero = omega arith in
+      let leads = leads_to-true memory start start path first parts.0 in
+      (path, subst (Leads (graph_from start memory) start path) same leads)
+  all_lead_at first (None ∷ paths) (suc index) h m =
+      let found = all_lead_at (suc first) paths index h m in
+      let same : suc first + index ≡ first + suc index = omega arith in
+      (found.0, subst (Leads (graph_from start memory) start found.0) same found.1)
+  all_lead_at first ((Some path) ∷ paths) (suc index) h m =
+      let parts = and_parts (leads_to memory start path first) (all_lead (suc first) paths) h in
+      let found = all_lead_at (suc first) paths index parts.1 m in
+      let same : suc first + index ≡ first + suc index = omega arith in
+      (found.0, subst (Leads (graph_from start memory) start found.0) same found.1)
 
 -- ---- the whole test
 
--- whether the objects that have a path here are the reachable ones, and their paths lead to them
-abbrev pub is_tracing_from : Memory → ℕ → List (Option (List ℕ)) → Bool
-is_tracing_from memory start paths =
-    eqb (length paths) (object_count memory) && (is_marked (marks_of paths) start && (is_closed_from memory (marks_of paths) (marks_of paths) (objects memory) && all_lead memory start 0 paths))
+module _ (memory : Memory) where
+  -- whether the objects that have a path here are the reachable ones, and their paths lead to them
+  abbrev pub is_tracing_from : ℕ → List (Option (List ℕ)) → Bool
+  is_tracing_from start paths =
+      let marks : List Bool = marks_of paths in
+      let closed : Bool = is_closed_from memory marks marks (objects memory) in
+      eqb (length paths) (object_count memory) && (is_marked marks start && (closed && all_lead memory start 0 paths))
 
-abbrev pub is_tracing_from_some : Memory → Option ℕ → List (Option (List ℕ)) → Bool
-is_tracing_from_some memory None paths = false
-is_tracing_from_some memory (Some start) paths = is_tracing_from memory start paths
+  abbrev pub is_tracing_from_some : Option ℕ → List (Option (List ℕ)) → Bool
+  is_tracing_from_some None paths = false
+  is_tracing_from_some (Some start) paths = is_tracing_from start paths
 
-abbrev pub is_tracing : Memory → List (Option (List ℕ)) → Bool
-is_tracing memory paths = is_tracing_from_some memory (find memory memory.special) paths
+  abbrev pub is_tracing : List (Option (List ℕ)) → Bool
+  is_tracing paths = is_tracing_from_some (find memory memory.special) paths
 
--- paths that start at this object
-is_tracing_from-true : (memory : Memory) (start : ℕ) (paths : List (Option (List ℕ))) → is_tracing_from memory start paths ≡ true → IsTracing (graph_from start memory) (marks_of paths)
-is_tracing_from-true memory start paths h =
-    let marks : List Bool = marks_of paths in
-    let a = and_parts (eqb (length paths) (object_count memory)) (is_marked marks start && (is_closed_from memory marks marks (objects memory) && all_lead memory start 0 paths)) h in
-    let b = and_parts (is_marked marks start) (is_closed_from memory marks marks (objects memory) && all_lead memory start 0 paths) a.1 in
-    let c = and_parts (is_closed_from memory marks marks (objects memory)) (all_lead memory start 0 paths) b.1 in
-    record {
-      sized = length-map paths is_some ∙ eqb-true _ _ a.0;
-      has_start = b.0;
-      closed = IsClosed-from_test memory start marks c.0;
-      reached = λ index m.
-          let found = all_lead_at memory start 0 paths index c.1 m in
-          let same : 0 + index ≡ index = omega arith in
-          record { path = found.0; leads = subst (λ (goal : ℕ). Leads (graph_from start memory) start found.0 goal) same found.1 };
-    }
+  -- paths that start at this object
+  is_tracing_from-true : (start : ℕ) (paths : List (Option (List ℕ))) → is_tracing_from start paths ≡ true
+      → IsTracing (graph_from start memory) (marks_of paths)
+  is_tracing_from-true start paths h =
+      let marks : List Bool = marks_of paths in
+      let closed : Bool = is_closed_from memory marks marks (objects memory) in
+      let lead : Bool = all_lead memory start 0 paths in
+      let a = and_parts (eqb (length paths) (object_count memory)) (is_marked marks start && (closed && lead)) h in
+      let b = and_parts (is_marked marks start) (closed && lead) a.1 in
+      let c = and_parts closed lead b.1 in
+      record {
+        sized = length-map paths is_some ∙ eqb-true _ _ a.0;
+        has_start = b.0;
+        closed = IsClosed-from_test memory start marks c.0;
+        reached = λ index m.
+            let found = all_lead_at memory start 0 paths index c.1 m in
+            let same : 0 + index ≡ index = omega arith in
+            record { path = found.0; leads = subst (Leads (graph_from start memory) start found.0) same found.1 };
+      }
 
--- the same of the object at the special address, if there is one
-is_tracing_from_some-true : (memory : Memory) (special : Option ℕ) (paths : List (Option (List ℕ))) → find memory memory.special ≡ special → is_tracing_from_some memory special paths ≡ true → IsReachability memory (marks_of paths)
-is_tracing_from_some-true memory None paths e h = absurd cc
-is_tracing_from_some-true memory (Some start) paths e h =
-    record {
-      start = start;
-      is_special = e;
-      reached = MarksReachable-from_tracing (graph_from start memory) (marks_of paths) (is_tracing_from-true memory start paths h);
-    }
+  -- the same of the object at the special address, if there is one
+  is_tracing_from_some-true : (special : Option ℕ) (paths : List (Option (List ℕ)))
+      → find memory memory.special ≡ special → is_tracing_from_some special paths ≡ true
+      → IsReachability memory (marks_of paths)
+  is_tracing_from_some-true None paths e h = absurd cc
+  is_tracing_from_some-true (Some start) paths e h =
+      let tracing = is_tracing_from-true start paths h in
+      record {
+        start = start;
+        is_special = e;
+        reached = MarksReachable-from_tracing (graph_from start memory) (marks_of paths) tracing;
+      }
 
--- an address that passes has an object
-some_start : (memory : Memory) (special : Option ℕ) (paths : List (Option (List ℕ))) → is_tracing_from_some memory special paths ≡ true → IsSome special
-some_start memory None paths h = absurd cc
-some_start memory (Some start) paths h = refl
+  -- an address that passes has an object
+  some_start : (special : Option ℕ) (paths : List (Option (List ℕ))) → is_tracing_from_some special paths ≡ true
+      → IsSome special
+  some_start None paths h = absurd cc
+  some_start (Some start) paths h = refl
 
--- the objects that have a path are the reachable ones
-pub is_tracing-true : (memory : Memory) (paths : List (Option (List ℕ))) → is_tracing memory paths ≡ true → IsReachability memory (marks_of paths)
-is_tracing-true memory paths h =
-    is_tracing_from_some-true memory (find memory memory.special) paths refl h
+  -- the objects that have a path are the reachable ones
+  pub is_tracing-true : (paths : List (Option (List ℕ))) → is_tracing paths ≡ true
+      → IsReachability memory (marks_of paths)
+  is_tracing-true paths h = is_tracing_from_some-true (find memory memory.special) paths refl h
 
--- and there is an object at the special address
-pub is_tracing-special : (memory : Memory) (paths : List (Option (List ℕ))) → is_tracing memory paths ≡ true → IsSome (find memory memory.special)
-is_tracing-special memory paths h = some_start memory (find memory memory.special) paths h
+  -- and there is an object at the special address
+  pub is_tracing-special : (paths : List (Option (List ℕ))) → is_tracing paths ≡ true
+      → IsSome (find memory memory.special)
+  is_tracing-special paths h = some_start (find memory memory.special) paths h
