@@ -1,5 +1,7 @@
 -- What the words of a chunk say of it, and when no chunk begins with some words.
-use Rattle.std.proofs.Common.{◌≡◌, ℕ, zero, suc, ◌+◌, ◌-◌, ◌/◌, ◌%◌, ◌<◌, ◌≤◌, ◌⊎◌, Bool, true, false, not, ◌&&◌, cond, eqb, ltb, List, [], ◌∷◌, ◌++◌, length, take, drop, slice_index, Option, Some, None, refl, sym, ap, subst, ◌∙◌, arith, inl, inr}
+use Rattle.std.proofs.Common.{◌≡◌, ℕ, zero, suc, ◌+◌, ◌-◌, ◌/◌, ◌%◌, ◌<◌, ◌≤◌, ◌⊎◌, Bool, true, false, not, ◌&&◌, cond, eqb, ltb}
+use Rattle.std.proofs.Common.{List, [], ◌∷◌, ◌++◌, length, take, drop, slice_index, Option, Some, None}
+use Rattle.std.proofs.Common.{refl, sym, ap, subst, ◌∙◌, arith, inl, inr}
 use Rattle.std.specs.List.{list_all}
 use Rattle.std.proofs.lemmas.Bool.{ltb-false, eqb-true, eqb-false, lt-ltb, le-ltb, eq-eqb, ne_eqb, and_parts}
 use Rattle.std.proofs.lemmas.List.{take-append-drop, length-append, length-take-le, get_or-take, take_at}
@@ -87,7 +89,8 @@ pub chunk_kind-take : (count : ℕ) (words : List ℕ) → 0 < count → chunk_k
 chunk_kind-take count words h = ap kind_of (get_or-take count words 0 0 h)
 
 -- so is the base header, where the front has it
-pub base_word-take : (count : ℕ) (words : List ℕ) → before words < count → base_word (take count words) ≡ base_word words
+pub base_word-take : (count : ℕ) (words : List ℕ)
+    → before words < count → base_word (take count words) ≡ base_word words
 base_word-take count words h =
     let some : 0 < count = omega arith in
     let same : before (take count words) ≡ before words = ap words_before (chunk_kind-take count words some) in
@@ -97,31 +100,37 @@ base_word-take count words h =
 
 -- the four tests of `chunk_fault` in its order
 faults : Bool → Bool → Bool → Bool → Option ChunkFault
-faults short same empty over = cond short (Some Overrun) (cond (not same) (Some HeaderMismatch) (cond empty (Some ZeroSize) (cond over (Some Overrun) None)))
+faults short same empty over =
+    cond short (Some Overrun)
+    (cond (not same) (Some HeaderMismatch) (cond empty (Some ZeroSize) (cond over (Some Overrun) None)))
 
 -- what they come to, by the first that applies
-no_fault : (short same empty over : Bool) → short ≡ false → same ≡ true → empty ≡ false → over ≡ false → faults short same empty over ≡ None
-unfolding faults
-no_fault short same empty over a b c d = rw (a, b, c, d) refl
+module _ (short same empty over : Bool) (a : short ≡ false) where
+  faults_mismatch : same ≡ false → faults short same empty over ≡ Some HeaderMismatch
+  unfolding faults
+  faults_mismatch b = rw (a, b) refl
 
-faults_mismatch : (short same empty over : Bool) → short ≡ false → same ≡ false → faults short same empty over ≡ Some HeaderMismatch
-unfolding faults
-faults_mismatch short same empty over a b = rw (a, b) refl
+  module _ (b : same ≡ true) where
+    faults_zero_size : empty ≡ true → faults short same empty over ≡ Some ZeroSize
+    unfolding faults
+    faults_zero_size c = rw (a, b, c) refl
 
-faults_zero_size : (short same empty over : Bool) → short ≡ false → same ≡ true → empty ≡ true → faults short same empty over ≡ Some ZeroSize
-unfolding faults
-faults_zero_size short same empty over a b c = rw (a, b, c) refl
+    module _ (c : empty ≡ false) where
+      faults_overrun : over ≡ true → faults short same empty over ≡ Some Overrun
+      unfolding faults
+      faults_overrun d = rw (a, b, c, d) refl
 
-faults_overrun : (short same empty over : Bool) → short ≡ false → same ≡ true → empty ≡ false → over ≡ true → faults short same empty over ≡ Some Overrun
-unfolding faults
-faults_overrun short same empty over a b c d = rw (a, b, c, d) refl
+      no_fault : over ≡ false → faults short same empty over ≡ None
+      unfolding faults
+      no_fault d = rw (a, b, c, d) refl
 
 -- a fault is not none
 some_is_none : (f : ChunkFault) → Some f ≡ None → ⊥
 some_is_none f e = cc
 
 -- which tests have failed where there is no fault
-no_fault_parts : (short same empty over : Bool) → faults short same empty over ≡ None → (short ≡ false) × (same ≡ true) × (empty ≡ false) × (over ≡ false)
+no_fault_parts : (short same empty over : Bool)
+    → faults short same empty over ≡ None → (short ≡ false) × (same ≡ true) × (empty ≡ false) × (over ≡ false)
 unfolding faults
 no_fault_parts true same empty over e = absurd (some_is_none Overrun e)
 no_fault_parts false false empty over e = absurd (some_is_none HeaderMismatch e)
@@ -175,44 +184,50 @@ HasRoom-from_no_fault words e =
 pub fault_of_short_header : (words : List ℕ) → length words ≤ before words → chunk_fault words ≡ Some Overrun
 fault_of_short_header words h = rw (lt-ltb (length words) (before words + 1) (omega arith)) refl
 
--- header words of several types
-pub fault_of_types : (words : List ℕ) → before words < length words → is_of_one_type words ≡ false → chunk_fault words ≡ Some HeaderMismatch
-unfolding faults
-fault_of_types words lt types =
-    faults_mismatch
-    (ltb (length words) (before words + 1))
-    (is_of_one_type words)
-    (eqb (stated_size (chunk_kind words) words) 0)
-    (ltb (length words) (stated_length words))
-    (le-ltb _ _ (omega arith))
-    types
+module _ (words : List ℕ) (lt : before words < length words) where
+  has_header : ltb (length words) (before words + 1) ≡ false
+  has_header = le-ltb _ _ (omega (arith, lt))
 
--- a size of no words
-pub fault_of_zero_size : (words : List ℕ) → before words < length words → is_of_one_type words ≡ true → stated_size (chunk_kind words) words ≡ 0 → chunk_fault words ≡ Some ZeroSize
-unfolding faults
-fault_of_zero_size words lt types zero_size =
-    faults_zero_size
-    (ltb (length words) (before words + 1))
-    (is_of_one_type words)
-    (eqb (stated_size (chunk_kind words) words) 0)
-    (ltb (length words) (stated_length words))
-    (le-ltb _ _ (omega arith))
-    types
-    (eq-eqb _ _ zero_size)
+  -- header words of several types
+  pub fault_of_types : is_of_one_type words ≡ false → chunk_fault words ≡ Some HeaderMismatch
+  unfolding faults
+  fault_of_types types =
+      faults_mismatch
+      (ltb (length words) (before words + 1))
+      (is_of_one_type words)
+      (eqb (stated_size (chunk_kind words) words) 0)
+      (ltb (length words) (stated_length words))
+      has_header
+      types
 
--- more words stated than there are
-pub fault_of_overrun : (words : List ℕ) → before words < length words → is_of_one_type words ≡ true → 0 < stated_size (chunk_kind words) words → length words < stated_length words → chunk_fault words ≡ Some Overrun
-unfolding faults
-fault_of_overrun words lt types some long =
-    faults_overrun
-    (ltb (length words) (before words + 1))
-    (is_of_one_type words)
-    (eqb (stated_size (chunk_kind words) words) 0)
-    (ltb (length words) (stated_length words))
-    (le-ltb _ _ (omega arith))
-    types
-    (ne_eqb _ _ (λ e. omega arith))
-    (lt-ltb _ _ long)
+  module _ (types : is_of_one_type words ≡ true) where
+    -- a size of no words
+    pub fault_of_zero_size : stated_size (chunk_kind words) words ≡ 0 → chunk_fault words ≡ Some ZeroSize
+    unfolding faults
+    fault_of_zero_size zero_size =
+        faults_zero_size
+        (ltb (length words) (before words + 1))
+        (is_of_one_type words)
+        (eqb (stated_size (chunk_kind words) words) 0)
+        (ltb (length words) (stated_length words))
+        has_header
+        types
+        (eq-eqb _ _ zero_size)
+
+    -- more words stated than there are
+    pub fault_of_overrun : 0 < stated_size (chunk_kind words) words → length words < stated_length words
+        → chunk_fault words ≡ Some Overrun
+    unfolding faults
+    fault_of_overrun some long =
+        faults_overrun
+        (ltb (length words) (before words + 1))
+        (is_of_one_type words)
+        (eqb (stated_size (chunk_kind words) words) 0)
+        (ltb (length words) (stated_length words))
+        has_header
+        types
+        (ne_eqb _ _ (λ e. omega arith))
+        (lt-ltb _ _ long)
 
 -- words that begin with a chunk have room, and state its length
 pub record StatesChunk (words : List ℕ) (size : ℕ) : Type 0 where
@@ -220,29 +235,50 @@ pub record StatesChunk (words : List ℕ) (size : ℕ) : Type 0 where
   pub states : stated_length words ≡ size
 
 -- words that begin with a chunk do so
-pub states_chunk : (kind : Kind) (chunk rest : List ℕ) → IsChunkOf kind chunk → StatesChunk (chunk ++ rest) (length chunk)
+pub states_chunk : (kind : Kind) (chunk rest : List ℕ)
+    → IsChunkOf kind chunk → StatesChunk (chunk ++ rest) (length chunk)
 states_chunk Three (size ∷ class ∷ base ∷ fields) rest (a, b, c, len) =
     let more : length (fields ++ rest) ≡ length fields + length rest = length-append fields rest in
     record {
-      has_room = record { header = rw a (omega arith); one_type = rw (a, a, b, c) refl; some_size = rw a (omega arith); room = rw a (omega arith) };
+      has_room = record {
+        header = rw a (omega arith);
+        one_type = rw (a, a, b, c) refl;
+        some_size = rw a (omega arith);
+        room = rw a (omega arith);
+      };
       states = rw a (omega arith);
     }
 states_chunk Two (class ∷ base ∷ fields) rest (a, b, len) =
     let more : length (fields ++ rest) ≡ length fields + length rest = length-append fields rest in
     record {
-      has_room = record { header = rw a (omega arith); one_type = rw (a, a, b) refl; some_size = rw a (omega arith); room = rw a (omega arith) };
+      has_room = record {
+        header = rw a (omega arith);
+        one_type = rw (a, a, b) refl;
+        some_size = rw a (omega arith);
+        room = rw a (omega arith);
+      };
       states = rw a (omega arith);
     }
 states_chunk Free (free ∷ fields) rest (a, len) =
     let more : length (fields ++ rest) ≡ length fields + length rest = length-append fields rest in
     record {
-      has_room = record { header = rw a (omega arith); one_type = rw (a, a) refl; some_size = rw a (omega arith); room = rw a (omega arith) };
+      has_room = record {
+        header = rw a (omega arith);
+        one_type = rw (a, a) refl;
+        some_size = rw a (omega arith);
+        room = rw a (omega arith);
+      };
       states = rw a (omega arith);
     }
 states_chunk Short (base ∷ fields) rest (a, len) =
     let more : length (fields ++ rest) ≡ length fields + length rest = length-append fields rest in
     record {
-      has_room = record { header = rw a (omega arith); one_type = rw (a, a) refl; some_size = rw a (omega arith); room = rw a (omega arith) };
+      has_room = record {
+        header = rw a (omega arith);
+        one_type = rw (a, a) refl;
+        some_size = rw a (omega arith);
+        room = rw a (omega arith);
+      };
       states = rw a (omega arith);
     }
 states_chunk _ _ rest h = absurd h
@@ -252,30 +288,37 @@ pub no_fault_at_chunk : (kind : Kind) (chunk rest : List ℕ) → IsChunkOf kind
 no_fault_at_chunk kind chunk rest h = no_fault_with_room (chunk ++ rest) (states_chunk kind chunk rest h).has_room
 
 -- the same of a front that is a chunk
-pub no_fault_at_prefix : (kind : Kind) (count : ℕ) (words : List ℕ) → IsChunkOf kind (take count words) → chunk_fault words ≡ None
+pub no_fault_at_prefix : (kind : Kind) (count : ℕ) (words : List ℕ)
+    → IsChunkOf kind (take count words) → chunk_fault words ≡ None
 no_fault_at_prefix kind count words h =
     rw take-append-drop at (no_fault_at_chunk kind (take count words) (drop count words) h)
 
 -- words that begin with a chunk state its length
-pub stated_length-append : (kind : Kind) (chunk rest : List ℕ) → IsChunkOf kind chunk → stated_length (chunk ++ rest) ≡ length chunk
+pub stated_length-append : (kind : Kind) (chunk rest : List ℕ)
+    → IsChunkOf kind chunk → stated_length (chunk ++ rest) ≡ length chunk
 stated_length-append kind chunk rest h = (states_chunk kind chunk rest h).states
 
 -- the same of a front that is a chunk
-pub stated_length_at_prefix : (kind : Kind) (count : ℕ) (words : List ℕ) → IsChunkOf kind (take count words) → stated_length words ≡ length (take count words)
+pub stated_length_at_prefix : (kind : Kind) (count : ℕ) (words : List ℕ)
+    → IsChunkOf kind (take count words) → stated_length words ≡ length (take count words)
 stated_length_at_prefix kind count words h =
-    subst (λ (w : List ℕ). stated_length w ≡ length (take count words)) (take-append-drop count words) (stated_length-append kind (take count words) (drop count words) h)
+    subst (λ (w : List ℕ). stated_length w ≡ length (take count words)) (take-append-drop count words)
+    (stated_length-append kind (take count words) (drop count words) h)
 
 -- where something is wrong, no chunk begins
-pub no_chunk_at_fault : (words : List ℕ) (fault : ChunkFault) → chunk_fault words ≡ Some fault → (count : ℕ) → IsChunk (take count words) → ⊥
+pub no_chunk_at_fault : (words : List ℕ) (fault : ChunkFault)
+    → chunk_fault words ≡ Some fault → (count : ℕ) → IsChunk (take count words) → ⊥
 no_chunk_at_fault words fault e count (kind, h) =
     some_is_none fault (sym e ∙ no_fault_at_prefix kind count words h)
 
 -- the reason is enough for `HasNoChunk`
-pub HasNoChunk-from_fault : (words : List ℕ) (fault : ChunkFault) → chunk_fault words ≡ Some fault → HasNoChunk words fault
+pub HasNoChunk-from_fault : (words : List ℕ) (fault : ChunkFault)
+    → chunk_fault words ≡ Some fault → HasNoChunk words fault
 HasNoChunk-from_fault words fault e = record { none = no_chunk_at_fault words fault e; reason = e }
 
 -- two chunks at the front of some words are one
-pub chunk_prefix_unique : (words : List ℕ) (m n : ℕ) → m ≤ length words → n ≤ length words → IsChunk (take m words) → IsChunk (take n words) → m ≡ n
+pub chunk_prefix_unique : (words : List ℕ) (m n : ℕ)
+    → m ≤ length words → n ≤ length words → IsChunk (take m words) → IsChunk (take n words) → m ≡ n
 chunk_prefix_unique words m n hm hn (j, a) (k, b) =
     sym (length-take-le m words hm)
     ∙ sym (stated_length_at_prefix j m words a)
@@ -283,7 +326,8 @@ chunk_prefix_unique words m n hm hn (j, a) (k, b) =
     ∙ length-take-le n words hn
 
 -- two chunks with which one list begins are one
-pub chunk_front_unique : (chunk rest other more : List ℕ) → IsChunk chunk → IsChunk other → chunk ++ rest ≡ other ++ more → chunk ≡ other
+pub chunk_front_unique : (chunk rest other more : List ℕ)
+    → IsChunk chunk → IsChunk other → chunk ++ rest ≡ other ++ more → chunk ≡ other
 chunk_front_unique chunk rest other more (j, a) (k, b) e =
     let same : length other ≡ length chunk =
     sym (stated_length-append k other more b)
@@ -296,12 +340,19 @@ chunk_front_unique chunk rest other more (j, a) (k, b) e =
 
 -- ---- the chunk that words with no fault begin with
 
+-- a chunk of these parts
+abbrev chunk_of : Kind → ℕ → ℕ → ℕ → Chunk
+chunk_of k a m x = record { kind = k; before = a; length = m; base = x }
+
 -- the first word's type is that of the kind
-type_from_kind : (kind : Kind) (words : List ℕ) → chunk_kind words ≡ kind → header_type (slice_index words 0) ≡ type_of kind
+type_from_kind : (kind : Kind) (words : List ℕ)
+    → chunk_kind words ≡ kind → header_type (slice_index words 0) ≡ type_of kind
 type_from_kind kind words e = sym (type_of-kind_of (slice_index words 0)) ∙ ap type_of e
 
 -- the front of that length, of each kind, where the header is there
-chunk_from : (kind : Kind) (words : List ℕ) → header_type (slice_index words 0) ≡ type_of kind → words_before kind < length words → HasRoom words → IsChunkOf kind (take (stated_length words) words)
+chunk_from : (kind : Kind) (words : List ℕ)
+    → header_type (slice_index words 0) ≡ type_of kind → words_before kind < length words → HasRoom words
+    → IsChunkOf kind (take (stated_length words) words)
 chunk_from Three (size ∷ class ∷ base ∷ rest) a lt h =
     let types : (eqb (class % 4) 0 && (eqb (base % 4) 0 && true)) ≡ true = rw (a, a) at h.one_type in
     let some : 0 < size / 4 = rw a at h.some_size in
@@ -338,7 +389,8 @@ chunk_from Short (base ∷ rest) a lt h =
 chunk_from _ _ a lt h = absurd (omega arith)
 
 -- words with no fault begin with a chunk of their kind, of the stated length
-pub is_chunk_with_no_fault : (words : List ℕ) → chunk_fault words ≡ None → IsChunkOf (chunk_kind words) (take (stated_length words) words)
+pub is_chunk_with_no_fault : (words : List ℕ)
+    → chunk_fault words ≡ None → IsChunkOf (chunk_kind words) (take (stated_length words) words)
 is_chunk_with_no_fault words e =
     let h = HasRoom-from_no_fault words e in
     chunk_from (chunk_kind words) words (type_from_kind (chunk_kind words) words refl) h.header h
@@ -348,7 +400,8 @@ pub stated_length_within : (words : List ℕ) → chunk_fault words ≡ None →
 stated_length_within words e = (HasRoom-from_no_fault words e).room
 
 -- so they begin with the chunk that their header states
-pub BeginsWith-from_no_fault : (words : List ℕ) → chunk_fault words ≡ None → BeginsWith words (record { kind = chunk_kind words; before = before words; length = stated_length words; base = base_word words })
+pub BeginsWith-from_no_fault : (words : List ℕ) → chunk_fault words ≡ None
+    → BeginsWith words (chunk_of (chunk_kind words) (before words) (stated_length words) (base_word words))
 BeginsWith-from_no_fault words e =
     let h = HasRoom-from_no_fault words e in
     let lt : before words < stated_length words = let some = h.some_size in omega arith in
@@ -362,31 +415,41 @@ BeginsWith-from_no_fault words e =
 -- ---- the header that words begin with
 
 -- equal parts make one chunk
-same_chunk : {k l : Kind} {a b m n x y : ℕ} → k ≡ l → a ≡ b → m ≡ n → x ≡ y → let one : Chunk = record { kind = k; before = a; length = m; base = x } in one ≡ record { kind = l; before = b; length = n; base = y }
+same_chunk : {k l : Kind} {a b m n x y : ℕ} → k ≡ l → a ≡ b → m ≡ n → x ≡ y
+    → chunk_of k a m x ≡ chunk_of l b n y
 same_chunk p q r s = cc
 
 -- it describes the chunk that they begin with
-pub BeginsWith-description : (words : List ℕ) (chunk : Chunk) (size : ℕ) → BeginsWith words chunk → size ≤ length words → IsChunk (take size words) → chunk ≡ description (take size words)
+pub BeginsWith-description : (words : List ℕ) (chunk : Chunk) (size : ℕ)
+    → BeginsWith words chunk → size ≤ length words → IsChunk (take size words) → chunk ≡ description (take size words)
 BeginsWith-description words chunk size begins le is_chunk =
     let same : chunk.length ≡ size =
     chunk_prefix_unique words chunk.length size begins.inside le (chunk.kind, begins.is_chunk) is_chunk in
     let kind : chunk_kind (take chunk.length words) ≡ chunk.kind =
     chunk_kind_is chunk.kind (take chunk.length words) begins.is_chunk in
     subst (λ (n : ℕ). chunk ≡ description (take n words)) same
-    (same_chunk (sym kind) (begins.before ∙ ap words_before (sym kind)) (sym (length-take-le chunk.length words begins.inside)) begins.base)
+    (same_chunk (sym kind) (begins.before ∙ ap words_before (sym kind))
+    (sym (length-take-le chunk.length words begins.inside)) begins.base)
 
 -- ---- what a header that is read word by word says
 
--- the type of the first header word is told by any front of them
-one_type-take : (words : List ℕ) (count : ℕ) → 0 < count → list_all (λ word. eqb (header_type word) (header_type (slice_index (take count words) 0))) (take count words) ≡ list_all (λ word. eqb (header_type word) (header_type (slice_index words 0))) (take count words)
-one_type-take words count some =
-    ap (λ (first : ℕ). list_all (λ word. eqb (header_type word) (header_type first)) (take count words)) (get_or-take count words 0 0 some)
+-- whether these words have the type of this one
+abbrev have_type_of : ℕ → List ℕ → Bool
+have_type_of first header = list_all (λ word. eqb (header_type word) (header_type first)) header
 
 -- whether the header words have one type, as it is read from so many of them
 abbrev pub has_one_type : List ℕ → Bool
-has_one_type header = list_all (λ word. eqb (header_type word) (header_type (slice_index header 0))) header
+has_one_type header = have_type_of (slice_index header 0) header
 
-module _ (words : List ℕ) (kind : Kind) (count : ℕ) (kind_is : kind ≡ kind_of (slice_index words 0)) (count_is : count ≡ words_before kind) where
+-- the type of the first header word is told by any front of them
+one_type-take : (words : List ℕ) (count : ℕ) → 0 < count
+    → has_one_type (take count words) ≡ have_type_of (slice_index words 0) (take count words)
+one_type-take words count some =
+    ap (λ (first : ℕ). have_type_of first (take count words)) (get_or-take count words 0 0 some)
+
+module _ (words : List ℕ) (kind : Kind) (count : ℕ)
+    (kind_is : kind ≡ kind_of (slice_index words 0))
+    (count_is : count ≡ words_before kind) where
   before_is : before words ≡ count
   before_is = sym (count_is ∙ ap words_before kind_is)
 
@@ -397,13 +460,17 @@ module _ (words : List ℕ) (kind : Kind) (count : ℕ) (kind_is : kind ≡ kind
   types_are : has_one_type (take (count + 1) words) ≡ is_of_one_type words
   types_are =
       one_type-take words (count + 1) (omega arith)
-      ∙ ap (λ (n : ℕ). list_all (λ word. eqb (header_type word) (header_type (slice_index words 0))) (take (n + 1) words)) (sym before_is)
+      ∙ ap (λ (n : ℕ). have_type_of (slice_index words 0) (take (n + 1) words)) (sym before_is)
 
-  pub HasNoChunk-mixed_header : count + 1 ≤ length words → has_one_type (take (count + 1) words) ≡ false → HasNoChunk words HeaderMismatch
+  pub HasNoChunk-mixed_header : count + 1 ≤ length words → has_one_type (take (count + 1) words) ≡ false
+      → HasNoChunk words HeaderMismatch
   HasNoChunk-mixed_header room mixed =
-      HasNoChunk-from_fault words HeaderMismatch (fault_of_types words (omega (arith, before_is)) (sym types_are ∙ mixed))
+      HasNoChunk-from_fault words HeaderMismatch
+      (fault_of_types words (omega (arith, before_is)) (sym types_are ∙ mixed))
 
-  module _ (size : ℕ) (room : count + 1 ≤ length words) (one : has_one_type (take (count + 1) words) ≡ true) (size_is : size ≡ size_stated kind (slice_index words 0) (slice_index words count)) where
+  module _ (size : ℕ) (room : count + 1 ≤ length words)
+      (one : has_one_type (take (count + 1) words) ≡ true)
+      (size_is : size ≡ size_stated kind (slice_index words 0) (slice_index words count)) where
     size_is_stated : stated_size (chunk_kind words) words ≡ size
     size_is_stated =
         ap (λ (i : ℕ). size_stated (chunk_kind words) (slice_index words 0) (slice_index words i)) before_is
@@ -418,9 +485,11 @@ module _ (words : List ℕ) (kind : Kind) (count : ℕ) (kind_is : kind ≡ kind
     pub HasNoChunk-overrun : 0 < size → length words < count + size → HasNoChunk words Overrun
     HasNoChunk-overrun some long =
         HasNoChunk-from_fault words Overrun
-        (fault_of_overrun words (omega (arith, before_is)) (sym types_are ∙ one) (omega (arith, size_is_stated)) (omega (arith, before_is, size_is_stated)))
+        (fault_of_overrun words (omega (arith, before_is)) (sym types_are ∙ one)
+        (omega (arith, size_is_stated)) (omega (arith, before_is, size_is_stated)))
 
-    pub BeginsWith-stated : 0 < size → count + size ≤ length words → BeginsWith words (record { kind = kind; before = count; length = count + size; base = slice_index words count })
+    pub BeginsWith-stated : 0 < size → count + size ≤ length words
+        → BeginsWith words (chunk_of kind count (count + size) (slice_index words count))
     BeginsWith-stated some inside =
         let has_room : HasRoom words =
         record {
@@ -430,5 +499,6 @@ module _ (words : List ℕ) (kind : Kind) (count : ℕ) (kind_is : kind ≡ kind
           room = omega (arith, before_is, size_is_stated);
         } in
         subst (BeginsWith words)
-        (same_chunk (sym kind_is) before_is (omega (arith, before_is, size_is_stated)) (ap (λ (i : ℕ). slice_index words i) before_is))
+        (same_chunk (sym kind_is) before_is (omega (arith, before_is, size_is_stated))
+        (ap (λ (i : ℕ). slice_index words i) before_is))
         (BeginsWith-from_no_fault words (no_fault_with_room words has_room))

@@ -1,5 +1,6 @@
 -- The data of an image as one chunk after another, and where that stops.
-use Rattle.std.specs.Prelude.{◌≡◌, ℕ, ◌+◌, ◌/◌, ◌<◌, ◌==◌, Bool, nat_lt, if◌then◌else◌, List, length, take, drop, slice_index, Option, Some, None, not}
+use Rattle.std.specs.Prelude.{◌≡◌, ℕ, ◌+◌, ◌/◌, ◌<◌, ◌==◌, Bool, nat_lt, not, if◌then◌else◌}
+use Rattle.std.specs.Prelude.{List, length, take, drop, slice_index, Option, Some, None}
 use Rattle.std.specs.List.{concat, AllByRecursion, list_all}
 use Rattle.sqz_object.specs.declared.chunk.Kind.{Kind}
 use Rattle.sqz_object.specs.declared.chunk.Kind.TheVariants.{Three, Two, Free, Short}
