@@ -21,14 +21,17 @@ cut_step (word ∷ chunk) rest times h =
     rw (front, back) refl
 
 -- any chunks are what their words are cut into
-cut_at_most-concat : (chunks : List (List ℕ)) (times : ℕ) → AllByRecursion IsChunk chunks → length (concat chunks) ≤ times → cut_at_most times (concat chunks) ≡ chunks
+cut_at_most-concat : (chunks : List (List ℕ)) (times : ℕ)
+    → AllByRecursion IsChunk chunks → length (concat chunks) ≤ times → cut_at_most times (concat chunks) ≡ chunks
 cut_at_most-concat [] zero all le = refl
 cut_at_most-concat [] (suc times) all le = refl
 cut_at_most-concat (chunk ∷ chunks) zero all le =
     absurd (omega (arith, length-append chunk (concat chunks), length-chunk chunk all.0))
 cut_at_most-concat (chunk ∷ chunks) (suc times) all le =
     cut_step chunk (concat chunks) times all.0
-    ∙ ap (λ (rest : List (List ℕ)). chunk ∷ rest) (cut_at_most-concat chunks times all.1 (omega (arith, length-append chunk (concat chunks), length-chunk chunk all.0)))
+    ∙ ap (λ (rest : List (List ℕ)). chunk ∷ rest)
+    (cut_at_most-concat chunks times all.1
+    (omega (arith, length-append chunk (concat chunks), length-chunk chunk all.0)))
 
 pub cut-concat : (chunks : List (List ℕ)) → AllByRecursion IsChunk chunks → cut (concat chunks) ≡ chunks
 unfolding cut

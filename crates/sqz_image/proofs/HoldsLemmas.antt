@@ -8,7 +8,12 @@ use Rattle.sqz_image.specs.Refusals.{HasChunks, Holds}
 use Rattle.sqz_image.proofs.CutLemmas.{cut-partition}
 use Rattle.sqz_image.specs.Memory.{cut}
 
-same_image : {g h : List ℕ} {o p : Order} {a b c d : ℕ} {x y : List (List ℕ)} → g ≡ h → o ≡ p → a ≡ b → c ≡ d → x ≡ y → let one : SavedImage = record { header = g; memory = record { order = o; base = a; special = c; chunks = x } } in one ≡ record { header = h; memory = record { order = p; base = b; special = d; chunks = y } }
+-- an image of these parts
+abbrev image_of : List ℕ → Order → ℕ → ℕ → List (List ℕ) → SavedImage
+image_of h o b s x = record { header = h; memory = record { order = o; base = b; special = s; chunks = x } }
+
+same_image : {g h : List ℕ} {o p : Order} {a b c d : ℕ} {x y : List (List ℕ)}
+    → g ≡ h → o ≡ p → a ≡ b → c ≡ d → x ≡ y → image_of g o a c x ≡ image_of h p b d y
 same_image q r s t u = cc
 
 pub HasChunks-unique : (file : List ℕ) (one other : SavedImage) → HasChunks file one → HasChunks file other → one ≡ other
@@ -18,7 +23,9 @@ HasChunks-unique file one other p q =
     same_image header order
     (p.base ∙ ap base_address header ∙ sym q.base)
     (p.special ∙ ap special_address header ∙ sym q.special)
-    (sym (cut-partition (data_of one.memory.order file) one.memory.chunks p.chunks) ∙ ap (λ (o : Order). cut (data_of o file)) order ∙ cut-partition (data_of other.memory.order file) other.memory.chunks q.chunks)
+    (sym (cut-partition (data_of one.memory.order file) one.memory.chunks p.chunks)
+    ∙ ap (λ (o : Order). cut (data_of o file)) order
+    ∙ cut-partition (data_of other.memory.order file) other.memory.chunks q.chunks)
 
 pub Holds-unique : (file : List ℕ) (one other : SavedImage) → Holds file one → Holds file other → one ≡ other
 Holds-unique file one other p q = HasChunks-unique file one other p.parts q.parts

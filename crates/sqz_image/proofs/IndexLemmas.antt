@@ -1,5 +1,6 @@
 -- An index that grows chunk by chunk.
-use Rattle.std.proofs.Common.{◌≡◌, ℕ, ◌+◌, ◌<◌, ◌≤◌, true, false, cond, List, [], ◌∷◌, ◌++◌, map, length, take, drop, refl, sym, ap, subst, ◌∙◌, arith, zero-add, add-zero, add_assoc}
+use Rattle.std.proofs.Common.{◌≡◌, ℕ, ◌+◌, ◌<◌, ◌≤◌, true, false, cond, List, [], ◌∷◌, ◌++◌, map, length, take, drop}
+use Rattle.std.proofs.Common.{refl, sym, ap, subst, ◌∙◌, arith, zero-add, add-zero, add_assoc}
 use Rattle.std.specs.List.{concat}
 use Rattle.std.proofs.lemmas.List.{length-append, append_assoc, append-nil, map-append, take_all, length-drop, length-take-le}
 use Rattle.sqz_object.specs.declared.chunk.Chunk.{Chunk}
@@ -31,29 +32,39 @@ moved_on-zero (object ∷ objects) =
     let same : moved_on 0 object ≡ object = rw (zero-add object.first) refl in
     rw (moved_on-zero objects) (ap (λ (o : Object). o ∷ objects) same)
 
-moved_on-moved_on : (m n : ℕ) (objects : List Object) → map (moved_on m) (map (moved_on n) objects) ≡ map (moved_on (m + n)) objects
+moved_on-moved_on : (m n : ℕ) (objects : List Object)
+    → map (moved_on m) (map (moved_on n) objects) ≡ map (moved_on (m + n)) objects
 moved_on-moved_on m n [] = refl
 moved_on-moved_on m n (object ∷ objects) =
     let same : moved_on m (moved_on n object) ≡ moved_on (m + n) object =
     ap (λ (k : ℕ). record { first = k; chunk = object.chunk }) (sym (add_assoc m n object.first)) in
     rw (moved_on-moved_on m n objects) (ap (λ (o : Object). o ∷ map (moved_on (m + n)) objects) same)
 
-pub objects_of-append : (xs ys : List (List ℕ)) → objects_of (xs ++ ys) ≡ objects_of xs ++ map (moved_on (length (concat xs))) (objects_of ys)
+pub objects_of-append : (xs ys : List (List ℕ))
+    → objects_of (xs ++ ys) ≡ objects_of xs ++ map (moved_on (length (concat xs))) (objects_of ys)
 objects_of-append [] ys = sym (moved_on-zero (objects_of ys))
 objects_of-append (x ∷ xs) ys =
     let own : List Object = cond (is_object x) (record { first = 0; chunk = x } ∷ []) [] in
+    let on : List Object → List Object = map (moved_on (length x)) in
     let rest = objects_of xs in
     let later = objects_of ys in
-    ap (λ (os : List Object). own ++ map (moved_on (length x)) os) (objects_of-append xs ys)
-    ∙ ap (λ (os : List Object). own ++ os) (map-append (moved_on (length x)) rest (map (moved_on (length (concat xs))) later))
-    ∙ sym (append_assoc own (map (moved_on (length x)) rest) (map (moved_on (length x)) (map (moved_on (length (concat xs))) later)))
-    ∙ ap (λ (os : List Object). (own ++ map (moved_on (length x)) rest) ++ os) (moved_on-moved_on (length x) (length (concat xs)) later ∙ ap (λ (n : ℕ). map (moved_on n) later) (sym (length-append x (concat xs))))
+    let moved = map (moved_on (length (concat xs))) later in
+    let together : on moved ≡ map (moved_on (length (concat (x ∷ xs)))) later =
+    moved_on-moved_on (length x) (length (concat xs)) later
+    ∙ ap (λ (n : ℕ). map (moved_on n) later) (sym (length-append x (concat xs))) in
+    ap (λ (os : List Object). own ++ on os) (objects_of-append xs ys)
+    ∙ ap (λ (os : List Object). own ++ os) (map-append (moved_on (length x)) rest moved)
+    ∙ sym (append_assoc own (on rest) (on moved))
+    ∙ ap (λ (os : List Object). (own ++ on rest) ++ os) together
 
-pub objects_of-push_free : (chunks : List (List ℕ)) (chunk : List ℕ) → is_object chunk ≡ false → objects_of (chunks ++ chunk ∷ []) ≡ objects_of chunks
+pub objects_of-push_free : (chunks : List (List ℕ)) (chunk : List ℕ)
+    → is_object chunk ≡ false → objects_of (chunks ++ chunk ∷ []) ≡ objects_of chunks
 objects_of-push_free chunks chunk free =
     objects_of-append chunks (chunk ∷ []) ∙ rw free (append-nil (objects_of chunks))
 
-pub objects_of-push : (chunks : List (List ℕ)) (chunk : List ℕ) → is_object chunk ≡ true → objects_of (chunks ++ chunk ∷ []) ≡ objects_of chunks ++ record { first = length (concat chunks); chunk = chunk } ∷ []
+pub objects_of-push : (chunks : List (List ℕ)) (chunk : List ℕ)
+    → is_object chunk ≡ true
+    → objects_of (chunks ++ chunk ∷ []) ≡ objects_of chunks ++ record { first = length (concat chunks); chunk = chunk } ∷ []
 objects_of-push chunks chunk used =
     objects_of-append chunks (chunk ∷ []) ∙ rw (used, add-zero) refl
 
@@ -72,9 +83,10 @@ other_is_object Short (base ∷ fields) h used = rw h.0 refl
 other_is_object Free chunk h used = absurd (used refl)
 other_is_object _ _ h used = absurd h
 
-module _ (words : List ℕ) (place : ℕ) (firsts headers : List ℕ) (so_far : IsIndexedUpTo words place firsts headers) where
+module _ {words : List ℕ} {place : ℕ} {firsts headers : List ℕ} (so_far : IsIndexedUpTo words place firsts headers) where
   -- no chunk begins at the place
-  pub HasNoPartition-at : (reason : ChunkFault) → place < length words → HasNoChunk (drop place words) reason → HasNoPartition words (refusal_of reason place)
+  pub HasNoPartition-at : (reason : ChunkFault)
+      → place < length words → HasNoChunk (drop place words) reason → HasNoPartition words (refusal_of reason place)
   HasNoPartition-at reason inside missing =
       record {
         word = place;
@@ -96,7 +108,8 @@ module _ (words : List ℕ) (place : ℕ) (firsts headers : List ℕ) (so_far : 
     inside_more = let le = begins.inside in omega (arith, so_far.inside, length-drop place words)
 
     partition_more : IsPartition (take (place + chunk.length) words) (so_far.chunks ++ here ∷ [])
-    partition_more = IsPartition-push words place chunk.length so_far.chunks so_far.partition (chunk.kind, begins.is_chunk)
+    partition_more =
+        IsPartition-push words place chunk.length so_far.chunks so_far.partition (chunk.kind, begins.is_chunk)
 
     -- a free chunk more
     pub step_free : chunk.kind ≡ Free → IsIndexedUpTo words (place + chunk.length) firsts headers
@@ -111,11 +124,15 @@ module _ (words : List ℕ) (place : ℕ) (firsts headers : List ℕ) (so_far : 
         }
 
     -- an object more
-    pub step_object : (chunk.kind ≡ Free → ⊥) → IsIndexedUpTo words (place + chunk.length) (firsts ++ place ∷ []) (headers ++ (place + chunk.before) ∷ [])
+    pub step_object : (chunk.kind ≡ Free → ⊥)
+        → IsIndexedUpTo words (place + chunk.length) (firsts ++ place ∷ []) (headers ++ (place + chunk.before) ∷ [])
     step_object used =
+        let before_it = objects_of so_far.chunks in
         let same = objects_of-push so_far.chunks here (other_is_object chunk.kind here begins.is_chunk used) in
-        let before_header : chunk.before ≡ before here = begins.before ∙ ap words_before (sym (chunk_kind_is chunk.kind here begins.is_chunk)) in
-        let at : length (concat so_far.chunks) ≡ place = ap length so_far.partition.whole ∙ length-take-le place words so_far.inside in
+        let before_header : chunk.before ≡ before here =
+        begins.before ∙ ap words_before (sym (chunk_kind_is chunk.kind here begins.is_chunk)) in
+        let at : length (concat so_far.chunks) ≡ place =
+        ap length so_far.partition.whole ∙ length-take-le place words so_far.inside in
         let object : Object = record { first = length (concat so_far.chunks); chunk = here } in
         let header : header_index object ≡ place + chunk.before = omega (arith, before_header, at) in
         record {
@@ -123,11 +140,15 @@ module _ (words : List ℕ) (place : ℕ) (firsts headers : List ℕ) (so_far : 
           chunks = so_far.chunks ++ here ∷ [];
           partition = partition_more;
           first_words =
-              ap (λ (xs : List ℕ). xs ++ place ∷ []) so_far.first_words ∙ ap (λ (n : ℕ). map (λ (o : Object). o.first) (objects_of so_far.chunks) ++ n ∷ []) (sym at)
-              ∙ sym (map-append (λ (o : Object). o.first) (objects_of so_far.chunks) (object ∷ [])) ∙ ap (λ (os : List Object). map (λ o. o.first) os) (sym same);
+              ap (λ (xs : List ℕ). xs ++ place ∷ []) so_far.first_words
+              ∙ ap (λ (n : ℕ). map (λ (o : Object). o.first) before_it ++ n ∷ []) (sym at)
+              ∙ sym (map-append (λ (o : Object). o.first) before_it (object ∷ []))
+              ∙ ap (λ (os : List Object). map (λ o. o.first) os) (sym same);
           base_headers =
-              ap (λ (xs : List ℕ). xs ++ (place + chunk.before) ∷ []) so_far.base_headers ∙ ap (λ (n : ℕ). map header_index (objects_of so_far.chunks) ++ n ∷ []) (sym header)
-              ∙ sym (map-append header_index (objects_of so_far.chunks) (object ∷ [])) ∙ ap (λ (os : List Object). map header_index os) (sym same);
+              ap (λ (xs : List ℕ). xs ++ (place + chunk.before) ∷ []) so_far.base_headers
+              ∙ ap (λ (n : ℕ). map header_index before_it ++ n ∷ []) (sym header)
+              ∙ sym (map-append header_index before_it (object ∷ []))
+              ∙ ap (λ (os : List Object). map header_index os) (sym same);
         }
 
   -- the chunks reach up to the end

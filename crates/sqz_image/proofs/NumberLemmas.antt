@@ -15,6 +15,7 @@ module _ (bound : ℕ) where
   pub NumberAtMost-some : (one : Fault) → number_of_fault one ≤ bound → NumberAtMost (Some one)
   NumberAtMost-some one le fault e = subst (λ (f : Fault). number_of_fault f ≤ bound) (same_Some one fault e) le
 
-  pub NumberAtMost-if : (test : Bool) (one : Fault) (rest : Option Fault) → number_of_fault one ≤ bound → NumberAtMost rest → NumberAtMost (cond test (Some one) rest)
+  pub NumberAtMost-if : (test : Bool) (one : Fault) (rest : Option Fault)
+      → number_of_fault one ≤ bound → NumberAtMost rest → NumberAtMost (cond test (Some one) rest)
   NumberAtMost-if true one rest le others = NumberAtMost-some one le
   NumberAtMost-if false one rest le others = others

@@ -8,17 +8,23 @@ length-concat-append [] ys = omega arith
 length-concat-append (x ∷ xs) ys =
     omega (arith, length-append x (concat (xs ++ ys)), length-append x (concat xs), length-concat-append xs ys)
 
-pub piece_more : {X : Type 0} (words : X → List ℕ) (pieces : List X) (index : ℕ) (d : X) → index < length pieces → length (concat (map words (take (index + 1) pieces))) ≡ length (concat (map words (take index pieces))) + length (words (get_or pieces index d))
-piece_more words pieces index d lt =
-    let here = words (get_or pieces index d) in
-    ap (λ (xs : List (List ℕ)). length (concat xs)) (map_more words pieces index d lt)
-    ∙ length-concat-append (map words (take index pieces)) (here ∷ [])
-    ∙ ap (λ (n : ℕ). length (concat (map words (take index pieces))) + n) (omega (arith, length-append here []))
+module _ {X : Type 0} (words : X → List ℕ) (pieces : List X) (index : ℕ) where
+  -- how many words some pieces have together
+  abbrev count_in : List X → ℕ
+  count_in xs = length (concat (map words xs))
 
-pub pieces_within : {X : Type 0} (words : X → List ℕ) (pieces : List X) (index : ℕ) → length (concat (map words (take index pieces))) ≤ length (concat (map words pieces))
-pieces_within {X} words pieces index =
-    let whole : length (concat (map words pieces)) ≡ length (concat (map words (take index pieces))) + length (concat (map words (drop index pieces))) =
-    ap (λ (xs : List X). length (concat (map words xs))) (sym (take-append-drop index pieces))
-    ∙ ap (λ (xs : List (List ℕ)). length (concat xs)) (map-append words (take index pieces) (drop index pieces))
-    ∙ length-concat-append (map words (take index pieces)) (map words (drop index pieces)) in
-    omega arith
+  pub piece_more : (d : X) → index < length pieces
+      → count_in (take (index + 1) pieces) ≡ count_in (take index pieces) + length (words (get_or pieces index d))
+  piece_more d lt =
+      let here = words (get_or pieces index d) in
+      ap (λ (xs : List (List ℕ)). length (concat xs)) (map_more words pieces index d lt)
+      ∙ length-concat-append (map words (take index pieces)) (here ∷ [])
+      ∙ ap (λ (n : ℕ). count_in (take index pieces) + n) (omega (arith, length-append here []))
+
+  pub pieces_within : count_in (take index pieces) ≤ count_in pieces
+  pieces_within =
+      let whole : count_in pieces ≡ count_in (take index pieces) + count_in (drop index pieces) =
+      ap (λ (xs : List X). count_in xs) (sym (take-append-drop index pieces))
+      ∙ ap (λ (xs : List (List ℕ)). length (concat xs)) (map-append words (take index pieces) (drop index pieces))
+      ∙ length-concat-append (map words (take index pieces)) (map words (drop index pieces)) in
+      omega (arith, whole)

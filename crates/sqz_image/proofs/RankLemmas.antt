@@ -1,8 +1,12 @@
 -- The table of ranks, as far as it was filled, and what a look into it says.
-use Rattle.std.proofs.Common.{◌≡◌, ◌≢◌, ℕ, suc, ◌+◌, ◌-◌, ◌*◌, ◌/◌, ◌%◌, ◌^◌, ◌<◌, ◌≤◌, List, [], ◌++◌, length, take, set, replicate, slice_index, count_ones, bit_and, bit_or, Some, None, refl, sym, ap, ◌∙◌, arith, inl, inr, below_more}
+use Rattle.std.proofs.Common.{◌≡◌, ◌≢◌, ℕ, suc, ◌+◌, ◌-◌, ◌*◌, ◌/◌, ◌%◌, ◌^◌, ◌<◌, ◌≤◌, List, [], ◌++◌, length}
+use Rattle.std.proofs.Common.{take, set, replicate, slice_index, count_ones, bit_and, bit_or, Some, None, refl}
+use Rattle.std.proofs.Common.{sym, ap, ◌∙◌, arith, inl, inr, below_more}
 use Rattle.std.specs.Int.{bit_at}
 use Rattle.std.proofs.lemmas.Bool.{cases_eq, cases_lt, cases_order}
-use Rattle.std.proofs.lemmas.List.{take_all, length-append, length-replicate, length-set, get_or-set_same, get_or-set_other, get_or_append_left, get_or-append_right, get_or-replicate, get_or_past}
+use Rattle.std.proofs.lemmas.List.{take_all, length-append, length-replicate, length-set, get_or-set_same}
+use Rattle.std.proofs.lemmas.List.{get_or-set_other, get_or_append_left, get_or-append_right, get_or-replicate}
+use Rattle.std.proofs.lemmas.List.{get_or_past}
 use Rattle.std.proofs.lemmas.Nat.{pow-add, and_mask, or_shifted, or_comm, one_shl, ones_cat, ones_le_self, mod_low}
 use Rattle.std.specs.Int.Count.{ones-ones}
 use Rattle.std.proofs.lemmas.Nat.Bits.{and_pow, bit_at-lt, bit_at-zero, bit_at_above, bit_at_cat_low, bit_at_cat_high}
@@ -52,7 +56,8 @@ member_inside blocks x is =
       | inl lt ↦ lt
       | inr past ↦
           let empty : block_of blocks x ≡ no_members = get_or_past blocks (x / 32) no_members past in
-          absurd (omega (arith, sym is, ap (λ (block : Block). bit_at block.members (x % 32)) empty, bit_at-zero (x % 32)))
+          let clear = ap (λ (block : Block). bit_at block.members (x % 32)) empty in
+          absurd (omega (arith, sym is, clear, bit_at-zero (x % 32)))
     ]
 
 -- ---- the numbers so far
@@ -92,7 +97,9 @@ IsFilled-empty numbers =
 
 -- ---- the next number
 
-module _ (numbers : List ℕ) (count : ℕ) (blocks : List Block) (ranked : IsRanked numbers count blocks) (rising : IsAbove numbers count (slice_index numbers count)) where
+module _ (numbers : List ℕ) (count : ℕ) (blocks : List Block)
+    (ranked : IsRanked numbers count blocks)
+    (rising : IsAbove numbers count (slice_index numbers count)) where
   abbrev next : ℕ
   next = slice_index numbers count
 
@@ -125,7 +132,8 @@ module _ (numbers : List ℕ) (count : ℕ) (blocks : List Block) (ranked : IsRa
     member_before x lt is =
         elim (cases_eq (x / 32) (next / 32)) [
           | inl same ↦
-              let kept : bit_at (with_bit bit old.members) (x % 32) ≡ bit_at old.members (x % 32) = bit_at_cat_low 1 bit old.members (x % 32) (omega arith) in
+              let kept : bit_at (with_bit bit old.members) (x % 32) ≡ bit_at old.members (x % 32) =
+              bit_at_cat_low 1 bit old.members (x % 32) (omega arith) in
               rw (here x same) (kept ∙ rw (as_before x same) at is)
           | inr other ↦ rw (elsewhere x other) is
         ]
@@ -134,7 +142,8 @@ module _ (numbers : List ℕ) (count : ℕ) (blocks : List Block) (ranked : IsRa
     rank_before x lt =
         elim (cases_eq (x / 32) (next / 32)) [
           | inl same ↦
-              let kept : with_bit bit old.members % 2 ^ (x % 32) ≡ old.members % 2 ^ (x % 32) = mod-with_bit bit old.members (x % 32) (omega arith) in
+              let kept : with_bit bit old.members % 2 ^ (x % 32) ≡ old.members % 2 ^ (x % 32) =
+              mod-with_bit bit old.members (x % 32) (omega arith) in
               rw (here x same, as_before x same) (ap (λ (n : ℕ). old.below + count_ones n) kept)
           | inr other ↦ rw (elsewhere x other) refl
         ]
@@ -143,7 +152,9 @@ module _ (numbers : List ℕ) (count : ℕ) (blocks : List Block) (ranked : IsRa
     member_next = rw (here next refl) (bit_at-with_bit bit old.members ready.above)
 
     rank_next : rank more next ≡ count
-    rank_next = rw (here next refl) (ap (λ (n : ℕ). old.below + count_ones n) (mod_low 1 bit old.members ready.above) ∙ ready.counted)
+    rank_next =
+        rw (here next refl)
+        (ap (λ (n : ℕ). old.below + count_ones n) (mod_low 1 bit old.members ready.above) ∙ ready.counted)
 
     abbrev IsPlaced : ℕ → Type 0
     IsPlaced x = (i : ℕ) × (i < count + 1) × (slice_index numbers i ≡ x)
@@ -158,8 +169,12 @@ module _ (numbers : List ℕ) (count : ℕ) (blocks : List Block) (ranked : IsRa
               let marked : bit_at (with_bit bit old.members) (x % 32) ≡ 1 = rw (here x same) at is in
               elim (cases_order (x % 32) bit) [
                 | inl equal ↦ (count, omega arith, omega (arith, same, equal))
-                | inr (inl lower) ↦ one_of_more x (rw (as_before x same) (sym (bit_at_cat_low 1 bit old.members (x % 32) lower) ∙ marked))
-                | inr (inr upper) ↦ absurd (omega (arith, marked, bit_at-with_bit_above bit old.members (x % 32) ready.above upper))
+                | inr (inl lower) ↦
+                    let before = sym (bit_at_cat_low 1 bit old.members (x % 32) lower) ∙ marked in
+                    one_of_more x (rw (as_before x same) before)
+                | inr (inr upper) ↦
+                    let clear = bit_at-with_bit_above bit old.members (x % 32) ready.above upper in
+                    absurd (omega (arith, marked, clear))
               ]
           | inr other ↦ one_of_more x (rw (elsewhere x other) at is)
         ]
@@ -179,16 +194,27 @@ module _ (numbers : List ℕ) (count : ℕ) (blocks : List Block) (ranked : IsRa
     IsFilled-set =
         record {
           ranked = record {
-            member = below_more (λ i. IsMember more (slice_index numbers i)) count (λ i lt. member_before (slice_index numbers i) (rising i lt) (ranked.member i lt)) member_next;
-            place = below_more (λ i. rank more (slice_index numbers i) ≡ i) count (λ i lt. rank_before (slice_index numbers i) (rising i lt) ∙ ranked.place i lt) rank_next;
+            member =
+                below_more (λ i. IsMember more (slice_index numbers i)) count
+                (λ i lt. member_before (slice_index numbers i) (rising i lt) (ranked.member i lt)) member_next;
+            place =
+                below_more (λ i. rank more (slice_index numbers i) ≡ i) count
+                (λ i lt. rank_before (slice_index numbers i) (rising i lt) ∙ ranked.place i lt) rank_next;
             only = only_more;
           };
-          reach = λ x above. let later : next < x = above count (omega arith) in omega (arith, later, length-set blocks (next / 32) new, ready.last);
+          reach = λ x above.
+              let later : next < x = above count (omega arith) in
+              omega (arith, later, length-set blocks (next / 32) new, ready.last);
           ready = ready_more;
         }
 
     -- as the code writes the block
-    pub IsFilled-or : (block : Block) → block ≡ old → IsFilled numbers (count + 1) (set blocks (next / 32) record { members = bit_or block.members (1 * 2 ^ (next % 32) % 2 ^ 32); below = block.below })
+    abbrev with_next : Block → Block
+    with_next block =
+        record { members = bit_or block.members (1 * 2 ^ (next % 32) % 2 ^ 32); below = block.below }
+
+    pub IsFilled-or : (block : Block) → block ≡ old
+        → IsFilled numbers (count + 1) (set blocks (next / 32) (with_next block))
     IsFilled-or block is =
         rw (is, or_bit bit old.members (omega arith) ready.above) IsFilled-set
 
@@ -224,11 +250,16 @@ module _ (numbers : List ℕ) (count : ℕ) (blocks : List Block) (ranked : IsRa
               absurd (omega (arith, none, bit_at-zero (x % 32)))
         ]
 
+    as_it_was : (i : ℕ) → i < count
+        → block_of longer (slice_index numbers i) ≡ block_of blocks (slice_index numbers i)
+    as_it_was i lt =
+        before_longer (slice_index numbers i) (member_inside blocks (slice_index numbers i) (ranked.member i lt))
+
     longer_ranked : IsRanked numbers count longer
     longer_ranked =
         record {
-          member = λ i lt. let is = ranked.member i lt in rw (before_longer (slice_index numbers i) (member_inside blocks (slice_index numbers i) is)) is;
-          place = λ i lt. rw (before_longer (slice_index numbers i) (member_inside blocks (slice_index numbers i) (ranked.member i lt))) (ranked.place i lt);
+          member = λ i lt. rw (as_it_was i lt) (ranked.member i lt);
+          place = λ i lt. rw (as_it_was i lt) (ranked.place i lt);
           only = λ x is. ranked.only x (member_longer x is);
         }
 
@@ -243,15 +274,20 @@ module _ (numbers : List ℕ) (count : ℕ) (blocks : List Block) (ranked : IsRa
 
     pub IsAwaiting-longer : IsAwaiting numbers count (take (next / 32 + 1) blocks ++ replicate added empty)
     IsAwaiting-longer =
-        rw (take_all (next / 32 + 1) blocks (omega (arith, absent))) (record { ranked = longer_ranked; ready = longer_ready })
+        rw (take_all (next / 32 + 1) blocks (omega (arith, absent)))
+        (record { ranked = longer_ranked; ready = longer_ready })
 
-pub IsAwaiting-filled : (numbers : List ℕ) (count : ℕ) (blocks : List Block) → IsFilled numbers count blocks → IsAbove numbers count (slice_index numbers count) → slice_index numbers count / 32 < length blocks → IsAwaiting numbers count blocks
+pub IsAwaiting-filled : (numbers : List ℕ) (count : ℕ) (blocks : List Block)
+    → IsFilled numbers count blocks → IsAbove numbers count (slice_index numbers count)
+    → slice_index numbers count / 32 < length blocks
+    → IsAwaiting numbers count blocks
 IsAwaiting-filled numbers count blocks filled rising inside =
     record { ranked = filled.ranked; ready = filled.ready (slice_index numbers count) rising inside }
 
 -- ---- a look into the table
 
-module _ (numbers : List ℕ) (blocks : List Block) (ranked : IsRanked numbers (length numbers) blocks) (x : ℕ) where
+module _ (numbers : List ℕ) (blocks : List Block)
+    (ranked : IsRanked numbers (length numbers) blocks) (x : ℕ) where
   module _ (block : Block) (there : block ≡ block_of blocks x) where
     abbrev mask : ℕ
     mask = 1 * 2 ^ (x % 32) % 2 ^ 32
@@ -265,23 +301,29 @@ module _ (numbers : List ℕ) (blocks : List Block) (ranked : IsRanked numbers (
     pub no_bit : bit_and block.members mask ≡ 0 → IsPlaceOf numbers x None
     no_bit clear i lt is =
         let marked : bit_at block.members (x % 32) ≡ 1 = rw there (rw is at (ranked.member i lt)) in
-        let product : bit_at block.members (x % 32) * 2 ^ (x % 32) ≡ 1 * 2 ^ (x % 32) = ap (λ (n : ℕ). n * 2 ^ (x % 32)) marked in
+        let product : bit_at block.members (x % 32) * 2 ^ (x % 32) ≡ 1 * 2 ^ (x % 32) =
+        ap (λ (n : ℕ). n * 2 ^ (x % 32)) marked in
         omega (arith, clear, tested, product, pow_pos (x % 32))
 
     is_member : (bit_and block.members mask ≡ 0 → ⊥) → IsMember blocks x
     is_member marked =
         elim (cases_lt (bit_at block.members (x % 32)) 1) [
           | inl none ↦
-              let clear : bit_at block.members (x % 32) * 2 ^ (x % 32) ≡ 0 * 2 ^ (x % 32) = ap (λ (n : ℕ). n * 2 ^ (x % 32)) (omega (arith, none)) in
+              let clear : bit_at block.members (x % 32) * 2 ^ (x % 32) ≡ 0 * 2 ^ (x % 32) =
+              ap (λ (n : ℕ). n * 2 ^ (x % 32)) (omega (arith, none)) in
               absurd (marked (omega (arith, tested, clear)))
-          | inr some ↦ let one : bit_at block.members (x % 32) ≡ 1 = omega (arith, some, bit_at-lt block.members (x % 32)) in rw there at one
+          | inr some ↦
+              let one : bit_at block.members (x % 32) ≡ 1 = omega (arith, some, bit_at-lt block.members (x % 32)) in
+              rw there at one
         ]
 
     rank_is : block.below + count_ones (bit_and block.members (mask - 1)) ≡ rank blocks x
     rank_is = rw (mask_is, and_mask block.members (x % 32), there) refl
 
-    pub with_bit_place : (bit_and block.members mask ≡ 0 → ⊥) → IsPlaceOf numbers x (Some (block.below + count_ones (bit_and block.members (mask - 1))))
+    pub with_bit_place : (bit_and block.members mask ≡ 0 → ⊥)
+        → IsPlaceOf numbers x (Some (block.below + count_ones (bit_and block.members (mask - 1))))
     with_bit_place marked =
         let found = ranked.only x (is_member marked) in
-        let place : block.below + count_ones (bit_and block.members (mask - 1)) ≡ found.0 = rank_is ∙ ap (rank blocks) (sym found.2) ∙ ranked.place found.0 found.1 in
+        let place : block.below + count_ones (bit_and block.members (mask - 1)) ≡ found.0 =
+        rank_is ∙ ap (rank blocks) (sym found.2) ∙ ranked.place found.0 found.1 in
         rw place (found.1, found.2)

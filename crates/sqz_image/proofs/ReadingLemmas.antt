@@ -1,5 +1,7 @@
 -- From a file to its image and back.
-use Rattle.std.proofs.Common.{◌≡◌, ◌⊎◌, ℕ, ◌+◌, ◌*◌, ◌/◌, ◌%◌, ◌^◌, ◌<◌, ◌≤◌, Bool, true, false, not, ◌||◌, cond, eqb, ltb, List, length, take, drop, slice_index, Option, Some, None, refl, sym, ap, subst, ◌∙◌, arith, inl, inr}
+use Rattle.std.proofs.Common.{◌≡◌, ◌⊎◌, ℕ, ◌+◌, ◌*◌, ◌/◌, ◌%◌, ◌^◌, ◌<◌, ◌≤◌, Bool, true, false, not, ◌||◌}
+use Rattle.std.proofs.Common.{cond, eqb, ltb, List, length, take, drop, slice_index, Option, Some, None, refl}
+use Rattle.std.proofs.Common.{sym, ap, subst, ◌∙◌, arith, inl, inr}
 use Rattle.std.proofs.lemmas.Option.{none-some}
 use Rattle.std.proofs.lemmas.Bool.{eqb-true, ltb-false, cases_lt}
 use Rattle.std.proofs.lemmas.List.{length-drop, length-take, get_or-take, get_or_past}
@@ -8,7 +10,8 @@ use Rattle.sqz_object.specs.Bytes.{words_of}
 use Rattle.sqz_object.specs.Partition.{IsPartition}
 use Rattle.sqz_object.proofs.WordLemmas.{length-words_of, words_of-lt}
 use Rattle.sqz_image.specs.declared.fault.Fault.{Fault}
-use Rattle.sqz_image.specs.declared.fault.Fault.TheVariants.{TooShort, BadVersion, BadHeaderSize, BadDataSize, BadBase, Truncated, OutOfMemory}
+use Rattle.sqz_image.specs.declared.fault.Fault.TheVariants.{TooShort, BadVersion, BadHeaderSize, BadDataSize}
+use Rattle.sqz_image.specs.declared.fault.Fault.TheVariants.{BadBase, Truncated, OutOfMemory}
 use Rattle.sqz_image.specs.File.{header_size, order_of, header_of, stated_header_size, data_size, base_address, special_address, data_of}
 use Rattle.sqz_image.specs.Objects.{SavedImage}
 use Rattle.sqz_image.specs.Refusals.{header_fault, fault_in_order, file_fault, HasChunks, Holds, IsUnreadable}
@@ -17,9 +20,12 @@ use Rattle.sqz_image.specs.Memory.{IsMemory, IsWholeMemory, IsNoMemory}
 
 -- the tests of a header in their order
 faults : Bool → Bool → Bool → Bool → Option Fault
-faults size multiple base room = cond (not size) (Some BadHeaderSize) (cond (not multiple) (Some BadDataSize) (cond base (Some BadBase) (cond room (Some Truncated) None)))
+faults size multiple base room =
+    cond (not size) (Some BadHeaderSize)
+    (cond (not multiple) (Some BadDataSize) (cond base (Some BadBase) (cond room (Some Truncated) None)))
 
-no_fault_parts : (size multiple base room : Bool) → faults size multiple base room ≡ None → (size ≡ true) × (multiple ≡ true) × (base ≡ false) × (room ≡ false)
+no_fault_parts : (size multiple base room : Bool)
+    → faults size multiple base room ≡ None → (size ≡ true) × (multiple ≡ true) × (base ≡ false) × (room ≡ false)
 unfolding faults
 no_fault_parts false multiple base room e = absurd (none-some BadHeaderSize (sym e))
 no_fault_parts true false base room e = absurd (none-some BadDataSize (sym e))
@@ -58,14 +64,16 @@ IsSoundHeader-from_no_fault header bytes e =
       room = ltb-false _ _ parts.3;
     }
 
-in_order_parts : (file : List ℕ) (found : Option Order) (order : Order) → found ≡ Some order → fault_in_order found file ≡ None → header_fault (header_of order file) (length file) ≡ None
+in_order_parts : (file : List ℕ) (found : Option Order) (order : Order)
+    → found ≡ Some order → fault_in_order found file ≡ None → header_fault (header_of order file) (length file) ≡ None
 in_order_parts file found order is e = ap (λ (o : Option Order). fault_in_order o file) (sym is) ∙ e
 
 long_enough : (short : Bool) (rest : Option Fault) → cond short (Some TooShort) rest ≡ None → rest ≡ None
 long_enough true rest e = absurd (none-some TooShort (sym e))
 long_enough false rest e = e
 
-pub sound_header : (file : List ℕ) (order : Order) → file_fault file ≡ None → order_of file ≡ Some order → IsSoundHeader (header_of order file) (length file)
+pub sound_header : (file : List ℕ) (order : Order)
+    → file_fault file ≡ None → order_of file ≡ Some order → IsSoundHeader (header_of order file) (length file)
 sound_header file order sound is =
     IsSoundHeader-from_no_fault (header_of order file) (length file)
     (in_order_parts file (order_of file) order is (long_enough (ltb (length file) header_size) (fault_in_order (order_of file) file) sound))
@@ -84,7 +92,10 @@ pub record HasBounds (words : List ℕ) (base : ℕ) : Type 0 where
   pub within : base + 4 * length words ≤ 2 ^ 32
   pub aligned : base % 4 ≡ 0
 
-module _ (file header : List ℕ) (order : Order) (sound : file_fault file ≡ None) (begins : order_of file ≡ Some order) (is_header : header ≡ header_of order file) where
+module _ (file header : List ℕ) (order : Order)
+    (sound : file_fault file ≡ None)
+    (begins : order_of file ≡ Some order)
+    (is_header : header ≡ header_of order file) where
   sound_words : IsSoundHeader header (length file)
   sound_words = subst (λ (h : List ℕ). IsSoundHeader h (length file)) (sym is_header) (sound_header file order sound begins)
 
@@ -98,10 +109,14 @@ module _ (file header : List ℕ) (order : Order) (sound : file_fault file ≡ N
 
   pub data_bounds : ((i : ℕ) → slice_index file i < 256) → HasBounds (data_of order file) (base_address header)
   data_bounds bytes =
-      let fits : data_size header < 2 ^ 32 = rw is_header (words_of-lt order (take header_size file) (front_fits file header_size bytes) 2) in
+      let fits : data_size header < 2 ^ 32 =
+      rw is_header (words_of-lt order (take header_size file) (front_fits file header_size bytes) 2) in
       let bytes_of_data = take (data_size header) (drop header_size file) in
-      let size : length bytes_of_data ≡ data_size header = length-take (data_size header) (drop header_size file) ∙ (omega (arith, length-drop header_size file, data_inside)) in
-      let words : length (data_of order file) ≡ data_size header / 4 = ap length (sym data_is) ∙ length-words_of order bytes_of_data ∙ ap (λ (n : ℕ). n / 4) size in
+      let size : length bytes_of_data ≡ data_size header =
+      length-take (data_size header) (drop header_size file)
+      ∙ omega (arith, length-drop header_size file, data_inside) in
+      let words : length (data_of order file) ≡ data_size header / 4 =
+      ap length (sym data_is) ∙ length-words_of order bytes_of_data ∙ ap (λ (n : ℕ). n / 4) size in
       let m = sound_words.multiple in
       let w = sound_words.within in
       record {
@@ -112,7 +127,8 @@ module _ (file header : List ℕ) (order : Order) (sound : file_fault file ≡ N
 
   -- the image of a memory of the data
   module _ (image : SavedImage) (same : image.header ≡ header) where
-    pub HasChunks-memory : IsMemory order (base_address header) (special_address header) (data_of order file) image.memory → HasChunks file image
+    pub HasChunks-memory : IsMemory order (base_address header) (special_address header) (data_of order file) image.memory
+        → HasChunks file image
     HasChunks-memory is =
         let order_is = is.in_order in
         record {
@@ -121,14 +137,19 @@ module _ (file header : List ℕ) (order : Order) (sound : file_fault file ≡ N
           header = same ∙ is_header ∙ ap (λ (o : Order). header_of o file) (sym order_is);
           base = is.begins ∙ ap base_address (sym same);
           special = is.special_address ∙ ap special_address (sym same);
-          chunks = subst (λ (w : List ℕ). IsPartition w image.memory.chunks) (ap (λ (o : Order). data_of o file) (sym order_is)) is.partition;
+          chunks =
+              subst (λ (w : List ℕ). IsPartition w image.memory.chunks)
+              (ap (λ (o : Order). data_of o file) (sym order_is)) is.partition;
         }
 
-    pub Holds-memory : IsWholeMemory order (base_address header) (special_address header) (data_of order file) image.memory → Holds file image
+    pub Holds-memory : IsWholeMemory order (base_address header) (special_address header) (data_of order file) image.memory
+        → Holds file image
     Holds-memory is = record { parts = HasChunks-memory is.is_memory; special = is.found }
 
   -- why the data are no memory is why the file holds no image
-  pub IsUnreadable-memory : (fault : Fault) → IsNoMemory order (base_address header) (special_address header) (data_of order file) fault → IsUnreadable file fault
+  pub IsUnreadable-memory : (fault : Fault)
+      → IsNoMemory order (base_address header) (special_address header) (data_of order file) fault
+      → IsUnreadable file fault
   IsUnreadable-memory fault (inl unreadable) =
       inr (inl record { sound = sound; order = order; in_order = begins; unreadable = unreadable })
   IsUnreadable-memory fault (inr lacks) =
@@ -140,7 +161,8 @@ module _ (file header : List ℕ) (order : Order) (sound : file_fault file ≡ N
       })
 
   -- the same of a call that may be refused memory, too
-  pub refused-memory : (fault : Fault) → (fault ≡ OutOfMemory) ⊎ IsNoMemory order (base_address header) (special_address header) (data_of order file) fault
+  pub refused-memory : (fault : Fault)
+      → (fault ≡ OutOfMemory) ⊎ IsNoMemory order (base_address header) (special_address header) (data_of order file) fault
       → ((fault ≡ OutOfMemory) × (file_fault file ≡ None)) ⊎ IsUnreadable file fault
   refused-memory fault (inl none) = inl (none, sound)
   refused-memory fault (inr missing) = inr (IsUnreadable-memory fault missing)

@@ -25,10 +25,13 @@ module _ (old now new : SourceState) (file piece : List ℕ) (turns : ℕ) (so_f
       ((file, Consumes-kept old.left now.left new.left file so_far.bytes read.1), inr (refl, inl read.0))
 
   -- the last turn was taken
-  pub ReadStops-limit : (result : Result ℕ DeviceFault) → IsRead now new piece result → turns + 1 ≡ turn_limit → ReadStops old new ReadFailed
+  pub ReadStops-limit : (result : Result ℕ DeviceFault)
+      → IsRead now new piece result → turns + 1 ≡ turn_limit → ReadStops old new ReadFailed
   ReadStops-limit (Ok count) read all =
-      let at_limit = counted_more read.4 ∙ ap (count_after old.reads) all in
-      ((file ++ take count piece, Consumes-trans old.left now.left new.left file (take count piece) so_far.bytes read.3), inr (refl, inr (subst (MeetsLimit old.reads) (sym at_limit) (MeetsLimit-all old.reads))))
+      let at_limit = counted_more read.4 ∙ ap (count_after old.reads) all in (
+        (file ++ take count piece, Consumes-trans old.left now.left new.left file (take count piece) so_far.bytes read.3),
+        inr (refl, inr (subst (MeetsLimit old.reads) (sym at_limit) (MeetsLimit-all old.reads))),
+      )
   ReadStops-limit (Err fault) read all = ReadStops-failed fault read
 
   -- there is no memory for what was read

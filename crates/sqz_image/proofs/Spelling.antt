@@ -1,5 +1,6 @@
 -- Words and the bytes that spell them.
-use Rattle.std.proofs.Common.{◌≡◌, ℕ, ◌+◌, ◌*◌, ◌<◌, ◌≤◌, List, [], ◌∷◌, ◌++◌, append-nil, length, take, drop, get_or, map, Vec, Global, sym, ap, ◌∙◌, refl, arith}
+use Rattle.std.proofs.Common.{◌≡◌, ℕ, ◌+◌, ◌*◌, ◌<◌, ◌≤◌, List, [], ◌∷◌, ◌++◌, append-nil, length, take, drop}
+use Rattle.std.proofs.Common.{get_or, map, Vec, Global, sym, ap, ◌∙◌, refl, arith}
 use Rattle.std.specs.List.{concat}
 use Rattle.std.proofs.lemmas.List.{take_more, drop_more}
 use Rattle.std.proofs.lemmas.List.Concat.{flat_map-append}
@@ -8,7 +9,8 @@ use borrow.Rule.Slice.PartMut.{put_mid}
 use Rattle.sqz_object.specs.declared.order.Order.{Order}
 use Rattle.sqz_object.specs.Bytes.{bytes_of, spelling_of}
 
-pub spelling_of-append : (order : Order) (front rest : List ℕ) → spelling_of order (front ++ rest) ≡ spelling_of order front ++ spelling_of order rest
+pub spelling_of-append : (order : Order) (front rest : List ℕ)
+    → spelling_of order (front ++ rest) ≡ spelling_of order front ++ spelling_of order rest
 spelling_of-append order front rest = flat_map-append (bytes_of order) front rest
 
 -- one more word
@@ -37,7 +39,8 @@ abbrev pub words_in : List (Vec ℕ Global) → List ℕ
 words_in pieces = concat (map (λ v. v.items) pieces)
 
 -- from a place on: the piece there, and what follows it
-pub spelling_of-words_in : (order : Order) (pieces : List (Vec ℕ Global)) (k : ℕ) (piece : Vec ℕ Global) (words : List ℕ) → k < length pieces
+pub spelling_of-words_in : (order : Order) (pieces : List (Vec ℕ Global)) (k : ℕ) (piece : Vec ℕ Global) (words : List ℕ)
+    → k < length pieces
     → piece ≡ get_or pieces k piece → words ≡ piece.items
     → spelling_of order (words_in (drop k pieces)) ≡ spelling_of order words ++ spelling_of order (words_in (drop (k + 1) pieces))
 spelling_of-words_in order pieces k piece words inside is_piece is_words =

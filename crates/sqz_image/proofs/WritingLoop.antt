@@ -1,5 +1,6 @@
 -- A loop of writes: what it has written so far, and how it ends.
-use Rattle.std.proofs.Common.{◌≡◌, ◌≢◌, ℕ, ◌+◌, ◌-◌, ◌<◌, List, [], ◌++◌, append-nil, append_assoc, take-append-drop, length, take, drop, Ok, sym, ap, ◌∙◌, refl, inl, inr, subst, arith}
+use Rattle.std.proofs.Common.{◌≡◌, ◌≢◌, ℕ, ◌+◌, ◌-◌, ◌<◌, List, [], ◌++◌, append-nil, append_assoc, take-append-drop}
+use Rattle.std.proofs.Common.{length, take, drop, Ok, sym, ap, ◌∙◌, refl, inl, inr, subst, arith}
 use Rattle.std.proofs.lemmas.List.{take_rest}
 use Rattle.std.proofs.KnownBytes.{Appends-nil, Appends-trans}
 use Rattle.sqz_image.specs.declared.fault.Fault.{Fault}
@@ -58,9 +59,15 @@ IsSending-none state bytes turns some =
       };
     }
 
-module _ (old now : SinkState) (bytes rest : List ℕ) (turns left : ℕ) (so_far : IsSending old now bytes rest turns left) where
+-- the bytes from a place on, as a slice has them
+take-rest : (rest : List ℕ) (count : ℕ) → rest ≡ take count rest ++ take (length rest - count) (drop count rest)
+take-rest rest count = sym (ap (λ l. take count rest ++ l) (take_rest rest count) ∙ take-append-drop count rest)
+
+module _ (old now : SinkState) (bytes rest : List ℕ) (turns left : ℕ)
+    (so_far : IsSending old now bytes rest turns left) where
   module _ (new : SinkState) (piece after : List ℕ) (parts : rest ≡ piece ++ after) where
-    counted_more : (more all : ℕ) → new.writes ≡ count_after now.writes more → turns - left + more ≡ all → new.writes ≡ count_after old.writes all
+    counted_more : (more all : ℕ)
+        → new.writes ≡ count_after now.writes more → turns - left + more ≡ all → new.writes ≡ count_after old.writes all
     counted_more more all counted together =
         counted ∙ ap (λ count. count_after count more) so_far.sends.counted
         ∙ count_after-count_after old.writes (turns - left) more ∙ ap (count_after old.writes) together
@@ -72,7 +79,9 @@ module _ (old now : SinkState) (bytes rest : List ℕ) (turns left : ℕ) (so_fa
           sent = so_far.sent ++ piece;
           parts = so_far.parts ∙ ap (λ l. so_far.sent ++ l) parts ∙ sym (append_assoc so_far.sent piece after);
           sends = record {
-            bytes_added = Appends-trans old.contents now.contents new.contents so_far.sent piece so_far.sends.bytes_added sends.bytes_added;
+            bytes_added =
+                Appends-trans old.contents now.contents new.contents so_far.sent piece
+                so_far.sends.bytes_added sends.bytes_added;
             failed = sends.failed ∙ so_far.sends.failed;
             some_left = sends.some_left;
             none_won = omega arith;
@@ -87,17 +96,40 @@ module _ (old now : SinkState) (bytes rest : List ℕ) (turns left : ℕ) (so_fa
           front = so_far.sent ++ stops.front;
           rest = stops.rest ++ after;
           of_bytes =
-              so_far.parts ∙ ap (λ l. so_far.sent ++ l) (parts ∙ ap (λ l. l ++ after) stops.of_bytes ∙ append_assoc stops.front stops.rest after)
+              so_far.parts
+              ∙ ap (λ l. so_far.sent ++ l)
+              (parts ∙ ap (λ l. l ++ after) stops.of_bytes ∙ append_assoc stops.front stops.rest after)
               ∙ sym (append_assoc so_far.sent stops.front (stops.rest ++ after));
-          bytes_added = Appends-trans old.contents now.contents new.contents so_far.sent stops.front so_far.sends.bytes_added stops.bytes_added;
+          bytes_added =
+              Appends-trans old.contents now.contents new.contents so_far.sent stops.front
+              so_far.sends.bytes_added stops.bytes_added;
           named = stops.named;
           cause = elim (stops.cause) [ inl h ↦ inl h | inr h ↦ inr (counted_more left turns h (omega arith)) ];
         }
 
+  -- ---- the same of one write of all the rest
+
+  module _ (new : SinkState) (count : ℕ) (write : IsWrite now new rest (Ok count)) where
+    abbrev unsent : List ℕ
+    unsent = take (length rest - count) (drop count rest)
+
+    -- a write, after which some turns are left
+    pub IsSending-write : left - 1 ≢ 0 → IsSending old new bytes unsent turns (left - 1)
+    IsSending-write some =
+        IsSending-more new (take count rest) unsent (take-rest rest count) (left - 1)
+        (Sends-write now new rest count left write (omega arith))
+
+    -- a write in the last turn
+    pub SendStops-write : left - 1 ≡ 0 → SendStops old new bytes turns WriteFailed
+    SendStops-write last =
+        SendStops-more new rest [] (sym (append-nil rest)) WriteFailed
+        (SendStops-limit now new rest count left write (omega (arith, so_far.sends.some_left)))
+
 -- ---- the whole call
 
 -- not all was sent
-pub WriteStops-sent : (old new : SinkState) (bytes : List ℕ) (fault : Fault) → SendStops old new bytes turn_limit fault → WriteStops old new bytes fault
+pub WriteStops-sent : (old new : SinkState) (bytes : List ℕ) (fault : Fault)
+    → SendStops old new bytes turn_limit fault → WriteStops old new bytes fault
 WriteStops-sent old new bytes fault stops =
     record {
       front = stops.front;
@@ -105,24 +137,8 @@ WriteStops-sent old new bytes fault stops =
       of_bytes = stops.of_bytes;
       bytes_added = stops.bytes_added;
       named = stops.named;
-      cause = elim (stops.cause) [ inl h ↦ inl h | inr h ↦ inr (subst (MeetsLimit old.writes) (sym h) (MeetsLimit-all old.writes)) ];
+      cause = elim (stops.cause) [
+        | inl h ↦ inl h
+        | inr h ↦ inr (subst (MeetsLimit old.writes) (sym h) (MeetsLimit-all old.writes))
+      ];
     }
-
--- ---- the steps of a loop of single writes
-
--- the bytes from a place on, as a slice has them
-take-rest : (rest : List ℕ) (count : ℕ) → rest ≡ take count rest ++ take (length rest - count) (drop count rest)
-take-rest rest count = sym (ap (λ l. take count rest ++ l) (take_rest rest count) ∙ take-append-drop count rest)
-
-module _ (old now : SinkState) (bytes rest : List ℕ) (turns left : ℕ) (so_far : IsSending old now bytes rest turns left) (new : SinkState) (count : ℕ) (write : IsWrite now new rest (Ok count)) where
-  -- a write, after which some turns are left
-  pub IsSending-write : left - 1 ≢ 0 → IsSending old new bytes (take (length rest - count) (drop count rest)) turns (left - 1)
-  IsSending-write some =
-      IsSending-more old now bytes rest turns left so_far new (take count rest) (take (length rest - count) (drop count rest)) (take-rest rest count) (left - 1)
-      (Sends-write now new rest count left write (omega arith))
-
-  -- a write in the last turn
-  pub SendStops-write : left - 1 ≡ 0 → SendStops old new bytes turns WriteFailed
-  SendStops-write last =
-      SendStops-more old now bytes rest turns left so_far new rest [] (sym (append-nil rest)) WriteFailed
-      (SendStops-limit now new rest count left write (omega (arith, so_far.sends.some_left)))

@@ -1,7 +1,11 @@
 -- The number of each fault, as the documents list them.
 use Rattle.std.specs.Prelude.{ℕ}
 use Rattle.sqz_image.specs.declared.fault.Fault.{Fault}
-use Rattle.sqz_image.specs.declared.fault.Fault.TheVariants.{TooShort, BadVersion, BadHeaderSize, BadDataSize, BadBase, Truncated, ZeroSize, HeaderMismatch, Overrun, BadSpecialObjects, NoClass, BadMethod, BadContext, BadPointer, OutOfMemory, ReadFailed, WriteFailed, BadWorkers, BadCut, BadWeak, NoNil}
+use Rattle.sqz_image.specs.declared.fault.Fault.TheVariants.{TooShort, BadVersion, BadHeaderSize, BadDataSize}
+use Rattle.sqz_image.specs.declared.fault.Fault.TheVariants.{BadBase, Truncated, ZeroSize, HeaderMismatch, Overrun}
+use Rattle.sqz_image.specs.declared.fault.Fault.TheVariants.{BadSpecialObjects, NoClass, BadMethod, BadContext}
+use Rattle.sqz_image.specs.declared.fault.Fault.TheVariants.{BadPointer, OutOfMemory, ReadFailed, WriteFailed}
+use Rattle.sqz_image.specs.declared.fault.Fault.TheVariants.{BadWorkers, BadCut, BadWeak, NoNil}
 
 abbrev pub number_of_fault : Fault → ℕ
 number_of_fault TooShort = 1

@@ -13,13 +13,20 @@ there c =
 
 pub returns-then-block-bit-eq0 : goal.returns-then-block-bit-eq0
 returns-then-block-bit-eq0 c =
-    λ numbers ranked. no_bit numbers c.args.blocks.now ranked c.args.number c.in_ok-block.field-0.now (there (goal.at.returns-then-block-bit-eq0 c).In_ok-block) c.if-block-bit-eq0.true
+    let is = there (goal.at.returns-then-block-bit-eq0 c).In_ok-block in
+    λ numbers ranked.
+    no_bit numbers c.args.blocks.now ranked c.args.number c.in_ok-block.field-0.now is c.if-block-bit-eq0.true
 
 pub overflow_add-result : goal.overflow_add-result
 overflow_add-result c =
-    let place = with_bit_place c.requires.numbers c.args.blocks.now c.requires.ranked c.args.number c.in_ok-block.field-0.now (there (goal.at.overflow_add-result c).In_ok-block) c.if-block-bit-eq0.false in
+    let is = there (goal.at.overflow_add-result c).In_ok-block in
+    let place =
+    with_bit_place c.requires.numbers c.args.blocks.now c.requires.ranked c.args.number
+    c.in_ok-block.field-0.now is c.if-block-bit-eq0.false in
     omega (arith, place.0, c.requires.few)
 
 pub returns : goal.returns
 returns c =
-    λ numbers ranked. with_bit_place numbers c.args.blocks.now ranked c.args.number c.in_ok-block.field-0.now (there (goal.at.returns c).In_ok-block) c.if-block-bit-eq0.false
+    let is = there (goal.at.returns c).In_ok-block in
+    λ numbers ranked.
+    with_bit_place numbers c.args.blocks.now ranked c.args.number c.in_ok-block.field-0.now is c.if-block-bit-eq0.false

@@ -20,14 +20,20 @@ loop-place-preserved c =
     let awaiting : IsAwaiting numbers count blocks =
     elim c.if-len-block.branch [
       | then-len-block+in_ok-resize w ↦
-          rw (w.blocks-is, w.in_ok-resize.ensures.items, c.loop-place.blocks.ok.0) (IsAwaiting-longer numbers count before c.loop-place.invariant.ranked rising (omega (arith, w.if-len-block.true, size)))
+          rw (w.blocks-is, w.in_ok-resize.ensures.items, c.loop-place.blocks.ok.0)
+          (IsAwaiting-longer numbers count before c.loop-place.invariant.ranked rising
+          (omega (arith, w.if-len-block.true, size)))
       | else-len-block w ↦
-          rw w.blocks-is (IsAwaiting-filled numbers count before c.loop-place.invariant rising (omega (arith, w.if-len-block.false, size)))
+          rw w.blocks-is
+          (IsAwaiting-filled numbers count before c.loop-place.invariant rising
+          (omega (arith, w.if-len-block.false, size)))
     ] in
     let last = c.index_mut.result.now in
-    IsFilled-or numbers count blocks awaiting.ranked rising awaiting.ready last (get_or_read blocks (next / 32) last (omega (arith, awaiting.ready.last)) c.index_mut.ensures.value _)
+    IsFilled-or numbers count blocks awaiting.ranked rising awaiting.ready last
+    (get_or_read blocks (next / 32) last (omega (arith, awaiting.ready.last)) c.index_mut.ensures.value _)
 
 pub returns : goal.returns
 returns c =
-    let whole : c.loop-place.place ≡ length c.args.numbers.now = omega (arith, c.loop-place-test.false, c.loop-place.auto.place-end) in
+    let whole : c.loop-place.place ≡ length c.args.numbers.now =
+    omega (arith, c.loop-place-test.false, c.loop-place.auto.place-end) in
     subst (λ (n : ℕ). IsRanked c.args.numbers.now n c.loop-place.blocks.items) whole c.loop-place.invariant.ranked

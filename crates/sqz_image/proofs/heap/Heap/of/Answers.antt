@@ -3,22 +3,28 @@ use Rattle.sqz_image.specs.Index.{IsIndex}
 use Rattle.sqz_image.specs.Memory.{memory_of, base_headers, IsListed}
 use Rattle.sqz_image.specs.Objects.{find}
 use Rattle.sqz_image.specs.Ranks.{IsRanked}
-use Rattle.sqz_image.proofs.HeapLemmas.{listed_of, headers_of, headers_rise, few_headers, table_of, find_in_table, lacks_special_of, whole_memory_of}
+use Rattle.sqz_image.proofs.HeapLemmas.{listed_of, headers_of, headers_rise, few_headers, table_of}
+use Rattle.sqz_image.proofs.HeapLemmas.{find_in_table, lacks_special_of, whole_memory_of}
 use Rattle.sqz_image.proofs.heap.Heap.of.Goals as goal
 use Rattle.sqz_image.proofs.heap.Heap.of.Goals.{In_ok-index, In_ok-headers, After-place_at}
 
-index_is : (c : In_ok-index) → IsIndex c.args.words.items c.in_ok-index.index.firsts.items c.in_ok-index.index.headers.items
+index_is : (c : In_ok-index)
+    → IsIndex c.args.words.items c.in_ok-index.index.firsts.items c.in_ok-index.index.headers.items
 index_is c = rw c.deref.ensures.value at c.in_ok-index.ensures.index
 
-listed : (c : In_ok-index) → IsListed (memory_of c.args.order c.args.base c.args.special c.args.words.items) c.args.words.items c.in_ok-index.index.firsts.items
+listed : (c : In_ok-index)
+    → IsListed (memory_of c.args.order c.args.base c.args.special c.args.words.items) c.args.words.items c.in_ok-index.index.firsts.items
 listed c =
-    listed_of c.args.order c.args.base c.args.special c.args.words.items c.in_ok-index.index.firsts.items c.in_ok-index.index.headers.items (index_is c) c.requires.few c.requires.within c.requires.aligned
+    listed_of c.args.order c.args.base c.args.special (index_is c)
+    c.requires.few c.requires.within c.requires.aligned
 
-headers_are : (c : In_ok-index) → c.in_ok-index.index.headers.items ≡ base_headers (memory_of c.args.order c.args.base c.args.special c.args.words.items)
-headers_are c =
-    headers_of c.args.order c.args.base c.args.special c.args.words.items c.in_ok-index.index.firsts.items c.in_ok-index.index.headers.items (index_is c)
+headers_are : (c : In_ok-index)
+    → c.in_ok-index.index.headers.items ≡ base_headers (memory_of c.args.order c.args.base c.args.special c.args.words.items)
+headers_are c = headers_of c.args.order c.args.base c.args.special (index_is c)
 
-ranked : (c : In_ok-headers) → let headers = base_headers (memory_of c.args.order c.args.base c.args.special c.args.words.items) in IsRanked headers (length headers) c.in_ok-headers.headers.items
+ranked : (c : In_ok-headers)
+    → let headers = base_headers (memory_of c.args.order c.args.base c.args.special c.args.words.items) in
+    IsRanked headers (length headers) c.in_ok-headers.headers.items
 ranked c = rw (c.deref-2.ensures.value, headers_are (goal.at.In_ok-headers c).In_ok-index) at c.in_ok-headers.ensures
 
 pub ranked-requires-clause-few : goal.ranked-requires-clause-few
@@ -37,16 +43,21 @@ place_at-requires c =
     rw c.deref-3.ensures.value (table_of (listed at.In_ok-index) (ranked at.In_ok-headers))
 
 -- what the look for the special objects array says
-found : (c : After-place_at) → find (memory_of c.args.order c.args.base c.args.special c.args.words.items) c.args.special ≡ c.place_at.result
+found : (c : After-place_at)
+    → find (memory_of c.args.order c.args.base c.args.special c.args.words.items) c.args.special ≡ c.place_at.result
 found c =
     let at = goal.at.After-place_at c in
-    sym (find_in_table (listed at.In_ok-index) c.args.special c.place_at.result (ranked at.In_ok-headers) (rw c.deref-3.ensures.value at c.place_at.ensures))
+    sym
+    (find_in_table (listed at.In_ok-index) c.args.special c.place_at.result (ranked at.In_ok-headers)
+    (rw c.deref-3.ensures.value at c.place_at.ensures))
 
 pub returns-in_default-clause-refused : goal.returns-in_default-clause-refused
 returns-in_default-clause-refused c =
     let at = goal.at.returns-in_default-clause-refused c in
-    let missing = find_in_table (listed at.In_ok-index) c.args.special None (ranked at.In_ok-headers) (rw c.deref-3.ensures.value at c.in_default.ensures) in
-    inr (inr (lacks_special_of c.args.order c.args.base c.args.special c.args.words.items c.in_ok-index.index.firsts.items c.in_ok-index.index.headers.items (index_is at.In_ok-index) (sym missing)))
+    let missing =
+    find_in_table (listed at.In_ok-index) c.args.special None (ranked at.In_ok-headers)
+    (rw c.deref-3.ensures.value at c.in_default.ensures) in
+    inr (inr (lacks_special_of c.args.order c.args.base c.args.special (index_is at.In_ok-index) (sym missing)))
 
 pub invariant_of-result : goal.invariant_of-result
 invariant_of-result c =
@@ -60,5 +71,5 @@ invariant_of-result c =
 pub returns-clause-heap : goal.returns-clause-heap
 returns-clause-heap c =
     let at = goal.at.returns-clause-heap c in
-    whole_memory_of c.args.order c.args.base c.args.special c.in-Some.special_object c.args.words.items c.in_ok-index.index.firsts.items c.in_ok-index.index.headers.items (index_is at.In_ok-index)
+    whole_memory_of c.args.order c.args.base c.args.special (index_is at.In_ok-index)
     (found at.After-place_at ∙ c.in-Some.is)
