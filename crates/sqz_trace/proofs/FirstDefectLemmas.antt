@@ -1,5 +1,6 @@
 -- The first defect of all objects, from the first defects of ranges of them.
-use Rattle.std.proofs.Common.{◌≡◌, ℕ, zero, suc, ◌+◌, ◌-◌, ◌*◌, ◌<◌, ◌≤◌, min, Bool, true, false, cond, List, [], ◌∷◌, ◌++◌, map, length, Option, Some, None, refl, sym, ap, ◌∙◌, arith, inl, inr}
+use Rattle.std.proofs.Common.{◌≡◌, ℕ, zero, suc, ◌+◌, ◌-◌, ◌*◌, ◌<◌, ◌≤◌, min, Bool, true, false, cond, List, [], ◌∷◌}
+use Rattle.std.proofs.Common.{◌++◌, map, length, Option, Some, None, refl, sym, ap, ◌∙◌, arith, inl, inr}
 use Rattle.std.specs.Prelude.{slice_index_or, is_some}
 use Rattle.std.specs.Option.{option_or}
 use Rattle.std.specs.Int.{div_ceil}
@@ -15,7 +16,8 @@ use Rattle.sqz_trace.specs.Ranges.{defect_at, first_between, first_in_range}
 
 -- ---- the first of a list
 
-pub first_some-append : {X : Type 0} (xs ys : List (Option X)) → first_some (xs ++ ys) ≡ option_or (first_some xs) (first_some ys)
+pub first_some-append : {X : Type 0} (xs ys : List (Option X))
+    → first_some (xs ++ ys) ≡ option_or (first_some xs) (first_some ys)
 first_some-append [] ys = refl
 first_some-append (None ∷ xs) ys = first_some-append xs ys
 first_some-append ((Some x) ∷ xs) ys = refl
@@ -56,7 +58,8 @@ first_some-reduced {X} xs r h =
     joined : (ys zs : List (Option X)) (a b s : Option X)
         → a ≡ first_some ys → b ≡ first_some zs → s ≡ option_or a b → s ≡ first_some (ys ++ zs)
     joined ys zs a b s left right step =
-        step ∙ ap (λ first. option_or first b) left ∙ ap (option_or (first_some ys)) right ∙ sym (first_some-append ys zs)
+        step ∙ ap (λ first. option_or first b) left ∙ ap (option_or (first_some ys)) right
+        ∙ sym (first_some-append ys zs)
 
 -- ---- the first report of a range
 
@@ -76,7 +79,8 @@ module _ {X : Type 0} (report : ℕ → Option X) where
   -- a range is one part of it, and then the other
   first_between-split : (from mid to : ℕ) → from ≤ mid → mid ≤ to
       → first_between report from to ≡ option_or (first_between report from mid) (first_between report mid to)
-  first_between-split from mid to low high = split_at (mid - from) (to - mid) from mid (to - from) (omega arith) (omega arith)
+  first_between-split from mid to low high =
+      split_at (mid - from) (to - mid) from mid (to - from) (omega arith) (omega arith)
 
   pub first_between-none : (from to : ℕ) → to ≤ from → first_between report from to ≡ None
   first_between-none from to le = let none : to - from ≡ 0 = omega arith in rw none refl
@@ -94,13 +98,15 @@ module _ {X : Type 0} (report : ℕ → Option X) where
       first_between-first from to lt ∙ ap (λ first. option_or first (first_between report (from + 1) to)) none
 
   -- and otherwise it is that of the first index
-  pub first_between-found : (from to : ℕ) → from < to → is_some (report from) ≡ true → first_between report from to ≡ report from
+  pub first_between-found : (from to : ℕ)
+      → from < to → is_some (report from) ≡ true → first_between report from to ≡ report from
   first_between-found from to lt found = first_between-first from to lt ∙ option_or-some (report from) _ found
 
   module _ (width count : ℕ) where
     -- ranges one after the other, up to the count
     pub first_between-ranges : (n range : ℕ) → count ≤ (range + n) * width
-        → first_some (map (first_in_range report width count) (range_with_len range n)) ≡ first_between report (range * width) count
+        → first_some (map (first_in_range report width count) (range_with_len range n))
+        ≡ first_between report (range * width) count
     first_between-ranges zero range le = sym (first_between-none (range * width) count (omega arith))
     first_between-ranges (suc n) range le =
         let first = first_in_range report width count range in
@@ -121,7 +127,8 @@ module _ {X : Type 0} (report : ℕ → Option X) where
 
 -- ---- the marked elements of a list
 
-map-shift : {Y : Type 0} (f : ℕ → Y) (n from : ℕ) → map f (range_with_len (suc from) n) ≡ map (λ i. f (suc i)) (range_with_len from n)
+map-shift : {Y : Type 0} (f : ℕ → Y) (n from : ℕ)
+    → map f (range_with_len (suc from) n) ≡ map (λ i. f (suc i)) (range_with_len from n)
 map-shift f zero from = refl
 map-shift f (suc n) from =
     let turned : suc from + 1 ≡ suc (from + 1) = omega arith in
@@ -143,7 +150,8 @@ module _ {X Y : Type 0} (f : X → Option Y) (default : X) where
       ∙ ap (option_or (f x)) (first_some-marked marks xs (omega arith))
       ∙ sym (first_some-cons (f x) (map f (marked marks xs)))
   first_some-marked (false ∷ marks) (x ∷ xs) same =
-      ap first_some (map-shift (marked_at (false ∷ marks) (x ∷ xs)) (length xs) 0) ∙ first_some-marked marks xs (omega arith)
+      ap first_some (map-shift (marked_at (false ∷ marks) (x ∷ xs)) (length xs) 0)
+      ∙ first_some-marked marks xs (omega arith)
 
 -- what is reported of all objects is the first defect
 pub first_defect-between : (memory : Memory) (marks : List Bool) → length marks ≡ object_count memory
@@ -179,7 +187,8 @@ ranges_reach count = omega arith
 -- the first report of all ranges is the first defect
 pub first_defect-ranges : (memory : Memory) (marks : List Bool) → length marks ≡ object_count memory
     → let count = object_count memory in
-    first_some (map (first_in_range (defect_at memory marks) 4096 count) (range_with_len 0 (div_ceil count 4096))) ≡ first_defect memory marks
+    first_some (map (first_in_range (defect_at memory marks) 4096 count) (range_with_len 0 (div_ceil count 4096)))
+    ≡ first_defect memory marks
 first_defect-ranges memory marks same =
     let count = object_count memory in
     first_between-ranges (defect_at memory marks) 4096 count (div_ceil count 4096) 0 (ranges_reach count)

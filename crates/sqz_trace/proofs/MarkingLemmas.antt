@@ -1,5 +1,6 @@
 -- Marking with a worklist: what holds between two steps of it, and what that shows at its end.
-use Rattle.std.proofs.Common.{◌≡◌, ℕ, zero, suc, ◌+◌, ◌<◌, ◌⊎◌, Bool, true, false, List, [], ◌∷◌, ◌++◌, length, set, take, drop, refl, sym, ap, subst, ◌∙◌, arith, inl, inr}
+use Rattle.std.proofs.Common.{◌≡◌, ℕ, zero, suc, ◌+◌, ◌<◌, ◌⊎◌, Bool, true, false, List, [], ◌∷◌, ◌++◌, length, set}
+use Rattle.std.proofs.Common.{take, drop, refl, sym, ap, subst, ◌∙◌, arith, inl, inr}
 use Rattle.std.specs.Prelude.{replicate}
 use Rattle.std.proofs.lemmas.List.{length-set, length-append, length-replicate, get_or-set_same, take_at}
 use Rattle.sqz_trace.specs.Graph.{Graph, IsReachable, is_marked, MarksReachable}
@@ -39,7 +40,8 @@ unmarked_count-set (false ∷ marks) (suc i) lt e =
     omega (arith, rest)
 
 -- what is marked after a mark more was marked before, or got the mark
-is_marked-set : (marks : List Bool) (i j : ℕ) → is_marked (set marks i true) j ≡ true → (j ≡ i) ⊎ (is_marked marks j ≡ true)
+is_marked-set : (marks : List Bool) (i j : ℕ)
+    → is_marked (set marks i true) j ≡ true → (j ≡ i) ⊎ (is_marked marks j ≡ true)
 is_marked-set [] i j e = inr e
 is_marked-set (mark ∷ marks) zero zero e = inl refl
 is_marked-set (mark ∷ marks) zero (suc j) e = inr e
@@ -72,7 +74,8 @@ none_marked (suc count) (suc i) e = none_marked count i e
 
 module _ (IsTarget : ℕ → Type 0) (marks : List Bool) (queue : List ℕ) where
   -- nothing is to be done where the targets have their marks
-  pub MarksTargets-none : ((index : ℕ) → IsTarget index → is_marked marks index ≡ true) → MarksTargets IsTarget marks queue marks queue
+  pub MarksTargets-none : ((index : ℕ) → IsTarget index → is_marked marks index ≡ true)
+      → MarksTargets IsTarget marks queue marks queue
   MarksTargets-none have =
       record {
         sized = refl;
@@ -86,7 +89,8 @@ module _ (IsTarget : ℕ → Type 0) (marks : List Bool) (queue : List ℕ) wher
 
   -- one target without a mark gets it
   pub MarksTargets-one : (found : ℕ) → found < length marks → is_marked marks found ≡ false → IsTarget found
-      → ((index : ℕ) → IsTarget index → found ≡ index) → MarksTargets IsTarget marks queue (set marks found true) (queue ++ found ∷ [])
+      → ((index : ℕ) → IsTarget index → found ≡ index)
+      → MarksTargets IsTarget marks queue (set marks found true) (queue ++ found ∷ [])
   MarksTargets-one found in_range new is_target only_one =
       record {
         sized = length-set marks found true;
@@ -112,7 +116,8 @@ module _ (IsFirst IsSecond IsTarget : ℕ → Type 0)
     (from_first : (index : ℕ) → IsFirst index → IsTarget index)
     (from_second : (index : ℕ) → IsSecond index → IsTarget index) where
   -- some targets are marked, and then the others
-  pub MarksTargets-then : (old marks new : List Bool) (queue worklist longer : List ℕ) → MarksTargets IsFirst old queue marks worklist
+  pub MarksTargets-then : (old marks new : List Bool) (queue worklist longer : List ℕ)
+      → MarksTargets IsFirst old queue marks worklist
       → MarksTargets IsSecond marks worklist new longer → MarksTargets IsTarget old queue new longer
   MarksTargets-then old marks new queue worklist longer first second =
       record {
@@ -212,7 +217,8 @@ IsMarking-step graph object marks new rest longer marking step =
       taken = marking.sound object (marking.queued object (IsIn-back object rest (object ∷ []) (inl refl)))
 
 -- at the end the worklist is empty, and the marked objects are the reachable ones
-pub MarksReachable-from_marking : (graph : Graph) (marks : List Bool) → IsMarking graph marks [] → MarksReachable graph marks
+pub MarksReachable-from_marking : (graph : Graph) (marks : List Bool)
+    → IsMarking graph marks [] → MarksReachable graph marks
 MarksReachable-from_marking graph marks marking =
     MarksReachable-from_tracing graph marks
     (record {
@@ -228,7 +234,8 @@ MarksReachable-from_marking graph marks marking =
     })
 
 -- what stands on the worklist is an object
-pub IsMarking-inside : (graph : Graph) (marks : List Bool) (worklist : List ℕ) (index : ℕ) → IsMarking graph marks worklist
+pub IsMarking-inside : (graph : Graph) (marks : List Bool) (worklist : List ℕ) (index : ℕ)
+    → IsMarking graph marks worklist
     → IsIn index worklist → index < graph.count
 IsMarking-inside graph marks worklist index marking there =
     let lt = is_marked-in_range marks index (marking.queued index there) in

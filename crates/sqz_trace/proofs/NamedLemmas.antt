@@ -1,5 +1,6 @@
 -- The objects that the slots of an object name are marked where those that its class word and its traced fields name are.
-use Rattle.std.proofs.Common.{◌≡◌, ℕ, ◌+◌, ◌<◌, ◌≤◌, ◌⊎◌, Bool, cond, ltb, List, length, take, slice_index, Some, None, sym, ap, subst, ◌∙◌, arith, inl, inr}
+use Rattle.std.proofs.Common.{◌≡◌, ℕ, ◌+◌, ◌<◌, ◌≤◌, ◌⊎◌, Bool, cond, ltb, List, length, take, slice_index}
+use Rattle.std.proofs.Common.{Some, None, sym, ap, subst, ◌∙◌, arith, inl, inr}
 use Rattle.std.specs.Prelude.{option_and_then}
 use Rattle.std.proofs.lemmas.Option.{cond_some, option_and_then_some}
 use Rattle.std.proofs.lemmas.Bool.{cases_lt, lt-ltb, ltb-true}
@@ -20,7 +21,8 @@ module _ (memory : Memory) (words : List ℕ) (count : ℕ) where
   IsNamedNext index = named_by memory (slice_index words count) ≡ Some index
 
   -- what one word more names is named by it, or by one of those before
-  below_or_next : (index : ℕ) → IsNamedBelow memory words (count + 1) index → IsNamedBelow memory words count index ⊎ IsNamedNext index
+  below_or_next : (index : ℕ)
+      → IsNamedBelow memory words (count + 1) index → IsNamedBelow memory words count index ⊎ IsNamedNext index
   below_or_next index named =
       let below = named.below in
       elim (cases_lt named.place count) [
@@ -33,7 +35,8 @@ module _ (memory : Memory) (words : List ℕ) (count : ℕ) where
   -- the targets of some words are marked, and then that of one word more
   pub IsNamedBelow-more : (old marks new : List Bool) (queue worklist longer : List ℕ)
       → MarksTargets (IsNamedBelow memory words count) old queue marks worklist
-      → MarksTargets IsNamedNext marks worklist new longer → MarksTargets (IsNamedBelow memory words (count + 1)) old queue new longer
+      → MarksTargets IsNamedNext marks worklist new longer
+      → MarksTargets (IsNamedBelow memory words (count + 1)) old queue new longer
   IsNamedBelow-more =
       MarksTargets-then (IsNamedBelow memory words count) IsNamedNext (IsNamedBelow memory words (count + 1)) below_or_next
       (λ index named. let below = named.below in record { place = named.place; below = omega arith; names = named.names })
@@ -69,7 +72,8 @@ module _ (memory : Memory) (chunk : List ℕ) (fits : traced chunk ≤ length (f
       let k = named.place in
       let lt : k < traced chunk = omega (arith, named.below, length-take-le (traced chunk) (fields chunk) fits) in
       let word = slice_index (fields chunk) k in
-      let held : slot_word chunk (Field k) ≡ Some word = ap (λ b. cond b (Some word) None) (lt-ltb k (traced chunk) lt) in
+      let held : slot_word chunk (Field k) ≡ Some word =
+      ap (λ b. cond b (Some word) None) (lt-ltb k (traced chunk) lt) in
       ap (option_and_then (named_by memory)) held
       ∙ ap (named_by memory) (sym (get_or-take (traced chunk) (fields chunk) k 0 lt))
       ∙ named.names

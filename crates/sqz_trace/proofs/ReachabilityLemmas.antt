@@ -10,13 +10,6 @@ use Rattle.sqz_trace.specs.Reachability.{graph_from, IsReachability}
 pub record IsClosed (graph : Graph) (marks : List Bool) : Type 0 where
   pub along : (from to : ℕ) → is_marked marks from ≡ true → graph.Edge from to → is_marked marks to ≡ true
 
--- where a path begins at a marked object, its goal is marked
-pub marked_at_goal : (graph : Graph) (marks : List Bool) → IsClosed graph marks → (from : ℕ) (path : List ℕ) (goal : ℕ) → is_marked marks from ≡ true → Leads graph from path goal → is_marked marks goal ≡ true
-marked_at_goal graph marks closed from [] goal m same =
-    subst (λ (index : ℕ). is_marked marks index ≡ true) same m
-marked_at_goal graph marks closed from (next ∷ path) goal m leads =
-    marked_at_goal graph marks closed next path goal (closed.along from next m leads.0) leads.1
-
 -- the start is marked, no edge leads out of the marked objects, and a path leads to each
 pub record IsTracing (graph : Graph) (marks : List Bool) : Type 0 where
   pub sized : length marks ≡ graph.count
@@ -24,29 +17,43 @@ pub record IsTracing (graph : Graph) (marks : List Bool) : Type 0 where
   pub closed : IsClosed graph marks
   pub reached : (index : ℕ) → is_marked marks index ≡ true → IsReachable graph index
 
--- such marks are those of the reachable objects
-pub MarksReachable-from_tracing : (graph : Graph) (marks : List Bool) → IsTracing graph marks → MarksReachable graph marks
-MarksReachable-from_tracing graph marks t =
-    record {
-      sized = t.sized;
-      sound = t.reached;
-      complete = λ index r. marked_at_goal graph marks t.closed graph.start r.path index t.has_start r.leads;
-    }
+module _ (graph : Graph) where
+  -- where a path begins at a marked object, its goal is marked
+  pub marked_at_goal : (marks : List Bool) → IsClosed graph marks → (from : ℕ) (path : List ℕ) (goal : ℕ)
+      → is_marked marks from ≡ true → Leads graph from path goal → is_marked marks goal ≡ true
+  marked_at_goal marks closed from [] goal m same = subst (λ (index : ℕ). is_marked marks index ≡ true) same m
+  marked_at_goal marks closed from (next ∷ path) goal m leads =
+      marked_at_goal marks closed next path goal (closed.along from next m leads.0) leads.1
 
--- a path may go one edge further
-Leads-more : (graph : Graph) (from : ℕ) (path : List ℕ) (goal next : ℕ) → Leads graph from path goal → graph.Edge goal next → Leads graph from (path ++ next ∷ []) next
-Leads-more graph from [] goal next leads edge = (subst (λ (i : ℕ). graph.Edge i next) (sym leads) edge, refl)
-Leads-more graph from (step ∷ path) goal next leads edge = (leads.0, Leads-more graph step path goal next leads.1 edge)
+  -- the marks of a tracing are those of the reachable objects
+  pub MarksReachable-from_tracing : (marks : List Bool) → IsTracing graph marks → MarksReachable graph marks
+  MarksReachable-from_tracing marks t =
+      record {
+        sized = t.sized;
+        sound = t.reached;
+        complete = λ index r. marked_at_goal marks t.closed graph.start r.path index t.has_start r.leads;
+      }
 
--- what a reachable object has an edge to is reachable
-pub IsReachable-next : (graph : Graph) (index next : ℕ) → IsReachable graph index → graph.Edge index next → IsReachable graph next
-IsReachable-next graph index next reached edge =
-    record { path = reached.path ++ next ∷ []; leads = Leads-more graph graph.start reached.path index next reached.leads edge }
+  -- a path may go one edge further
+  Leads-more : (from : ℕ) (path : List ℕ) (goal next : ℕ) → Leads graph from path goal → graph.Edge goal next
+      → Leads graph from (path ++ next ∷ []) next
+  Leads-more from [] goal next leads edge = (subst (λ (i : ℕ). graph.Edge i next) (sym leads) edge, refl)
+  Leads-more from (step ∷ path) goal next leads edge = (leads.0, Leads-more step path goal next leads.1 edge)
 
--- no edge leads out of the reachable objects
-pub IsClosed-reachable : (graph : Graph) (marks : List Bool) → MarksReachable graph marks → IsClosed graph marks
-IsClosed-reachable graph marks reached =
-    record { along = λ from to marked edge. reached.complete to (IsReachable-next graph from to (reached.sound from marked) edge) }
+  -- what a reachable object has an edge to is reachable
+  pub IsReachable-next : (index next : ℕ) → IsReachable graph index → graph.Edge index next → IsReachable graph next
+  IsReachable-next index next reached edge =
+      record {
+        path = reached.path ++ next ∷ [];
+        leads = Leads-more graph.start reached.path index next reached.leads edge;
+      }
+
+  -- no edge leads out of the reachable objects
+  pub IsClosed-reachable : (marks : List Bool) → MarksReachable graph marks → IsClosed graph marks
+  IsClosed-reachable marks reached =
+      record {
+        along = λ from to marked edge. reached.complete to (IsReachable-next from to (reached.sound from marked) edge);
+      }
 
 same_mark : (one other : Bool) → (one ≡ true → other ≡ true) → (other ≡ true → one ≡ true) → one ≡ other
 same_mark true other f g = sym (f refl)
@@ -54,13 +61,17 @@ same_mark false true f g = g refl
 same_mark false false f g = refl
 
 -- the reachable objects have one list of marks
-pub MarksReachable-unique : (graph : Graph) (one other : List Bool) → MarksReachable graph one → MarksReachable graph other → one ≡ other
+pub MarksReachable-unique : (graph : Graph) (one other : List Bool)
+    → MarksReachable graph one → MarksReachable graph other → one ≡ other
 MarksReachable-unique graph one other p q =
     ext_get_or false one other (p.sized ∙ sym q.sized)
-    (λ index lt. same_mark (is_marked one index) (is_marked other index) (λ m. q.complete index (p.sound index m)) (λ m. p.complete index (q.sound index m)))
+    (λ index lt.
+    same_mark (is_marked one index) (is_marked other index)
+    (λ m. q.complete index (p.sound index m)) (λ m. p.complete index (q.sound index m)))
 
 -- there is one reachability of a memory
-pub IsReachability-unique : (memory : Memory) (one other : List Bool) → IsReachability memory one → IsReachability memory other → one ≡ other
+pub IsReachability-unique : (memory : Memory) (one other : List Bool)
+    → IsReachability memory one → IsReachability memory other → one ≡ other
 IsReachability-unique memory one other p q =
     let same : p.start ≡ q.start = same_Some _ _ (sym p.is_special ∙ q.is_special) in
     MarksReachable-unique (graph_from q.start memory) one other

@@ -1,5 +1,7 @@
 -- The slots of an object: the words of it that may name other objects.
-use Rattle.std.specs.Prelude.{ℕ, zero, suc, ◌+◌, ◌-◌, ◌/◌, ◌%◌, ◌^◌, ◌==◌, ◌&&◌, ◌||◌, nat_lt, nat_le, min, Bool, if◌then◌else◌, List, [], ◌∷◌, ◌++◌, length, slice_index, Option, Some, None, option_map, ℤ, pos, negsuc}
+use Rattle.std.specs.Prelude.{ℕ, zero, suc, ◌+◌, ◌-◌, ◌/◌, ◌%◌, ◌^◌, nat_lt, nat_le, min, ℤ, pos, negsuc}
+use Rattle.std.specs.Prelude.{Bool, ◌==◌, ◌&&◌, ◌||◌, if◌then◌else◌, List, [], ◌∷◌, ◌++◌, length, slice_index}
+use Rattle.std.specs.Prelude.{Option, Some, None, option_map}
 use Rattle.sqz_object.specs.declared.value.Value.{Value}
 use Rattle.sqz_object.specs.declared.value.Value.TheVariants.{Int, Pointer, Odd}
 use Rattle.sqz_object.specs.declared.chunk.Kind.{Kind}

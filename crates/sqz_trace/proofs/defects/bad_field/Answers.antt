@@ -18,9 +18,10 @@ length_is c =
     length-take-le c.traced_fields.result c.fields.result.now (omega arith) ∙ count
 
 -- and the word with an index is that of the field
-test_is : (c : After-traced_fields) (index : ℕ) →
-    index < traced c.args.object.now →
-    is_bad_value c.args.heap.now (value_of (slice_index (take c.traced_fields.result c.fields.result.now) index)) ≡ is_bad_field c.args.heap.now c.args.object.now index
+test_is : (c : After-traced_fields) (index : ℕ) → index < traced c.args.object.now
+    → let words = take c.traced_fields.result c.fields.result.now in
+    is_bad_value c.args.heap.now (value_of (slice_index words index))
+    ≡ is_bad_field c.args.heap.now c.args.object.now index
 test_is c index lt =
     let count = c.traced_fields.ensures.traced in
     let read = get_or-take c.traced_fields.result c.fields.result.now index 0 (omega arith) in

@@ -1,7 +1,8 @@
 use Rattle.std.proofs.Common.{◌∷◌, [], inl, refl, arith}
 use Rattle.std.proofs.lemmas.List.{nil_from_length}
 use Rattle.sqz_trace.specs.Reachability.{graph_from}
-use Rattle.sqz_trace.proofs.MarkingLemmas.{IsIn-back, IsMarking-start, IsMarking-step, IsMarking-inside, MarksReachable-from_marking, whole_slice}
+use Rattle.sqz_trace.proofs.MarkingLemmas.{IsIn-back, IsMarking-start, IsMarking-step, IsMarking-inside}
+use Rattle.sqz_trace.proofs.MarkingLemmas.{MarksReachable-from_marking, whole_slice}
 use Rattle.sqz_trace.proofs.marking.mark_plain.Goals as goal
 
 pub loop-object-init : goal.loop-object-init
