@@ -1,11 +1,11 @@
 -- Regions never fall along the objects, so the marked objects below a region are those below its first object.
-use Rattle.std.proofs.Common.{◌≡◌, ℕ, suc, ◌+◌, ◌<◌, ◌≤◌, Bool, true, false, cond, ltb, List, [], ◌∷◌, ◌++◌, map, filter, length, get_or, take, refl, sym, ap, arith, inl, inr}
+use Rattle.std.proofs.Common.{◌≡◌, ℕ, suc, ◌+◌, ◌<◌, ◌≤◌, Bool, true, false, cond, ltb, eqb, List, [], ◌∷◌, ◌++◌, map, filter, length, get_or, take, refl, sym, ap, ◌∙◌, arith, inl, inr}
 use Rattle.std.specs.List.{count_by}
-use Rattle.std.proofs.lemmas.Bool.{cases_lt, lt-ltb, le-ltb}
+use Rattle.std.proofs.lemmas.Bool.{cases_lt, cases_order, lt-ltb, le-ltb, eq-eqb, ne_eqb}
 use Rattle.std.proofs.lemmas.List.Sums.{sum_by-cons}
 use Rattle.sqz_object.specs.Chunk.{is_object}
 use Rattle.sqz_image.specs.Objects.{Memory, Object, objects_of, moved_on, objects, object_count}
-use Rattle.sqz_trace.specs.Live.{marked}
+use Rattle.sqz_trace.specs.Live.{marked, live}
 use Rattle.sqz_regions.proofs.RegionLemmas.{points_up_to_rises}
 use Rattle.sqz_regions.specs.Regions.{Cutting, points_up_to, region_of, region_at, objects_before}
 
@@ -66,6 +66,40 @@ module _ {X : Type 0} (f : X → ℕ) where
       rw (le-ltb (f x) bound (omega (arith, h.0))) (filter_below-none bound (f x) marks xs (omega (arith, h.0)) h.1)
   filter_below-none bound low (false ∷ marks) (x ∷ xs) le h =
       filter_below-none bound (f x) marks xs (omega (arith, h.0)) h.1
+
+  -- nor at one
+  filter_at-none : (bound low : ℕ) (marks : List Bool) (xs : List X) → bound < low → RisesFrom f low xs
+      → filter (λ x. eqb (f x) bound) (marked marks xs) ≡ []
+  filter_at-none bound low [] xs lt h = refl
+  filter_at-none bound low (true ∷ marks) [] lt h = refl
+  filter_at-none bound low (false ∷ marks) [] lt h = refl
+  filter_at-none bound low (true ∷ marks) (x ∷ xs) lt h =
+      rw (ne_eqb (f x) bound (λ is. absurd (omega (arith, h.0)))) (filter_at-none bound (f x) marks xs (omega (arith, h.0)) h.1)
+  filter_at-none bound low (false ∷ marks) (x ∷ xs) lt h =
+      filter_at-none bound (f x) marks xs (omega (arith, h.0)) h.1
+
+  -- the marked ones below the next bound are those below the bound, and then those at it
+  filter_below-more : (bound low : ℕ) (marks : List Bool) (xs : List X) → RisesFrom f low xs
+      → filter (λ x. ltb (f x) (bound + 1)) (marked marks xs)
+      ≡ filter (λ x. ltb (f x) bound) (marked marks xs) ++ filter (λ x. eqb (f x) bound) (marked marks xs)
+  filter_below-more bound low [] xs h = refl
+  filter_below-more bound low (true ∷ marks) [] h = refl
+  filter_below-more bound low (false ∷ marks) [] h = refl
+  filter_below-more bound low (false ∷ marks) (x ∷ xs) h = filter_below-more bound (f x) marks xs h.1
+  filter_below-more bound low (true ∷ marks) (x ∷ xs) h =
+      elim (cases_order (f x) bound) [
+        | inl is ↦
+            (let none = filter_below-none bound (f x) marks xs (omega (arith, is)) h.1 in
+            rw (lt-ltb (f x) (bound + 1) (omega (arith, is)), le-ltb (f x) bound (omega (arith, is)), eq-eqb (f x) bound is, none)
+            (ap (λ (ys : List X). x ∷ ys) (filter_below-more bound (f x) marks xs h.1 ∙ rw none refl)))
+        | inr (inl lt) ↦
+            rw (lt-ltb (f x) (bound + 1) (omega arith), lt-ltb (f x) bound lt, ne_eqb (f x) bound (λ is. absurd (omega arith)))
+            (ap (λ (ys : List X). x ∷ ys) (filter_below-more bound (f x) marks xs h.1))
+        | inr (inr gt) ↦
+            rw (le-ltb (f x) (bound + 1) (omega arith), le-ltb (f x) bound (omega arith), ne_eqb (f x) bound (λ is. absurd (omega arith)),
+            filter_below-none (bound + 1) (f x) marks xs (omega arith) h.1, filter_below-none bound (f x) marks xs (omega arith) h.1,
+            filter_at-none bound (f x) marks xs gt h.1) refl
+      ]
 
   -- the marked ones among those below a bound are those of the marked ones that are below it
   pub marked_below : (bound low : ℕ) (marks : List Bool) (xs : List X) → RisesFrom f low xs
@@ -129,3 +163,16 @@ module _ (cut : Cutting) (memory : Memory) where
   -- there are no objects before the region of the first object
   pub objects_before-first : 0 < object_count memory → objects_before cut memory (region_at cut memory 0) ≡ 0
   objects_before-first lt = count_below-first (region_of cut) 0 (objects memory) no_object (regions_rise cut memory) lt
+
+  -- the live objects of the regions up to one are those of the regions before it, and then those in it
+  pub live_below-next_region : (marks : List Bool) (region : ℕ)
+      → let next : ℕ = objects_before cut memory (region + 1) in
+      let here : ℕ = objects_before cut memory region in
+      marked (take next marks) (take next (objects memory))
+      ≡ marked (take here marks) (take here (objects memory)) ++ filter (λ object. eqb (region_of cut object) region) (live memory marks)
+  live_below-next_region marks region =
+      let rise = regions_rise cut memory in
+      marked_below (region_of cut) (region + 1) 0 marks (objects memory) rise
+      ∙ filter_below-more (region_of cut) region 0 marks (objects memory) rise
+      ∙ ap (λ (below : List Object). below ++ filter (λ object. eqb (region_of cut object) region) (live memory marks))
+      (sym (marked_below (region_of cut) region 0 marks (objects memory) rise))

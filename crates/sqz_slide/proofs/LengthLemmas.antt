@@ -1,11 +1,9 @@
 -- An object keeps its length when it moves, so that the live objects have as many words after as before.
-use Rattle.std.proofs.Common.{◌≡◌, ℕ, ◌+◌, ◌<◌, Bool, true, false, List, [], ◌∷◌, map, length, take, drop, refl, sym, ap, ◌∙◌, arith}
+use Rattle.std.proofs.Common.{◌≡◌, ℕ, ◌+◌, ◌<◌, Bool, true, false, List, [], ◌∷◌, map, length, take, drop, refl, arith}
 use Rattle.std.specs.List.{concat, AllByRecursion}
 use Rattle.std.proofs.lemmas.List.{length-append, length-map, length-drop, length-take}
 use Rattle.std.proofs.lemmas.List.Sums.{sum_by-cons}
-use Rattle.sqz_object.specs.declared.chunk.Kind.{Kind}
-use Rattle.sqz_object.specs.declared.chunk.Kind.TheVariants.{Three, Two, Free, Short}
-use Rattle.sqz_object.specs.Chunk.{IsChunk, IsChunkOf, chunk_kind, words_before, before, fields}
+use Rattle.sqz_object.specs.Chunk.{IsChunk, chunk_kind, before, fields}
 use Rattle.sqz_object.proofs.ChunkLemmas.{chunk_kind_is, chunk_has_header}
 use Rattle.sqz_image.specs.Objects.{Memory, Object, objects}
 use Rattle.sqz_image.proofs.ObjectLemmas.{objects_keep}
@@ -13,6 +11,7 @@ use Rattle.sqz_trace.specs.Slots.{traced}
 use Rattle.sqz_trace.specs.Live.{marked, live}
 use Rattle.sqz_regions.specs.Places.{words_in, live_words}
 use Rattle.sqz_slide.specs.Moved.{moved_field, moved_header, moved_fields, moved, moved_objects}
+use Rattle.sqz_slide.proofs.HeaderLemmas.{length-moved_header}
 
 abbrev size : Object → ℕ
 size object = length object.chunk
@@ -26,15 +25,6 @@ All-marked P (true ∷ marks) (x ∷ xs) h = (h.0, All-marked P marks xs h.1)
 All-marked P (false ∷ marks) (x ∷ xs) h = All-marked P marks xs h.1
 
 module _ (memory : Memory) (marks : List Bool) where
-  -- a header keeps its length
-  length-moved_header : (kind : Kind) (chunk : List ℕ) → IsChunkOf kind chunk
-      → length (moved_header memory marks kind chunk) ≡ words_before kind + 1
-  length-moved_header Three (size ∷ class ∷ base ∷ fields) h = refl
-  length-moved_header Two (class ∷ base ∷ fields) h = refl
-  length-moved_header Free (free ∷ rest) h = refl
-  length-moved_header Short (base ∷ fields) h = refl
-  length-moved_header _ _ h = absurd h
-
   -- there are as many fields after the move
   pub length-moved_fields : (chunk : List ℕ) → length (moved_fields memory marks chunk) ≡ length (fields chunk)
   length-moved_fields chunk =
@@ -47,12 +37,8 @@ module _ (memory : Memory) (marks : List Bool) where
   pub length-moved : (chunk : List ℕ) → IsChunk chunk → length (moved memory marks chunk) ≡ length chunk
   length-moved chunk (kind, h) =
       let is : chunk_kind chunk ≡ kind = chunk_kind_is kind chunk h in
-      let header : length (moved_header memory marks (chunk_kind chunk) chunk) ≡ before chunk + 1 =
-      ap (λ (k : Kind). length (moved_header memory marks k chunk)) is
-      ∙ length-moved_header kind chunk h
-      ∙ ap (λ (k : Kind). words_before k + 1) (sym is)
-      in
-      let room : before chunk < length chunk = rw is (chunk_has_header kind chunk h) in
+      let headed : before chunk < length chunk = rw is (chunk_has_header kind chunk h) in
+      let header = length-moved_header memory marks (chunk_kind chunk) chunk headed in
       let whole = length-append (moved_header memory marks (chunk_kind chunk) chunk) (moved_fields memory marks chunk) in
       omega (arith, whole, length-moved_fields chunk, length-drop (before chunk + 1) chunk)
 

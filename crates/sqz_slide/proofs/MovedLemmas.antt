@@ -1,62 +1,34 @@
 -- The words of an object after the move: its header and its fields. And the words of all live objects up to one.
-use Rattle.std.proofs.Common.{◌≡◌, ℕ, ◌+◌, ◌-◌, ◌<◌, ◌≤◌, Bool, true, false, List, [], ◌∷◌, ◌++◌, map, length, get_or, take, drop, slice_index}
-use Rattle.std.proofs.Common.{Some, refl, ap, ◌∙◌, arith}
+use Rattle.std.proofs.Common.{◌≡◌, ℕ, ◌+◌, ◌-◌, ◌<◌, ◌≤◌, Bool, true, false, List, [], ◌++◌, map, length, get_or, take, drop, slice_index}
+use Rattle.std.proofs.Common.{refl, ap, ◌∙◌, arith}
 use Rattle.std.specs.List.{concat}
 use Rattle.std.proofs.lemmas.List.{length-map, length-take-le, map_push}
 use Rattle.std.proofs.lemmas.List.{get_or-take, get_or-drop, get_or-map, get_or_append_left, get_or-append_right}
+use Rattle.std.proofs.lemmas.Bool.{eqb-true}
+use Rattle.sqz_object.specs.declared.chunk.Kind.{Kind}
 use Rattle.sqz_object.specs.declared.chunk.Kind.TheVariants.{Three, Two, Free, Short}
-use Rattle.sqz_object.specs.Chunk.{IsChunkOf, fields}
+use Rattle.sqz_object.specs.Chunk.{chunk_kind, words_before, before, fields}
 use Rattle.sqz_object.proofs.PartitionLemmas.{concat-push}
 use Rattle.sqz_image.specs.Objects.{Memory, Object, objects, object_count, object_at, chunk_words}
 use Rattle.sqz_trace.specs.Slots.{traced}
-use Rattle.sqz_trace.specs.Graph.{is_marked}
 use Rattle.sqz_trace.specs.Live.{marked}
 use Rattle.sqz_trace.proofs.SlotLemmas.{traced_inside}
-use Rattle.sqz_regions.specs.Places.{place}
 use Rattle.sqz_regions.proofs.MarkedLemmas.{marked_more_yes, marked_more_no, marked_all}
-use Rattle.sqz_slide.specs.Moved.{new_address, moved_field, moved_class, moved_header, moved_fields, moved, moved_objects}
+use Rattle.sqz_slide.specs.ClassWord.{is_class_word}
+use Rattle.sqz_slide.specs.Moved.{moved_field, moved_class, moved_header, moved_fields, moved, moved_objects}
+use Rattle.sqz_slide.proofs.HeaderLemmas.{length-moved_header, moved_header-word}
 
 abbrev no_object : Object
 no_object = record { first = 0; chunk = [] }
 
+-- the class word stands before the base header
+class_word-inside : (kind : Kind) (k : ℕ) → is_class_word kind k ≡ true → k ≤ words_before kind
+class_word-inside Three k is = omega (arith, eqb-true k 1 is)
+class_word-inside Two k is = omega (arith, eqb-true k 0 is)
+class_word-inside Free k is = absurd cc
+class_word-inside Short k is = absurd cc
+
 module _ (memory : Memory) (marks : List Bool) where
-  -- ---- one word
-
-  -- the word that names a marked object becomes its place
-  pub new_address-marked : (word index : ℕ) → is_marked marks index ≡ true
-      → new_address memory marks word (Some index) ≡ place memory marks index
-  new_address-marked word index is = rw is refl
-
-  -- the word that names an object which is not marked stays
-  pub new_address-unmarked : (word index : ℕ) → is_marked marks index ≡ false → new_address memory marks word (Some index) ≡ word
-  new_address-unmarked word index is = rw is refl
-
-  -- ---- the header words of a chunk of each kind
-
-  -- of three header words the class word changes
-  pub moved_header-three : (chunk : List ℕ) → IsChunkOf Three chunk
-      → moved_header memory marks Three chunk ≡ slice_index chunk 0 ∷ moved_class memory marks (slice_index chunk 1) ∷ slice_index chunk 2 ∷ []
-  moved_header-three (size ∷ class ∷ base ∷ fields) h = refl
-  moved_header-three _ h = absurd h
-
-  -- of two header words the class word changes
-  pub moved_header-two : (chunk : List ℕ) → IsChunkOf Two chunk
-      → moved_header memory marks Two chunk ≡ moved_class memory marks (slice_index chunk 0) ∷ slice_index chunk 1 ∷ []
-  moved_header-two (class ∷ base ∷ fields) h = refl
-  moved_header-two _ h = absurd h
-
-  -- the header word of a free chunk does not change
-  pub moved_header-free : (chunk : List ℕ) → IsChunkOf Free chunk
-      → moved_header memory marks Free chunk ≡ slice_index chunk 0 ∷ []
-  moved_header-free (free ∷ rest) h = refl
-  moved_header-free _ h = absurd h
-
-  -- one header word does not change
-  pub moved_header-short : (chunk : List ℕ) → IsChunkOf Short chunk
-      → moved_header memory marks Short chunk ≡ slice_index chunk 0 ∷ []
-  moved_header-short (base ∷ fields) h = refl
-  moved_header-short _ h = absurd h
-
   -- ---- the fields
 
   -- there are as many traced fields after the move
@@ -86,10 +58,63 @@ module _ (memory : Memory) (marks : List Bool) where
       ∙ get_or-drop (traced chunk) (fields chunk) (k - traced chunk) 0
       ∙ ap (λ (n : ℕ). get_or (fields chunk) n 0) (omega arith)
 
+  -- ---- one word of the object
+
+  -- a word of the header
+  pub moved-header_word : (chunk : List ℕ) (k : ℕ) → before chunk < length chunk → k ≤ before chunk
+      → get_or (moved memory marks chunk) k 0 ≡ get_or (moved_header memory marks (chunk_kind chunk) chunk) k 0
+  moved-header_word chunk k headed le =
+      let size = length-moved_header memory marks (chunk_kind chunk) chunk headed in
+      get_or_append_left (moved_header memory marks (chunk_kind chunk) chunk) (moved_fields memory marks chunk) 0 k (omega (arith, size))
+
+  -- a word of the fields
+  pub moved-field_word : (chunk : List ℕ) (k : ℕ) → before chunk < length chunk → before chunk < k
+      → get_or (moved memory marks chunk) k 0 ≡ get_or (moved_fields memory marks chunk) (k - (before chunk + 1)) 0
+  moved-field_word chunk k headed lt =
+      let size = length-moved_header memory marks (chunk_kind chunk) chunk headed in
+      get_or-append_right (moved_header memory marks (chunk_kind chunk) chunk) (moved_fields memory marks chunk) (before chunk + 1) k 0 size (omega arith)
+
+  -- the field is the word behind the base header's that far
+  field_word : (chunk : List ℕ) (k : ℕ) → before chunk < k → slice_index (fields chunk) (k - (before chunk + 1)) ≡ slice_index chunk k
+  field_word chunk k lt =
+      get_or-drop (before chunk + 1) chunk (k - (before chunk + 1)) 0
+      ∙ ap (λ (n : ℕ). get_or chunk n 0) (omega arith)
+
+  module _ (chunk : List ℕ) (k : ℕ) (headed : before chunk < length chunk) where
+    -- the class word
+    pub moved-class_word : is_class_word (chunk_kind chunk) k ≡ true → get_or (moved memory marks chunk) k 0 ≡ moved_class memory marks (slice_index chunk k)
+    moved-class_word is =
+        let le = class_word-inside (chunk_kind chunk) k is in
+        moved-header_word chunk k headed le
+        ∙ moved_header-word memory marks (chunk_kind chunk) chunk k headed le
+        ∙ rw is refl
+
+    -- a traced field
+    pub moved-traced_word : before chunk < k → k - before chunk ≤ traced chunk
+        → get_or (moved memory marks chunk) k 0 ≡ moved_field memory marks (slice_index chunk k)
+    moved-traced_word lt le =
+        moved-field_word chunk k headed lt
+        ∙ moved_fields_traced chunk (k - (before chunk + 1)) (omega arith)
+        ∙ ap (moved_field memory marks) (field_word chunk k lt)
+
+    -- a field that is not traced
+    pub moved-untraced_word : before chunk < k → traced chunk < k - before chunk → get_or (moved memory marks chunk) k 0 ≡ slice_index chunk k
+    moved-untraced_word lt more =
+        moved-field_word chunk k headed lt
+        ∙ moved_fields_rest chunk (k - (before chunk + 1)) (omega arith)
+        ∙ field_word chunk k lt
+
+    -- another word of the header
+    pub moved-other_word : is_class_word (chunk_kind chunk) k ≡ false → k ≤ before chunk → get_or (moved memory marks chunk) k 0 ≡ slice_index chunk k
+    moved-other_word is le =
+        moved-header_word chunk k headed le
+        ∙ moved_header-word memory marks (chunk_kind chunk) chunk k headed le
+        ∙ rw is refl
+
   -- ---- the words of the live objects below an index
 
   -- the words of an object after the move
-  abbrev words_after : Object → List ℕ
+  abbrev pub words_after : Object → List ℕ
   words_after object = moved memory marks object.chunk
 
   -- the words of the marked ones of the first objects, after the move

@@ -1,4 +1,12 @@
-//! What a live object becomes when it moves: the definitions.
-//!
-//! This crate holds no code yet: `specs/` says which words of an object change, and into what.
+//! The live objects in their new places, moved by workers that share the regions.
 #![tactic(auto)]
+
+mod moved_objects;
+mod moved_words;
+mod piece_sizes;
+mod pieces;
+mod sliding;
+
+pub use moved_words::moved_word;
+pub use pieces::Pieces;
+pub use sliding::slide;

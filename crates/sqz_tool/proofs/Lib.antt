@@ -1,4 +1,4 @@
+pub mod CompactionLemmas
 pub mod RunLemmas
-pub mod SlidingLemmas
 pub mod Uniqueness
 mod CommandLineLemmas

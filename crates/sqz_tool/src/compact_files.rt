@@ -11,6 +11,7 @@ use crate::plan::Plan;
 use crate::running::run;
 use crate::summary::Summary;
 use sqz_image::{Fault, ReadSource, Sink};
+use sqz_workers::OpenGate;
 use std::alloc::Global;
 use std::fs::File;
 use std::io::Read;
@@ -51,5 +52,5 @@ fn compact_from<T: Threads + Sync, R: Read + Drop, W: Sink>(
         × Refuses (new_source (R.remaining reader)) to (W.state sink.old) (W.state sink.new) fault) }
 {
     let mut source = ReadSource::new(reader);
-    run(rt, alloc, plan, &mut source, sink)
+    run(rt, alloc, plan, &mut source, sink, &OpenGate)
 }

@@ -1,17 +1,18 @@
 //! What is written of an image: its live objects in their new places.
 
-ghost use Rattle.std.specs.Prelude.{◌≡◌, ◌⊎◌, ◌^◌, ◌<◌, map, sum, IfOk, IfErr};
+ghost use Rattle.std.specs.Prelude.{◌≡◌, ◌⊎◌, ◌^◌, ◌<◌, sum, IfOk, IfErr};
 ghost use Rattle.std.specs.List.{AllByRecursion};
 ghost use Rattle.sqz_object.specs.Chunk.{IsChunk};
 ghost use Rattle.sqz_image.specs.declared.fault.Fault.TheVariants.{OutOfMemory};
 ghost use Rattle.sqz_tool.specs.Headline.{IsCompaction, HasDefectIn};
 
 use crate::plan::Plan;
-use crate::sliding::slide;
 use crate::summary::Summary;
 use sqz_image::{Fault, Image};
 use sqz_regions::{Forward, Regions, bases, live_words};
+use sqz_slide::{Pieces, slide};
 use sqz_trace::{first_defect, mark_plain};
+use sqz_workers::Gate;
 use std::alloc::Global;
 use std::thread::Threads;
 
@@ -21,20 +22,21 @@ pub(crate) struct Compaction {
     /// The new address of the special objects array.
     pub special: u32,
     /// The words of the live objects, in their order.
-    pub pieces: Vec<Vec<u32>>,
+    pub pieces: Pieces,
     pub summary: Summary,
 }
 
 /// The compaction of an image. Refused with the defect of the lowest reachable object that has one,
 /// else for want of memory alone.
-pub(crate) fn compaction_of(
-    rt: &(impl Threads + Sync),
+pub(crate) fn compaction_of<T: Threads + Sync, G: Gate>(
+    rt: &T,
     alloc: Global,
     plan: &Plan,
     image: &Image,
+    gate: &G,
 ) -> Result<Compaction, Fault>
     requires { AllByRecursion IsChunk image.now.memory.chunks }
-    ensures compaction { IfOk result (λ c. IsCompaction image.now c.special (map (λ piece. piece.items) c.pieces.items) c.summary) }
+    ensures compaction { IfOk result (λ c. IsCompaction image.now c.special c.pieces c.summary) }
     ensures refused { IfErr result (λ fault. (fault ≡ OutOfMemory) ⊎ HasDefectIn image.now fault) }
 {
     let heap = image.heap();
@@ -46,16 +48,14 @@ pub(crate) fn compaction_of(
     let sums = live_words(alloc, heap, &regions, &marks)?;
     let bases = bases(alloc, heap.base(), &sums)?;
     let forward = Forward::build(rt, alloc, heap, &regions, &marks, &bases)?;
-    let live = total(&sums);
-    let words = slide(alloc, heap, &marks, &forward, live)?;
+    let pieces = slide(rt, alloc, heap, &regions, &forward, plan.workers, gate)?;
     let special = forward.place(heap.special()).unwrap();
     let summary = Summary {
         objects: heap.len(),
         kept: marks.count(),
         data_before: image.header(2),
-        data_after: 4 * live,
+        data_after: 4 * total(&sums),
     };
-    let pieces = vec![in alloc; words]?;
     Ok(Compaction {
         special,
         pieces,

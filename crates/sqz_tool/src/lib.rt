@@ -12,7 +12,6 @@ mod output_file;
 mod plan;
 mod printing;
 mod running;
-mod sliding;
 mod summary;
 mod wrong_words;
 

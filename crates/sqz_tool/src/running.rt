@@ -7,6 +7,7 @@ use crate::compaction::compaction_of;
 use crate::plan::Plan;
 use crate::summary::Summary;
 use sqz_image::{Fault, Sink, Source, read_all, read_image, write_image};
+use sqz_workers::Gate;
 use std::alloc::Global;
 use std::thread::Threads;
 
@@ -18,12 +19,13 @@ use std::thread::Threads;
 /// cannot be read, then `BadSpecialObjects`, then the defect of its lowest reachable object that has one.
 /// The sink is then as it was. Refused with `WriteFailed` where the sink failed or took too little at a
 /// time: a front of the answer, perhaps all of it, then went out.
-pub fn run<T: Threads + Sync, R: Source, W: Sink>(
+pub fn run<T: Threads + Sync, R: Source, W: Sink, G: Gate>(
     rt: &T,
     alloc: Global,
     plan: &Plan,
     source: &mut R,
     sink: &mut W,
+    gate: &G,
 ) -> Result<Summary, Fault>
     ensures compacts { IfOk result (λ summary.
         Compacts (R.state source.old) (R.state source.new) (W.state sink.old) (W.state sink.new) summary) }
@@ -33,7 +35,8 @@ pub fn run<T: Threads + Sync, R: Source, W: Sink>(
     let bytes = read_all(alloc, source)?;
     let image = read_image(alloc, &bytes)?;
     drop(bytes);
-    let compaction = compaction_of(rt, alloc, plan, &image)?;
-    write_image(&image, compaction.special, &compaction.pieces, sink)?;
+    let compaction = compaction_of(rt, alloc, plan, &image, gate)?;
+    let pieces = compaction.pieces.as_slice();
+    write_image(&image, compaction.special, pieces, sink)?;
     Ok(compaction.summary)
 }

@@ -3,9 +3,11 @@
 ghost use Rattle.std.specs.Prelude.{◌<◌, length};
 
 use sqz_image::{Fault, Image, MemorySink, MemorySource, read_image};
+use sqz_marks::Workers;
 use sqz_object::{Order, put_word};
 use sqz_regions::Cut;
 use sqz_tool::{Plan, Summary, run};
+use sqz_workers::OpenGate;
 use std::alloc::{AllocError, Global};
 use std::process::Abort;
 use std::test::Fail;
@@ -42,10 +44,11 @@ pub struct Outcome {
     pub sink: MemorySink,
 }
 
-/// A plan with a region every so many words.
+/// A plan with two workers and a region every so many words.
 pub fn plan_of(words: u32) -> Result<Plan, Fault> {
+    let workers = Workers::new(2)?;
     let cut = Cut::every(words)?;
-    Ok(Plan { cut })
+    Ok(Plan { workers, cut })
 }
 
 /// A run over a file by a plan, with room for all it may write.
@@ -57,7 +60,7 @@ pub fn run_by_plan<R: Threads + Sync>(
 ) -> Result<Outcome, Fail> {
     let mut source = MemorySource::new(file, 100, None);
     let mut sink = MemorySink::new(alloc, 4096, None)?;
-    let answer = run(rt, alloc, plan, &mut source, &mut sink);
+    let answer = run(rt, alloc, plan, &mut source, &mut sink, &OpenGate);
     Ok(Outcome { answer, sink })
 }
 

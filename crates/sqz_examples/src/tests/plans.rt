@@ -2,13 +2,14 @@
 
 use super::files::{file_of, run_by_plan};
 use sqz_image::Fault;
+use sqz_marks::Workers;
 use sqz_object::Order;
 use sqz_regions::Cut;
 use sqz_tool::Plan;
 use std::test::Fail;
 
 #[test]
-fn same_answer_for_each_cut(rt: HostRuntime) -> Result<(), Fail> {
+fn same_answer_for_each_plan(rt: HostRuntime) -> Result<(), Fail> {
     let words = [
         0x1007, 0x110B, 0x1014, 0x110B, 0x101C, 0x110B, 0x1004, 0x110B, 0x100C, 0x320F, 0x1000,
         0x1004,
@@ -24,12 +25,37 @@ fn same_answer_for_each_cut(rt: HostRuntime) -> Result<(), Fail> {
         Cut::at([1, 3].to_vec(rt.alloc())?)?,
     ];
     for cut in cuts {
-        let plan = Plan { cut };
-        let file = file_of(rt.alloc(), Order::Little, 0x1000, &words, 0x1024)?;
-        let outcome = run_by_plan(&rt, rt.alloc(), &plan, file)?;
-        let summary = outcome.answer?;
-        assert_eq!(rt; summary.kept, 4);
-        assert_eq!(rt; outcome.sink.contents(), wanted.as_slice());
+        let mut plan = Plan {
+            workers: Workers::new(1)?,
+            cut,
+        };
+        for number in [1, 2, 64] {
+            plan.workers = Workers::new(number)?;
+            let file = file_of(rt.alloc(), Order::Little, 0x1000, &words, 0x1024)?;
+            let outcome = run_by_plan(&rt, rt.alloc(), &plan, file)?;
+            let summary = outcome.answer?;
+            assert_eq!(rt; summary.kept, 4, "with {number} workers");
+            assert_eq!(rt;
+                outcome.sink.contents(),
+                wanted.as_slice(),
+                "with {number} workers"
+            );
+        }
+    }
+    Ok(())
+}
+
+#[test]
+fn workers_from_1_to_64(rt: HostRuntime) -> Result<(), Fail> {
+    for number in [0, 65] {
+        assert_eq!(rt;
+            Workers::new(number).err(),
+            Some(Fault::BadWorkers),
+            "{number} workers"
+        );
+    }
+    for number in [1, 64] {
+        assert_eq!(rt; Workers::new(number)?.number(), number);
     }
     Ok(())
 }

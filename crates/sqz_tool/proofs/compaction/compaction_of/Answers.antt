@@ -3,7 +3,7 @@ use Rattle.std.proofs.lemmas.Option.{same_Some}
 use Rattle.sqz_image.specs.Objects.{object_count}
 use Rattle.sqz_regions.proofs.PlaceLemmas.{length-live}
 use Rattle.sqz_regions.proofs.SumLemmas.{live_words-le-words}
-use Rattle.sqz_tool.proofs.RunLemmas.{bytes_are, few_words, place_of_special, same_summary}
+use Rattle.sqz_tool.proofs.CompactionLemmas.{bytes_are, few_words, place_of_special, same_summary}
 use Rattle.sqz_tool.proofs.compaction.compaction_of.Goals as goal
 
 pub bases-requires : goal.bases-requires
@@ -11,21 +11,22 @@ bases-requires g c =
     let le = live_words-le-words c.heap-heap.result.now c.in_ok-marks.marks c.in_ok-marks.ensures.reachable.reached.sized in
     rw c.deref.ensures.value (omega (arith, c.in_ok-sums.ensures.whole, c.base.ensures.within, le))
 
-pub total-live-requires : goal.total-live-requires
-total-live-requires g c =
+pub total-requires : goal.total-requires
+total-requires g c =
     let le = live_words-le-words c.heap-heap.result.now c.in_ok-marks.marks c.in_ok-marks.ensures.reachable.reached.sized in
     rw c.deref-3.ensures.value (omega (arith, c.in_ok-sums.ensures.whole, c.base.ensures.within, le))
 
 pub unwrap-special-requires : goal.unwrap-special-requires
 unwrap-special-requires g c =
     let marks = c.in_ok-marks.marks in
-    let special = place_of_special c.heap-heap.result.now marks c.in_ok-forward.forward c.special.result c.in_ok-forward.ensures.places c.in_ok-marks.ensures.reachable c.special.ensures.special c.special.ensures.inside in
+    let special = place_of_special c.heap-heap.result.now marks c.special.result c.in_ok-marks.ensures.reachable c.special.ensures.special
+    c.in_ok-forward.forward c.in_ok-forward.ensures.places c.special.ensures.inside in
     ap is_some (c.place.ensures.place ∙ special)
 
 pub overflow_mul-summary : goal.overflow_mul-summary
 overflow_mul-summary g c =
     let le = live_words-le-words c.heap-heap.result.now c.in_ok-marks.marks c.in_ok-marks.ensures.reachable.reached.sized in
-    let live = rw c.deref-3.ensures.value at c.total-live.ensures in
+    let live = rw c.deref-3.ensures.value at c.total.ensures in
     omega (arith, live, c.in_ok-sums.ensures.whole, c.len.ensures.few_words, le)
 
 pub returns-clause-compaction : goal.returns-clause-compaction
@@ -34,20 +35,22 @@ returns-clause-compaction g c =
     let marks = c.in_ok-marks.marks in
     let is = c.heap-heap.ensures in
     let reachable = rw is at c.in_ok-marks.ensures.reachable in
-    let words = rw is at c.in_ok-words.ensures in
+    let words = c.in_ok-pieces.ensures.whole marks c.in_ok-forward.ensures.places c.in_ok-marks.ensures.reachable.reached.sized in
+    let words = rw is at words in
     let whole = rw is at c.in_ok-sums.ensures.whole in
     let found = rw is at c.special.ensures.special in
     let inside = rw is at c.special.ensures.inside in
     let places = rw is at c.in_ok-forward.ensures.places in
-    let special = place_of_special image.memory marks c.in_ok-forward.forward c.special.result places reachable found inside in
+    let special = place_of_special image.memory marks c.special.result reachable found c.in_ok-forward.forward places inside in
     let kept = c.count.ensures ∙ sym (length-live image.memory marks reachable.reached.sized) in
     let le = live_words-le-words image.memory marks reachable.reached.sized in
-    let live = (rw c.deref-3.ensures.value at c.total-live.ensures) ∙ whole in
-    rw c.in_ok-pieces.ensures.items (record {
+    let live = (rw c.deref-3.ensures.value at c.total.ensures) ∙ whole in
+    record {
       marks = marks;
       reachable = reachable;
       sound = sym (rw is at c.in_default.ensures);
-      bytes = bytes_are image marks c.unwrap-special.result c.special.result c.in_ok-words.words.items c.requires reachable found (same_Some _ _ (sym c.unwrap-special.ensures ∙ c.place.ensures.place ∙ special)) words;
-      few = few_words image.memory marks c.in_ok-words.words.items c.requires words (omega (arith, le, rw is at c.len.ensures.few_words));
+      bytes = bytes_are image marks c.in_ok-pieces.pieces c.requires words c.unwrap-special.result c.special.result reachable found
+          (same_Some _ _ (sym c.unwrap-special.ensures ∙ c.place.ensures.place ∙ special));
+      few = few_words image marks c.in_ok-pieces.pieces c.requires words (omega (arith, le, rw is at c.len.ensures.few_words));
       counted = same_summary (c.len.ensures.objects ∙ ap object_count is) kept c.header.ensures (ap (λ (n : ℕ). 4 * n) live);
-    })
+    }

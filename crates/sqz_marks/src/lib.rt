@@ -1,0 +1,6 @@
+//! The workers that share the work of a run.
+#![tactic(auto)]
+
+mod workers;
+
+pub use workers::Workers;

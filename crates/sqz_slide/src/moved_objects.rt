@@ -1,0 +1,108 @@
+//! The live objects of a region in their new places.
+
+ghost use Rattle.std.specs.Prelude.{◌≡◌, ◌≤◌, ◌<◌, Bool, List, ◌++◌, map, length, IfOk};
+ghost use Rattle.sqz_object.specs.Chunk.{chunk_kind};
+ghost use Rattle.sqz_image.specs.Objects.{object_count};
+ghost use Rattle.sqz_regions.specs.Bases.{ArePlacesOf};
+ghost use Rattle.sqz_regions.specs.Regions.{region_count};
+ghost use Rattle.sqz_slide.specs.Moved.{moved_field, moved_header, moved};
+ghost use Rattle.sqz_slide.specs.Pieces.{moved_in};
+
+use crate::moved_words::{moved_class, moved_field};
+use crate::piece_sizes::piece_size;
+use sqz_image::{Heap, Object};
+use sqz_object::Kind;
+use sqz_regions::{Forward, Regions};
+use sqz_trace::traced_fields;
+use std::alloc::{AllocError, Global};
+
+/// The words of the region's live objects after the move, in their order. Room is made for all of them at once.
+pub(crate) fn piece_of(
+    alloc: Global,
+    heap: &Heap,
+    regions: &Regions<'_>,
+    forward: &Forward,
+    region: u32,
+) -> Result<Vec<u32>, AllocError>
+    requires regions { regions.now.memory ≡ heap.now }
+    requires region { region < region_count regions.now.cut regions.now.memory }
+    requires one_each { length forward.now ≡ object_count heap.now }
+    ensures { IfOk result (λ words. (marks : List Bool)
+        → ArePlacesOf heap.now marks forward.now
+        → words.items ≡ moved_in regions.now marks region) }
+{
+    let (from, to) = regions.objects(region);
+    let room = piece_size(heap, forward, from, to) as usize;
+    let mut words = Vec::with_capacity(alloc, room)?;
+    for index in from..to {
+        if forward.place(index).is_some() {
+            let object = heap.object(index);
+            push_moved(heap, &object, forward, &mut words)?;
+        }
+    }
+    Ok(words)
+}
+
+/// Adds the words of an object after its move.
+fn push_moved(
+    heap: &Heap,
+    object: &Object<'_>,
+    forward: &Forward,
+    words: &mut Vec<u32>,
+) -> Result<(), AllocError>
+    requires one_each { length forward.now ≡ object_count heap.now }
+    ensures { IfOk result (λ _. (marks : List Bool)
+        → ArePlacesOf heap.now marks forward.now
+        → words.new.items ≡ words.old.items ++ moved heap.now marks object.now) }
+{
+    push_header(heap, object, forward, words)?;
+    let (traced, rest) = object.fields().split_at(traced_fields(object) as usize);
+    push_traced(heap, traced, forward, words)?;
+    words.extend_from_slice(rest)?;
+    Ok(())
+}
+
+/// Adds the header words of an object after its move.
+fn push_header(
+    heap: &Heap,
+    object: &Object<'_>,
+    forward: &Forward,
+    words: &mut Vec<u32>,
+) -> Result<(), AllocError>
+    requires one_each { length forward.now ≡ object_count heap.now }
+    ensures { IfOk result (λ _. (marks : List Bool)
+        → ArePlacesOf heap.now marks forward.now
+        → words.new.items ≡ words.old.items ++ moved_header heap.now marks (chunk_kind object.now) object.now) }
+{
+    let header = object.words();
+    match object.header().kind {
+        Kind::Three => {
+            let class = moved_class(heap, header[1], forward);
+            words.extend_from_slice(&[header[0], class, header[2]])?;
+        }
+        Kind::Two => {
+            let class = moved_class(heap, header[0], forward);
+            words.extend_from_slice(&[class, header[1]])?;
+        }
+        Kind::Free | Kind::Short => words.push(header[0])?,
+    }
+    Ok(())
+}
+
+/// Adds traced fields after the move.
+fn push_traced(
+    heap: &Heap,
+    fields: &[u32],
+    forward: &Forward,
+    words: &mut Vec<u32>,
+) -> Result<(), AllocError>
+    requires { length forward.now ≡ object_count heap.now }
+    ensures { IfOk result (λ _. (marks : List Bool)
+        → ArePlacesOf heap.now marks forward.now
+        → words.new.items ≡ words.old.items ++ map (moved_field heap.now marks) fields.now) }
+{
+    for field in fields {
+        words.push(moved_field(heap, *field, forward))?;
+    }
+    Ok(())
+}

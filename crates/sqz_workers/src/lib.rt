@@ -1,0 +1,6 @@
+//! What the workers of a run do in turns, and the gate that each passes at the beginning of a turn.
+#![tactic(auto)]
+
+mod gate;
+
+pub use gate::{Gate, OpenGate, Phase};
