@@ -1,5 +1,6 @@
 -- How many of a list pass a test that passes a first part of it and nothing behind.
-use Rattle.std.proofs.Common.{◌≡◌, ℕ, zero, suc, ◌+◌, ◌<◌, ◌≤◌, Bool, true, false, cond, List, [], ◌∷◌, length, get_or, refl, ap, ◌∙◌, ltb, arith, inl, inr}
+use Rattle.std.proofs.Common.{◌≡◌, ℕ, zero, suc, ◌+◌, ◌<◌, ◌≤◌, Bool, true, false, cond, List, [], ◌∷◌, length}
+use Rattle.std.proofs.Common.{get_or, refl, ap, ◌∙◌, ltb, arith, inl, inr}
 use Rattle.std.specs.List.{count_by}
 use Rattle.std.specs.List.Sorted.{IsPartitionedBy, IsPartitionPoint, IsNonDecreasingBy}
 use Rattle.std.proofs.lemmas.Bool.{cases_Bool, cases_lt, ltb-true, ltb-false, lt-ltb, le-ltb}
@@ -19,7 +20,9 @@ module _ {X : Type 0} (p : X → Bool) where
   -- one that fails adds none
   count_by-cons_no : (x : X) (xs : List X) → p x ≡ false → count_by p (x ∷ xs) ≡ count_by p xs
   count_by-cons_no x xs fails =
-      let more : count_by p (x ∷ xs) ≡ 0 + count_by p xs = sum_by-cons (λ y. counted (p y)) x xs ∙ ap (λ (b : Bool). counted b + count_by p xs) fails in
+      let more = sum_by-cons (λ y. counted (p y)) x xs in
+      let none = ap (λ (b : Bool). counted b + count_by p xs) fails in
+      let same : count_by p (x ∷ xs) ≡ 0 + count_by p xs = more ∙ none in
       omega arith
 
   -- where none passes there are none
@@ -47,7 +50,8 @@ module _ {X : Type 0} (p : X → Bool) where
       count_by-cons_no x xs fails ∙ count_by_none xs d (λ i lt. fails_behind x xs i d parted fails lt)
 
   -- each below the count passes
-  pub passes_below_count : (xs : List X) (i : ℕ) (d : X) → IsPartitionedBy p xs → i < count_by p xs → p (get_or xs i d) ≡ true
+  pub passes_below_count : (xs : List X) (i : ℕ) (d : X) → IsPartitionedBy p xs → i < count_by p xs
+      → p (get_or xs i d) ≡ true
   passes_below_count [] i d parted lt = absurd (omega arith)
   passes_below_count (x ∷ xs) zero d parted lt =
       elim (cases_Bool (p x)) [
@@ -56,7 +60,8 @@ module _ {X : Type 0} (p : X → Bool) where
       ]
   passes_below_count (x ∷ xs) (suc i) d parted lt =
       elim (cases_Bool (p x)) [
-        | inl passes ↦ passes_below_count xs i d (IsPartitionedBy-rest x xs parted) (omega (arith, count_by-cons_yes x xs passes))
+        | inl passes ↦
+            passes_below_count xs i d (IsPartitionedBy-rest x xs parted) (omega (arith, count_by-cons_yes x xs passes))
         | inr fails ↦ absurd (omega (arith, count_by-fails x xs d parted fails))
       ]
 
@@ -71,7 +76,9 @@ module _ {X : Type 0} (p : X → Bool) where
       ]
   fails_from_count (x ∷ xs) (suc i) d parted le lt =
       elim (cases_Bool (p x)) [
-        | inl passes ↦ fails_from_count xs i d (IsPartitionedBy-rest x xs parted) (omega (arith, count_by-cons_yes x xs passes)) (omega arith)
+        | inl passes ↦
+            fails_from_count xs i d (IsPartitionedBy-rest x xs parted) (omega (arith, count_by-cons_yes x xs passes))
+            (omega arith)
         | inr fails ↦ fails_behind x xs i d parted fails (omega arith)
       ]
 
@@ -109,18 +116,21 @@ module _ {X : Type 0} (number : X → ℕ) where
   pub below_count_below : (bound i : ℕ) (xs : List X) (d : X) → IsNonDecreasingBy number xs → i < count_below bound xs
       → number (get_or xs i d) < bound
   below_count_below bound i xs d rises lt =
-      ltb-true (number (get_or xs i d)) bound (passes_below_count (λ x. ltb (number x) bound) xs i d (IsPartitionedBy-ltb number xs bound rises) lt)
+      ltb-true (number (get_or xs i d)) bound
+      (passes_below_count (λ x. ltb (number x) bound) xs i d (IsPartitionedBy-ltb number xs bound rises) lt)
 
   -- each from it on is not
   pub from_count_below : (bound i : ℕ) (xs : List X) (d : X) → IsNonDecreasingBy number xs → count_below bound xs ≤ i
       → i < length xs → bound ≤ number (get_or xs i d)
   from_count_below bound i xs d rises le lt =
-      ltb-false (number (get_or xs i d)) bound (fails_from_count (λ x. ltb (number x) bound) xs i d (IsPartitionedBy-ltb number xs bound rises) le lt)
+      ltb-false (number (get_or xs i d)) bound
+      (fails_from_count (λ x. ltb (number x) bound) xs i d (IsPartitionedBy-ltb number xs bound rises) le lt)
 
   -- the count never falls as the bound rises
   pub count_below_rises : (low high : ℕ) (xs : List X) → low ≤ high → count_below low xs ≤ count_below high xs
   count_below_rises low high xs le =
-      sum_by-le-sum_by (λ x. counted (ltb (number x) low)) (λ x. counted (ltb (number x) high)) xs (λ x. counted_rises (number x) low high le)
+      sum_by-le-sum_by (λ x. counted (ltb (number x) low)) (λ x. counted (ltb (number x) high)) xs
+      (λ x. counted_rises (number x) low high le)
 
   -- none is below 0
   pub count_below-zero : (xs : List X) (d : X) → count_below 0 xs ≡ 0

@@ -1,5 +1,6 @@
 -- The points of a cut.
-use Rattle.std.proofs.Common.{◌≡◌, ◌⊎◌, ◌↔◌, ℕ, zero, suc, ◌+◌, ◌^◌, ◌<◌, ◌≤◌, true, false, List, length, get_or, refl, leb, arith, inl, inr}
+use Rattle.std.proofs.Common.{◌≡◌, ◌⊎◌, ◌↔◌, ℕ, zero, suc, ◌+◌, ◌^◌, ◌<◌, ◌≤◌, true, false, List, length}
+use Rattle.std.proofs.Common.{get_or, refl, leb, arith, inl, inr}
 use Rattle.std.specs.List.Sorted.{IsPartitionedBy, IsPartitionPoint, IsNonDecreasing}
 use Rattle.std.proofs.lemmas.Bool.{cases_lt, leb-true, leb-false}
 use Rattle.std.proofs.lemmas.Grind.{get_or_default_zero}
@@ -56,13 +57,15 @@ below_point points word region list inside =
 
 -- a point tells whether a word is in its region or in one before
 pub point_tells : (cut : Cutting) (points : List ℕ) (region point : ℕ) → At points ≡ cut → IsCutList points
-    → region < length points → point ≡ get_or points region 0 → (word : ℕ) → (word < point) ↔ (points_up_to cut word ≤ region)
+    → region < length points → point ≡ get_or points region 0
+    → (word : ℕ) → (word < point) ↔ (points_up_to cut word ≤ region)
 point_tells cut points region point is list inside at word =
     rw (← is, at) (below_point points word region list inside)
 
 -- the points up to a word are those before the place where they end
 pub region_at_point : (cut : Cutting) (points : List ℕ) (word region : ℕ) → At points ≡ cut → IsCutList points
-    → region ≤ length points → IsPartitionPoint (λ point. leb point word ≡ true) (λ point. leb point word ≡ false) points region
+    → region ≤ length points
+    → IsPartitionPoint (λ point. leb point word ≡ true) (λ point. leb point word ≡ false) points region
     → region ≡ points_up_to cut word
 region_at_point cut points word region is list inside at =
     rw (← is) (count_by_at_point (λ point. leb point word) points region 0 inside (points_parted points word list) at)
@@ -86,45 +89,45 @@ no_point_yet points =
       next = inl refl;
     }
 
--- one point more
-pub one_point_more : (points : List ℕ) (count lowest : ℕ) → IsCutListSoFar points count lowest → lowest ≤ get_or points count 0
-    → get_or points count 0 ≤ 2 ^ 30 → IsCutListSoFar points (count + 1) (get_or points count 0 + 1)
-one_point_more points count lowest so_far above bounded =
-    record {
-      rises =
-          λ i j lt in_count.
-          elim (cases_lt j count) [
-            | inl before ↦ so_far.rises i j lt before
-            | inr ge ↦ (let same : j ≡ count = omega arith in rw same (omega (arith, so_far.below i (omega arith))))
-          ];
-      bounded =
-          λ i in_count.
-          elim (cases_lt i count) [
-            | inl before ↦ so_far.bounded i before
-            | inr ge ↦ (let same : i ≡ count = omega arith in rw same bounded)
-          ];
-      below =
-          λ i in_count.
-          elim (cases_lt i count) [
-            | inl before ↦ omega (arith, so_far.below i before)
-            | inr ge ↦ (let same : i ≡ count = omega arith in rw same (omega arith))
-          ];
-      next = inr (count, omega arith, refl);
-    }
+module _ (points : List ℕ) (count lowest : ℕ) (so_far : IsCutListSoFar points count lowest) where
+  -- one point more
+  pub one_point_more : lowest ≤ get_or points count 0 → get_or points count 0 ≤ 2 ^ 30
+      → IsCutListSoFar points (count + 1) (get_or points count 0 + 1)
+  one_point_more above bounded =
+      record {
+        rises =
+            λ i j lt in_count.
+            elim (cases_lt j count) [
+              | inl before ↦ so_far.rises i j lt before
+              | inr ge ↦ (let same : j ≡ count = omega arith in rw same (omega (arith, so_far.below i (omega arith))))
+            ];
+        bounded =
+            λ i in_count.
+            elim (cases_lt i count) [
+              | inl before ↦ so_far.bounded i before
+              | inr ge ↦ (let same : i ≡ count = omega arith in rw same bounded)
+            ];
+        below =
+            λ i in_count.
+            elim (cases_lt i count) [
+              | inl before ↦ omega (arith, so_far.below i before)
+              | inr ge ↦ (let same : i ≡ count = omega arith in rw same (omega arith))
+            ];
+        next = inr (count, omega arith, refl);
+      }
 
--- all points
-pub all_points : (points : List ℕ) (count lowest : ℕ) → IsCutListSoFar points count lowest → length points ≤ count → IsCutList points
-all_points points count lowest so_far le =
-    record {
-      rises = λ i j lt inside. so_far.rises i j lt (omega arith);
-      bounded = λ i inside. so_far.bounded i (omega arith);
-    }
+  -- all points
+  pub all_points : length points ≤ count → IsCutList points
+  all_points le =
+      record {
+        rises = λ i j lt inside. so_far.rises i j lt (omega arith);
+        bounded = λ i inside. so_far.bounded i (omega arith);
+      }
 
--- no list of a cut has a point below the lowest
-pub not_below_lowest : (points : List ℕ) (count lowest : ℕ) → IsCutListSoFar points count lowest → count < length points
-    → IsCutList points → lowest ≤ get_or points count 0
-not_below_lowest points count lowest so_far inside list =
-    elim so_far.next [
-      | inl zero_is ↦ omega arith
-      | inr (i, lt, is) ↦ omega (arith, list.rises i count lt inside)
-    ]
+  -- no list of a cut has a point below the lowest
+  pub not_below_lowest : count < length points → IsCutList points → lowest ≤ get_or points count 0
+  not_below_lowest inside list =
+      elim so_far.next [
+        | inl zero_is ↦ omega arith
+        | inr (i, lt, is) ↦ omega (arith, list.rises i count lt inside)
+      ]

@@ -1,5 +1,6 @@
 -- The entries of a table of places, from those of ranges of objects.
-use Rattle.std.proofs.Common.{◌≡◌, ℕ, zero, suc, ◌+◌, ◌-◌, ◌*◌, ◌^◌, ◌<◌, ◌≤◌, Bool, true, false, List, [], ◌∷◌, ◌++◌, map, length, get_or, refl, sym, ap, subst, ◌∙◌, arith, inl, inr, None, Ok, Result}
+use Rattle.std.proofs.Common.{◌≡◌, ℕ, zero, suc, ◌+◌, ◌-◌, ◌*◌, ◌^◌, ◌<◌, ◌≤◌, Bool, true, false, List, [], ◌∷◌, ◌++◌}
+use Rattle.std.proofs.Common.{map, length, get_or, refl, sym, ap, subst, ◌∙◌, arith, inl, inr, None, Ok, Result}
 use Rattle.std.specs.Prelude.{IfOk}
 use Rattle.std.specs.List.{AllZip, concat, flat_map, range_with_len}
 use Rattle.std.specs.Int.{div_ceil}
@@ -13,7 +14,8 @@ use Rattle.sqz_trace.specs.Graph.{is_marked}
 use Rattle.sqz_regions.specs.Places.{live_words_below, place}
 use Rattle.sqz_regions.specs.Regions.{Cutting, Regioning, region_at, objects_before}
 use Rattle.sqz_regions.specs.Bases.{place_if_marked, ArePlacesOf}
-use Rattle.sqz_regions.specs.Entries.{dead, entry_of, entries_between, place_of_entry, HaveRoom, AreEntriesOf, range_begin, AreEntriesOfRange}
+use Rattle.sqz_regions.specs.Entries.{dead, entry_of, entries_between, place_of_entry, HaveRoom, AreEntriesOf}
+use Rattle.sqz_regions.specs.Entries.{range_begin, AreEntriesOfRange}
 use Rattle.sqz_regions.proofs.PlaceLemmas.{live_words_more_yes}
 use Rattle.sqz_regions.proofs.RegionLemmas.{region_at-rises, objects_before-rises, objects_before-le}
 use Rattle.sqz_regions.proofs.RisingLemmas.{objects_before-first}
@@ -22,7 +24,8 @@ use Rattle.sqz_regions.proofs.SumLemmas.{live_words_below-le-words}
 -- ---- values of a function at the numbers of a range
 
 -- the numbers of one range and of the next
-range_with_len-append : (from first second : ℕ) → range_with_len from first ++ range_with_len (from + first) second ≡ range_with_len from (first + second)
+range_with_len-append : (from first second : ℕ)
+    → range_with_len from first ++ range_with_len (from + first) second ≡ range_with_len from (first + second)
 range_with_len-append from zero second =
     let same : from + 0 ≡ from = omega arith in
     let all : 0 + second ≡ second = omega arith in
@@ -57,13 +60,15 @@ module _ (memory : Memory) (marks : List Bool) where
   entry_of-unmarked : (index : ℕ) → is_marked marks index ≡ false → entry_of memory marks index ≡ dead
   entry_of-unmarked index is = rw is refl
 
-  -- where the live words from a marked object on go: the object's place, the room behind it, and where those behind the object go
+  -- where the live words from a marked object on go: the object's place, the room behind it,
+  -- and where those behind the object go
   pub placed : (index next : ℕ) (chunk : Chunk) → index < object_count memory → is_marked marks index ≡ true
       → chunk ≡ description (chunk_words memory index) → chunk.before < chunk.length
       → memory.base + 4 * length (concat memory.chunks) ≤ 2 ^ 32
       → next ≡ memory.base + 4 * live_words_below memory marks index
       → (next + 4 * chunk.before ≡ place memory marks index) × (place memory marks index + 4 ≤ 2 ^ 32)
-      × (next + 4 * chunk.length ≡ memory.base + 4 * live_words_below memory marks (index + 1)) × (next + 4 * chunk.length ≤ 2 ^ 32)
+      × (next + 4 * chunk.length ≡ memory.base + 4 * live_words_below memory marks (index + 1))
+      × (next + 4 * chunk.length ≤ 2 ^ 32)
   placed index next chunk lt is described headed within next_is =
       let before_is = ap (λ (chunk : Chunk). chunk.before) described in
       let words_is = ap (λ (chunk : Chunk). chunk.length) described in
@@ -79,7 +84,8 @@ module _ (memory : Memory) (marks : List Bool) where
 
   -- the entries of a range, and those of the next
   pub AreEntriesOf-append : (from mid to : ℕ) (first second : List ℕ) → from ≤ mid → mid ≤ to
-      → AreEntriesOf memory marks from mid first → AreEntriesOf memory marks mid to second → AreEntriesOf memory marks from to (first ++ second)
+      → AreEntriesOf memory marks from mid first → AreEntriesOf memory marks mid to second
+      → AreEntriesOf memory marks from to (first ++ second)
   AreEntriesOf-append from mid to first second low high h k =
       record {
         same = (λ i. h.same i ++ k.same i) ∙ between-append (entry_of memory marks) from mid to low high;
@@ -96,7 +102,8 @@ module _ (memory : Memory) (marks : List Bool) where
   -- one more entry, of a marked object
   pub AreEntriesOf-push_marked : (from index entry : ℕ) (entries : List ℕ) → from ≤ index → is_marked marks index ≡ true
       → entry ≡ place memory marks index → place memory marks index + 4 ≤ 2 ^ 32
-      → AreEntriesOf memory marks from index entries → AreEntriesOf memory marks from (index + 1) (entries ++ entry ∷ [])
+      → AreEntriesOf memory marks from index entries
+      → AreEntriesOf memory marks from (index + 1) (entries ++ entry ∷ [])
   AreEntriesOf-push_marked from index entry entries ge is entry_is room h =
       AreEntriesOf-append from index (index + 1) entries (entry ∷ []) ge (omega arith) h
       (record {
@@ -106,7 +113,8 @@ module _ (memory : Memory) (marks : List Bool) where
 
   -- one more entry, of another
   pub AreEntriesOf-push_unmarked : (from index : ℕ) (entries : List ℕ) → from ≤ index → is_marked marks index ≡ false
-      → AreEntriesOf memory marks from index entries → AreEntriesOf memory marks from (index + 1) (entries ++ dead ∷ [])
+      → AreEntriesOf memory marks from index entries
+      → AreEntriesOf memory marks from (index + 1) (entries ++ dead ∷ [])
   AreEntriesOf-push_unmarked from index entries ge is h =
       AreEntriesOf-append from index (index + 1) entries (dead ∷ []) ge (omega arith) h
       (record {
@@ -120,8 +128,10 @@ module _ (memory : Memory) (marks : List Bool) where
 -- ---- ranges
 
 -- what there is of a range: its entries, or an error
-abbrev pub IsRangePart : {V : Type 0} → Cutting → Memory → List Bool → (E : Type 0) → (V → List ℕ) → ℕ → Result V E → Type 0
-IsRangePart cut memory marks E items range part = IfOk part (λ part. AreEntriesOfRange cut memory marks range (items part))
+abbrev pub IsRangePart : {V : Type 0}
+    → Cutting → Memory → List Bool → (E : Type 0) → (V → List ℕ) → ℕ → Result V E → Type 0
+IsRangePart cut memory marks E items range part =
+    IfOk part (λ part. AreEntriesOfRange cut memory marks range (items part))
 
 module _ (cut : Cutting) (memory : Memory) where
   -- where a range begins
@@ -130,14 +140,17 @@ module _ (cut : Cutting) (memory : Memory) where
   range_begin-inside range lt = rw (lt-ltb (range * 4096) (object_count memory) lt) refl
 
   -- behind the last range
-  pub range_begin-past : (range : ℕ) → object_count memory ≤ range * 4096 → range_begin cut memory range ≡ object_count memory
+  pub range_begin-past : (range : ℕ) → object_count memory ≤ range * 4096
+      → range_begin cut memory range ≡ object_count memory
   range_begin-past range le = rw (le-ltb (range * 4096) (object_count memory) le) refl
 
   -- a range begins among the objects, or at their end
   pub range_begin-le-object_count : (range : ℕ) → range_begin cut memory range ≤ object_count memory
   range_begin-le-object_count range =
       elim (cases_lt (range * 4096) (object_count memory)) [
-        | inl lt ↦ omega (arith, range_begin-inside range lt, objects_before-le cut memory (region_at cut memory (range * 4096)))
+        | inl lt ↦
+            let le = objects_before-le cut memory (region_at cut memory (range * 4096)) in
+            omega (arith, range_begin-inside range lt, le)
         | inr ge ↦ omega (arith, range_begin-past range ge)
       ]
 
@@ -148,7 +161,8 @@ module _ (cut : Cutting) (memory : Memory) where
         | inl lt ↦
             let inside : range * 4096 < object_count memory = omega arith in
             let rises = region_at-rises cut memory (range * 4096) ((range + 1) * 4096) (omega arith) lt in
-            omega (arith, range_begin-inside range inside, range_begin-inside (range + 1) lt, objects_before-rises cut memory _ _ rises)
+            let le = objects_before-rises cut memory _ _ rises in
+            omega (arith, range_begin-inside range inside, range_begin-inside (range + 1) lt, le)
         | inr ge ↦ omega (arith, range_begin-past (range + 1) ge, range_begin-le-object_count range)
       ]
 
@@ -168,9 +182,11 @@ module _ (cut : Cutting) (memory : Memory) where
       rw next (omega (arith, range_begin-along range count, range_begin-rises (range + count)))
 
   -- the entries of some ranges, in one list
-  AreEntriesOf-ranges : {V : Type 0} (E : Type 0) (items : V → List ℕ) (marks : List Bool) (range count : ℕ) (parts : List V)
+  AreEntriesOf-ranges : {V : Type 0} (E : Type 0) (items : V → List ℕ) (marks : List Bool)
+      → (range count : ℕ) (parts : List V)
       → AllZip (IsRangePart cut memory marks E items) (range_with_len range count) (map Ok parts)
-      → AreEntriesOf memory marks (range_begin cut memory range) (range_begin cut memory (range + count)) (flat_map items parts)
+      → AreEntriesOf memory marks (range_begin cut memory range) (range_begin cut memory (range + count))
+      (flat_map items parts)
   AreEntriesOf-ranges E items marks range zero [] h =
       let same : range + 0 ≡ range = omega arith in
       rw same (AreEntriesOf-none memory marks (range_begin cut memory range))
@@ -179,13 +195,16 @@ module _ (cut : Cutting) (memory : Memory) where
   AreEntriesOf-ranges E items marks range (suc count) (part ∷ parts) h =
       let next : range + suc count ≡ (range + 1) + count = omega arith in
       rw next
-      (AreEntriesOf-append memory marks (range_begin cut memory range) (range_begin cut memory (range + 1)) (range_begin cut memory ((range + 1) + count))
+      (AreEntriesOf-append memory marks
+      (range_begin cut memory range) (range_begin cut memory (range + 1)) (range_begin cut memory ((range + 1) + count))
       (items part) (flat_map items parts) (range_begin-rises range) (range_begin-along (range + 1) count)
       h.0 (AreEntriesOf-ranges E items marks (range + 1) count parts h.1))
 
 -- the entries between two objects are those of a range that begins and ends there
-pub AreEntriesOfRange-between : (regions : Regioning) (memory : Memory) (marks : List Bool) (range from to : ℕ) (entries : List ℕ)
-    → regions.memory ≡ memory → from ≡ range_begin regions.cut regions.memory range → to ≡ range_begin regions.cut regions.memory (range + 1)
+pub AreEntriesOfRange-between : (regions : Regioning) (memory : Memory) (marks : List Bool)
+    → (range from to : ℕ) (entries : List ℕ)
+    → regions.memory ≡ memory → from ≡ range_begin regions.cut regions.memory range
+    → to ≡ range_begin regions.cut regions.memory (range + 1)
     → AreEntriesOf memory marks from to entries → AreEntriesOfRange regions.cut memory marks range entries
 AreEntriesOfRange-between regions memory marks range from to entries same from_is to_is h =
     let begins = from_is ∙ ap (λ (memory : Memory). range_begin regions.cut memory range) same in
@@ -202,7 +221,8 @@ pub range_begins : (count range : ℕ) → range < div_ceil count 4096 → range
 range_begins count range lt = omega arith
 
 -- the entries of all ranges, in one list, are those of all objects
-pub AreEntriesOf-all_ranges : {V : Type 0} (E : Type 0) (items : V → List ℕ) (cut : Cutting) (memory : Memory) (marks : List Bool)
+pub AreEntriesOf-all_ranges : {V : Type 0} (E : Type 0) (items : V → List ℕ)
+    → (cut : Cutting) (memory : Memory) (marks : List Bool)
     → (count : ℕ) (parts : List V) → count ≡ div_ceil (object_count memory) 4096
     → AllZip (IsRangePart cut memory marks E items) (range_with_len 0 count) (map Ok parts)
     → AreEntriesOf memory marks 0 (object_count memory) (flat_map items parts)
@@ -210,12 +230,15 @@ AreEntriesOf-all_ranges E items cut memory marks count parts count_is h =
     let all = AreEntriesOf-ranges cut memory E items marks 0 count parts h in
     let end = ranges_end (object_count memory) in
     let ends = range_begin-past cut memory (0 + count) (omega arith) in
-    let to_end = subst (λ (to : ℕ). AreEntriesOf memory marks (range_begin cut memory 0) to (flat_map items parts)) ends all in
-    subst (λ (from : ℕ). AreEntriesOf memory marks from (object_count memory) (flat_map items parts)) (range_begin-zero cut memory) to_end
+    let entries = flat_map items parts in
+    let to_end = subst (λ (to : ℕ). AreEntriesOf memory marks (range_begin cut memory 0) to entries) ends all in
+    subst (λ (from : ℕ). AreEntriesOf memory marks from (object_count memory) entries) (range_begin-zero cut memory)
+    to_end
 
 -- ---- the whole table
 
-module _ (memory : Memory) (marks : List Bool) (entries : List ℕ) (are : AreEntriesOf memory marks 0 (object_count memory) entries) where
+module _ (memory : Memory) (marks : List Bool) (entries : List ℕ)
+    (are : AreEntriesOf memory marks 0 (object_count memory) entries) where
   -- there is one for each object
   pub length-entries : length entries ≡ object_count memory
   length-entries =
@@ -225,7 +248,8 @@ module _ (memory : Memory) (marks : List Bool) (entries : List ℕ) (are : AreEn
   entries-each : (index : ℕ) → index < object_count memory → get_or entries index 0 ≡ entry_of memory marks index
   entries-each index lt =
       ap (λ entries. get_or entries index 0) are.same
-      ∙ get_or-map-range_with_len (entry_of memory marks) 0 (object_count memory - 0) index index 0 (omega arith) (omega arith)
+      ∙ get_or-map-range_with_len (entry_of memory marks) 0 (object_count memory - 0) index index 0
+      (omega arith) (omega arith)
 
   -- behind each place there is room for a word
   pub HaveRoom-entries : HaveRoom entries
@@ -233,18 +257,23 @@ module _ (memory : Memory) (marks : List Bool) (entries : List ℕ) (are : AreEn
       let inside : index < object_count memory = omega (arith, length-entries) in
       by_mark inside (is_marked marks index) refl
     where
-      by_mark : index < object_count memory → (mark : Bool) → is_marked marks index ≡ mark → get_or entries index 0 + 4 ≤ 2 ^ 32
+      by_mark : index < object_count memory → (mark : Bool) → is_marked marks index ≡ mark
+          → get_or entries index 0 + 4 ≤ 2 ^ 32
       by_mark inside true is =
-          omega (arith, entries-each index inside, entry_of-marked memory marks index is, are.room index (omega arith) inside is)
+          let room = are.room index (omega arith) inside is in
+          omega (arith, entries-each index inside, entry_of-marked memory marks index is, room)
       by_mark inside false is = absurd (not_dead (entries-each index inside ∙ entry_of-unmarked memory marks index is))
 
   -- the entry of an object stands for its place, if it is marked
-  place_of_entry-entry_of : (index : ℕ) → index < object_count memory → place_of_entry (entry_of memory marks index) ≡ place_if_marked memory marks index
+  place_of_entry-entry_of : (index : ℕ) → index < object_count memory
+      → place_of_entry (entry_of memory marks index) ≡ place_if_marked memory marks index
   place_of_entry-entry_of index lt = by_mark (is_marked marks index) refl
     where
-      by_mark : (mark : Bool) → is_marked marks index ≡ mark → place_of_entry (entry_of memory marks index) ≡ place_if_marked memory marks index
+      by_mark : (mark : Bool) → is_marked marks index ≡ mark
+          → place_of_entry (entry_of memory marks index) ≡ place_if_marked memory marks index
       by_mark true is =
-          let alive = ne_eqb (place memory marks index) dead (λ is_dead. absurd (omega (arith, are.room index (omega arith) lt is))) in
+          let room = are.room index (omega arith) lt is in
+          let alive = ne_eqb (place memory marks index) dead (λ is_dead. absurd (omega (arith, room))) in
           rw is (rw alive refl)
       by_mark false is = rw is refl
 

@@ -1,5 +1,6 @@
 -- Regions along the objects: they never fall, and so the objects of each stand together.
-use Rattle.std.proofs.Common.{subst, ap, ◌∙◌, ◌≡◌, ℕ, zero, suc, ◌+◌, ◌-◌, ◌/◌, ◌<◌, ◌≤◌, Bool, true, false, cond, List, [], ◌∷◌, ◌++◌, map, length, get_or, refl, sym, ◌∙◌, leb, arith, inl, inr}
+use Rattle.std.proofs.Common.{◌≡◌, ℕ, zero, suc, ◌+◌, ◌-◌, ◌/◌, ◌<◌, ◌≤◌, Bool, true, false, cond, List, [], ◌∷◌, ◌++◌}
+use Rattle.std.proofs.Common.{map, length, get_or, refl, sym, ap, subst, ◌∙◌, leb, arith, inl, inr}
 use Rattle.std.specs.List.{concat}
 use Rattle.std.specs.List.Sorted.{IsNonDecreasingBy}
 use Rattle.std.proofs.lemmas.Bool.{cases_Bool, cases_lt, leb-true, le-leb}
@@ -11,10 +12,12 @@ use Rattle.std.proofs.lemmas.List.Sums.{sum_by-le-sum_by, count_by-le-length}
 use Rattle.sqz_object.specs.Chunk.{is_object}
 use Rattle.sqz_image.specs.Objects.{Memory, Object, objects_of, moved_on, objects, object_count, object_at}
 use Rattle.sqz_image.proofs.ObjectLemmas.{StandsIn, objects_stand, objects_are_objects, All_at}
-use Rattle.sqz_regions.specs.Regions.{Cutting, Every, At, points_up_to, region_of, region_at, region_count, objects_before, Regioning}
+use Rattle.sqz_regions.specs.Regions.{Cutting, Every, At, points_up_to, region_of, region_at, region_count}
+use Rattle.sqz_regions.specs.Regions.{objects_before, Regioning}
 use Rattle.sqz_regions.specs.Cuts.{IsValidCut}
 use Rattle.sqz_regions.specs.Ends.{AreEnds}
-use Rattle.sqz_regions.proofs.CountLemmas.{below_count_below, from_count_below, count_below_rises, count_below-zero, count_below_all}
+use Rattle.sqz_regions.proofs.CountLemmas.{below_count_below, from_count_below, count_below_rises}
+use Rattle.sqz_regions.proofs.CountLemmas.{count_below-zero, count_below_all}
 
 abbrev no_object : Object
 no_object = record { first = 0; chunk = [] }
@@ -26,7 +29,8 @@ FirstsRise : ℕ → List Object → Type 0
 FirstsRise low [] = Unit {0}
 FirstsRise low (object ∷ objects) = (low ≤ object.first) × FirstsRise object.first objects
 
-FirstsRise-lower : (low high : ℕ) (objects : List Object) → low ≤ high → FirstsRise high objects → FirstsRise low objects
+FirstsRise-lower : (low high : ℕ) (objects : List Object) → low ≤ high → FirstsRise high objects
+    → FirstsRise low objects
 unfolding FirstsRise
 FirstsRise-lower low high [] le rise = tt
 FirstsRise-lower low high (object ∷ objects) le rise = (omega (arith, rise.0), rise.1)
@@ -61,7 +65,8 @@ FirstsRise_at low (object ∷ objects) zero d lt rise = rise.0
 FirstsRise_at low (object ∷ objects) (suc i) d lt rise =
     omega (arith, rise.0, FirstsRise_at object.first objects i d (omega arith) rise.1)
 
-FirstsRise_order : (low : ℕ) (objects : List Object) → FirstsRise low objects → IsNonDecreasingBy (λ object. object.first) objects
+FirstsRise_order : (low : ℕ) (objects : List Object) → FirstsRise low objects
+    → IsNonDecreasingBy (λ object. object.first) objects
 unfolding FirstsRise
 FirstsRise_order low [] rise i j d le lt = absurd (omega arith)
 FirstsRise_order low (object ∷ objects) rise zero zero d le lt = omega arith
@@ -84,10 +89,13 @@ object_has_words (word ∷ words) used = omega arith
 pub first_inside : (memory : Memory) (index : ℕ) → index < object_count memory
     → (object_at memory index).first < length (concat memory.chunks)
 first_inside memory index lt =
-    let stands = All_at (StandsIn (concat memory.chunks)) (objects memory) index no_object lt (objects_stand memory.chunks) in
-    let used = All_at (λ object. is_object object.chunk ≡ true) (objects memory) index no_object lt (objects_are_objects memory.chunks) in
+    let words = concat memory.chunks in
+    let stands = All_at (StandsIn words) (objects memory) index no_object lt (objects_stand memory.chunks) in
+    let used =
+    All_at (λ object. is_object object.chunk ≡ true) (objects memory) index no_object lt
+    (objects_are_objects memory.chunks) in
     let inside = stands.inside in
-    let words = object_has_words (object_at memory index).chunk used in
+    let has_words = object_has_words (object_at memory index).chunk used in
     omega arith
 
 -- ---- cut points up to a word
@@ -109,86 +117,89 @@ div_rises low high (suc words) le =
 pub points_up_to_rises : (cut : Cutting) (low high : ℕ) → low ≤ high → points_up_to cut low ≤ points_up_to cut high
 points_up_to_rises (Every words) low high le = div_rises low high words le
 points_up_to_rises (At points) low high le =
-    sum_by-le-sum_by (λ point. cond (leb point low) 1 0) (λ point. cond (leb point high) 1 0) points (λ point. point_counted point low high le)
+    sum_by-le-sum_by (λ point. cond (leb point low) 1 0) (λ point. cond (leb point high) 1 0) points
+    (λ point. point_counted point low high le)
 
 -- a data word is in one of the regions
-pub points_up_to_inside : (cut : Cutting) (memory : Memory) (word : ℕ) → IsValidCut cut → word < length (concat memory.chunks)
-    → points_up_to cut word < region_count cut memory
+pub points_up_to_inside : (cut : Cutting) (memory : Memory) (word : ℕ) → IsValidCut cut
+    → word < length (concat memory.chunks) → points_up_to cut word < region_count cut memory
 points_up_to_inside (Every words) memory word valid inside =
-    omega (arith, le-div (word / words + 1) (length (concat memory.chunks) + (words - 1)) words valid.0 (omega (arith, div-mul-le_self word words)))
+    let most = length (concat memory.chunks) + (words - 1) in
+    omega (arith, le-div (word / words + 1) most words valid.0 (omega (arith, div-mul-le_self word words)))
 points_up_to_inside (At points) memory word valid inside =
     omega (arith, count_by-le-length (λ point. leb point word) points)
 
 -- ---- the regions of objects
 
--- the regions of objects never fall
-regions_rise : (cut : Cutting) (memory : Memory) → IsNonDecreasingBy (region_of cut) (objects memory)
-regions_rise cut memory i j d le lt = points_up_to_rises cut _ _ (firsts_rise memory i j d le lt)
+module _ (cut : Cutting) (memory : Memory) where
+  -- the regions of objects never fall
+  regions_rise : IsNonDecreasingBy (region_of cut) (objects memory)
+  regions_rise i j d le lt = points_up_to_rises cut _ _ (firsts_rise memory i j d le lt)
 
-pub region_at-rises : (cut : Cutting) (memory : Memory) (i j : ℕ) → i ≤ j → j < object_count memory
-    → region_at cut memory i ≤ region_at cut memory j
-region_at-rises cut memory i j le lt = regions_rise cut memory i j no_object le lt
+  pub region_at-rises : (i j : ℕ) → i ≤ j → j < object_count memory
+      → region_at cut memory i ≤ region_at cut memory j
+  region_at-rises i j le lt = regions_rise i j no_object le lt
 
--- an object below the number of those in the regions before one is in such a region
-pub below_objects_before : (cut : Cutting) (memory : Memory) (region index : ℕ) → index < object_count memory
-    → index < objects_before cut memory region → region_at cut memory index < region
-below_objects_before cut memory region index inside lt =
-    below_count_below (region_of cut) region index (objects memory) no_object (regions_rise cut memory) lt
+  -- an object below the number of those in the regions before one is in such a region
+  pub below_objects_before : (region index : ℕ) → index < object_count memory
+      → index < objects_before cut memory region → region_at cut memory index < region
+  below_objects_before region index inside lt =
+      below_count_below (region_of cut) region index (objects memory) no_object regions_rise lt
 
--- and one from that number on is not
-pub from_objects_before : (cut : Cutting) (memory : Memory) (region index : ℕ) → objects_before cut memory region ≤ index
-    → index < object_count memory → region ≤ region_at cut memory index
-from_objects_before cut memory region index le inside =
-    from_count_below (region_of cut) region index (objects memory) no_object (regions_rise cut memory) le inside
+  -- and one from that number on is not
+  pub from_objects_before : (region index : ℕ) → objects_before cut memory region ≤ index
+      → index < object_count memory → region ≤ region_at cut memory index
+  from_objects_before region index le inside =
+      from_count_below (region_of cut) region index (objects memory) no_object regions_rise le inside
 
--- an object's region tells where it stands among those numbers
-pub objects_before_below : (cut : Cutting) (memory : Memory) (region index : ℕ) → index < object_count memory
-    → region_at cut memory index < region → index < objects_before cut memory region
-objects_before_below cut memory region index inside below =
-    elim (cases_lt index (objects_before cut memory region)) [
-      | inl lt ↦ lt
-      | inr le ↦ absurd (omega (arith, from_objects_before cut memory region index le inside))
-    ]
+  -- an object's region tells where it stands among those numbers
+  pub objects_before_below : (region index : ℕ) → index < object_count memory
+      → region_at cut memory index < region → index < objects_before cut memory region
+  objects_before_below region index inside below =
+      elim (cases_lt index (objects_before cut memory region)) [
+        | inl lt ↦ lt
+        | inr le ↦ absurd (omega (arith, from_objects_before region index le inside))
+      ]
 
-pub objects_before_from : (cut : Cutting) (memory : Memory) (region index : ℕ) → index < object_count memory
-    → region ≤ region_at cut memory index → objects_before cut memory region ≤ index
-objects_before_from cut memory region index inside above =
-    elim (cases_lt index (objects_before cut memory region)) [
-      | inl lt ↦ absurd (omega (arith, below_objects_before cut memory region index inside lt))
-      | inr le ↦ le
-    ]
+  pub objects_before_from : (region index : ℕ) → index < object_count memory
+      → region ≤ region_at cut memory index → objects_before cut memory region ≤ index
+  objects_before_from region index inside above =
+      elim (cases_lt index (objects_before cut memory region)) [
+        | inl lt ↦ absurd (omega (arith, below_objects_before region index inside lt))
+        | inr le ↦ le
+      ]
 
--- the number of objects before a region never falls
-pub objects_before-rises : (cut : Cutting) (memory : Memory) (low high : ℕ) → low ≤ high
-    → objects_before cut memory low ≤ objects_before cut memory high
-objects_before-rises cut memory low high le = count_below_rises (region_of cut) low high (objects memory) le
+  -- the number of objects before a region never falls
+  pub objects_before-rises : (low high : ℕ) → low ≤ high
+      → objects_before cut memory low ≤ objects_before cut memory high
+  objects_before-rises low high le = count_below_rises (region_of cut) low high (objects memory) le
 
--- it is no more than all objects
-pub objects_before-le : (cut : Cutting) (memory : Memory) (region : ℕ) → objects_before cut memory region ≤ object_count memory
-objects_before-le cut memory region = count_by-le-length _ (objects memory)
+  -- it is no more than all objects
+  pub objects_before-le : (region : ℕ) → objects_before cut memory region ≤ object_count memory
+  objects_before-le region = count_by-le-length _ (objects memory)
 
--- none is before the first region
-pub objects_before-zero : (cut : Cutting) (memory : Memory) → objects_before cut memory 0 ≡ 0
-objects_before-zero cut memory = count_below-zero (region_of cut) (objects memory) no_object
+  -- none is before the first region
+  pub objects_before-zero : objects_before cut memory 0 ≡ 0
+  objects_before-zero = count_below-zero (region_of cut) (objects memory) no_object
 
--- an object is in one of the regions
-pub region_at_inside : (cut : Cutting) (memory : Memory) (index : ℕ) → IsValidCut cut → index < object_count memory
-    → region_at cut memory index < region_count cut memory
-region_at_inside cut memory index valid inside =
-    points_up_to_inside cut memory _ valid (first_inside memory index inside)
+  -- an object is in one of the regions
+  pub region_at_inside : (index : ℕ) → IsValidCut cut → index < object_count memory
+      → region_at cut memory index < region_count cut memory
+  region_at_inside index valid inside =
+      points_up_to_inside cut memory _ valid (first_inside memory index inside)
 
--- all objects are before a region that each is below
-pub objects_before-all_below : (cut : Cutting) (memory : Memory) (region : ℕ)
-    → ((index : ℕ) → index < object_count memory → region_at cut memory index < region)
-    → objects_before cut memory region ≡ object_count memory
-objects_before-all_below cut memory region below =
-    count_below_all (region_of cut) region (objects memory) no_object (regions_rise cut memory) below
+  -- all objects are before a region that each is below
+  pub objects_before-all_below : (region : ℕ)
+      → ((index : ℕ) → index < object_count memory → region_at cut memory index < region)
+      → objects_before cut memory region ≡ object_count memory
+  objects_before-all_below region below =
+      count_below_all (region_of cut) region (objects memory) no_object regions_rise below
 
--- all objects are before the region count
-pub objects_before-all : (cut : Cutting) (memory : Memory) → IsValidCut cut
-    → objects_before cut memory (region_count cut memory) ≡ object_count memory
-objects_before-all cut memory valid =
-    objects_before-all_below cut memory (region_count cut memory) (λ index inside. region_at_inside cut memory index valid inside)
+  -- all objects are before the region count
+  pub objects_before-all : IsValidCut cut
+      → objects_before cut memory (region_count cut memory) ≡ object_count memory
+  objects_before-all valid =
+      objects_before-all_below (region_count cut memory) (λ index inside. region_at_inside index valid inside)
 
 -- ---- the ends of regions
 
@@ -198,69 +209,77 @@ pub record AreEndsSoFar (cut : Cutting) (memory : Memory) (count last : ℕ) (en
   pub each : (region : ℕ) → region < count → get_or ends region 0 ≡ objects_before cut memory (region + 1)
   pub last_is : last ≡ objects_before cut memory count
 
--- no end yet
-pub no_end_yet : (cut : Cutting) (memory : Memory) → AreEndsSoFar cut memory 0 0 []
-no_end_yet cut memory =
-    record {
-      sized = refl;
-      each = λ region lt. absurd (omega arith);
-      last_is = sym (objects_before-zero cut memory);
-    }
+module _ (cut : Cutting) (memory : Memory) where
+  -- no end yet
+  pub no_end_yet : AreEndsSoFar cut memory 0 0 []
+  no_end_yet =
+      record {
+        sized = refl;
+        each = λ region lt. absurd (omega arith);
+        last_is = sym (objects_before-zero cut memory);
+      }
 
--- one end more
-pub one_end_more : (cut : Cutting) (memory : Memory) (count last next : ℕ) (ends : List ℕ)
-    → AreEndsSoFar cut memory count last ends → next ≡ objects_before cut memory (count + 1)
-    → AreEndsSoFar cut memory (count + 1) next (ends ++ next ∷ [])
-one_end_more cut memory count last next ends so_far is =
-    record {
-      sized = omega (arith, length_push ends next, so_far.sized);
-      each =
-          λ region lt.
-          elim (cases_lt region count) [
-            | inl before ↦ get_or-append ends (next ∷ []) 0 region (let sized = so_far.sized in omega arith) ∙ so_far.each region before
-            | inr ge ↦ (let same : region ≡ count = omega arith in rw same (get_or_push ends next 0 count so_far.sized ∙ is))
-          ];
-      last_is = is;
-    }
+  -- one end more
+  pub one_end_more : (count last next : ℕ) (ends : List ℕ)
+      → AreEndsSoFar cut memory count last ends → next ≡ objects_before cut memory (count + 1)
+      → AreEndsSoFar cut memory (count + 1) next (ends ++ next ∷ [])
+  one_end_more count last next ends so_far is =
+      record {
+        sized = omega (arith, length_push ends next, so_far.sized);
+        each =
+            λ region lt.
+            elim (cases_lt region count) [
+              | inl before ↦
+                  get_or-append ends (next ∷ []) 0 region (let sized = so_far.sized in omega arith)
+                  ∙ so_far.each region before
+              | inr ge ↦
+                  (let same : region ≡ count = omega arith in
+                  rw same (get_or_push ends next 0 count so_far.sized ∙ is))
+            ];
+        last_is = is;
+      }
 
--- one object more is known where it is in this region or in one before
-pub known_more : (cut : Cutting) (memory : Memory) (region index word : ℕ) → index < object_count memory
-    → word ≡ (object_at memory index).first → points_up_to cut word ≤ region → index + 1 ≤ objects_before cut memory (region + 1)
-known_more cut memory region index word inside is up_to =
-    let here : region_at cut memory index ≤ region = rw is at up_to in
-    omega (arith, objects_before_below cut memory (region + 1) index inside (omega arith))
+  -- one object more is known where it is in this region or in one before
+  pub known_more : (region index word : ℕ) → index < object_count memory
+      → word ≡ (object_at memory index).first → points_up_to cut word ≤ region
+      → index + 1 ≤ objects_before cut memory (region + 1)
+  known_more region index word inside is up_to =
+      let here : region_at cut memory index ≤ region = rw is at up_to in
+      omega (arith, objects_before_below cut memory (region + 1) index inside (omega arith))
 
--- and all are known where it is not
-pub known_all : (cut : Cutting) (memory : Memory) (region index word : ℕ) → index < object_count memory
-    → word ≡ (object_at memory index).first → (points_up_to cut word ≤ region → ⊥)
-    → index ≤ objects_before cut memory (region + 1) → index ≡ objects_before cut memory (region + 1)
-known_all cut memory region index word inside is above known =
-    elim (cases_lt region (points_up_to cut word)) [
-      | inl lt ↦
-          (let here : region < region_at cut memory index = rw is at lt in
-          omega (arith, objects_before_from cut memory (region + 1) index inside (omega arith)))
-      | inr le ↦ absurd (above le)
-    ]
+  -- and all are known where it is not
+  pub known_all : (region index word : ℕ) → index < object_count memory
+      → word ≡ (object_at memory index).first → (points_up_to cut word ≤ region → ⊥)
+      → index ≤ objects_before cut memory (region + 1) → index ≡ objects_before cut memory (region + 1)
+  known_all region index word inside is above known =
+      elim (cases_lt region (points_up_to cut word)) [
+        | inl lt ↦
+            (let here : region < region_at cut memory index = rw is at lt in
+            omega (arith, objects_before_from cut memory (region + 1) index inside (omega arith)))
+        | inr le ↦ absurd (above le)
+      ]
 
--- all ends
-pub all_ends : (cut : Cutting) (memory : Memory) (count last : ℕ) (ends : List ℕ) → AreEndsSoFar cut memory count last ends
-    → region_count cut memory ≡ count → AreEnds cut memory ends
-all_ends cut memory count last ends so_far is =
-    record {
-      sized = so_far.sized ∙ sym is;
-      each = λ region lt. so_far.each region (omega arith);
-    }
+  -- all ends
+  pub all_ends : (count last : ℕ) (ends : List ℕ) → AreEndsSoFar cut memory count last ends
+      → region_count cut memory ≡ count → AreEnds cut memory ends
+  all_ends count last ends so_far is =
+      record {
+        sized = so_far.sized ∙ sym is;
+        each = λ region lt. so_far.each region (omega arith);
+      }
 
--- an object of regions is in one of them
-pub region_inside : (cut : Cutting) (memory : Memory) (regions : Regioning) (region index word : ℕ)
-    → record { cut = cut; memory = memory } ≡ regions → IsValidCut cut → word ≡ (object_at memory index).first
-    → region ≡ points_up_to cut word → index < object_count regions.memory → region < region_count regions.cut regions.memory
-region_inside cut memory regions region index word is valid word_is region_is =
-    rw (← is, region_is, word_is) (λ inside. region_at_inside cut memory index valid inside)
+  -- an object of regions is in one of them
+  pub region_inside : (regions : Regioning) (region index word : ℕ)
+      → record { cut = cut; memory = memory } ≡ regions → IsValidCut cut → word ≡ (object_at memory index).first
+      → region ≡ points_up_to cut word → index < object_count regions.memory
+      → region < region_count regions.cut regions.memory
+  region_inside regions region index word is valid word_is region_is =
+      rw (← is, region_is, word_is) (λ inside. region_at_inside cut memory index valid inside)
 
--- the regions before the end of a regioning are all objects
-pub all_objects_before : (cut : Cutting) (memory : Memory) (regions : Regioning) (count : ℕ) → record { cut = cut; memory = memory } ≡ regions → IsValidCut cut
-    → count ≡ region_count cut memory → objects_before regions.cut regions.memory count ≡ object_count regions.memory
-all_objects_before cut memory regions count is valid count_is =
-    subst (λ (r : Regioning). objects_before r.cut r.memory count ≡ object_count r.memory) is
-    (ap (objects_before cut memory) count_is ∙ objects_before-all cut memory valid)
+  -- the regions before the end of a regioning are all objects
+  pub all_objects_before : (regions : Regioning) (count : ℕ)
+      → record { cut = cut; memory = memory } ≡ regions → IsValidCut cut
+      → count ≡ region_count cut memory → objects_before regions.cut regions.memory count ≡ object_count regions.memory
+  all_objects_before regions count is valid count_is =
+      subst (λ (r : Regioning). objects_before r.cut r.memory count ≡ object_count r.memory) is
+      (ap (objects_before cut memory) count_is ∙ objects_before-all cut memory valid)

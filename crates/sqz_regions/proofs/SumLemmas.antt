@@ -1,5 +1,7 @@
 -- The live words of the regions, one region after the other.
-use Rattle.std.proofs.Common.{◌≡◌, ◌⊎◌, ℕ, zero, suc, ◌+◌, ◌*◌, ◌<◌, ◌≤◌, Bool, true, false, cond, ltb, eqb, List, [], ◌∷◌, ◌++◌, map, filter, length, get_or, take, refl, sym, ap, subst, ◌∙◌, arith, add-one, inl, inr}
+use Rattle.std.proofs.Common.{◌≡◌, ◌⊎◌, ℕ, zero, suc, ◌+◌, ◌*◌, ◌<◌, ◌≤◌, Bool, true, false, cond, ltb, eqb}
+use Rattle.std.proofs.Common.{List, [], ◌∷◌, ◌++◌, map, filter, length, get_or, take}
+use Rattle.std.proofs.Common.{refl, sym, ap, subst, ◌∙◌, arith, add-one, inl, inr}
 use Rattle.std.specs.List.{concat, sum, sum_by}
 use Rattle.std.proofs.lemmas.Bool.{cases_order, lt-ltb, le-ltb, eq-eqb, ne_eqb}
 use Rattle.std.proofs.lemmas.List.{length-append, take_all}
@@ -17,10 +19,12 @@ use Rattle.sqz_regions.proofs.RisingLemmas.{marked_below, regions_rise}
 
 module _ {X : Type 0} (g : X → ℕ) where
   -- one item and the others
-  sum_by-filter-cons : (p : X → Bool) (x : X) (xs : List X) → sum_by g (filter p (x ∷ xs)) ≡ cond (p x) (g x) 0 + sum_by g (filter p xs)
+  sum_by-filter-cons : (p : X → Bool) (x : X) (xs : List X)
+      → sum_by g (filter p (x ∷ xs)) ≡ cond (p x) (g x) 0 + sum_by g (filter p xs)
   sum_by-filter-cons p x xs = by_test (p x)
     where
-      by_test : (test : Bool) → sum_by g (cond test (x ∷ filter p xs) (filter p xs)) ≡ cond test (g x) 0 + sum_by g (filter p xs)
+      by_test : (test : Bool)
+          → sum_by g (cond test (x ∷ filter p xs) (filter p xs)) ≡ cond test (g x) 0 + sum_by g (filter p xs)
       by_test true = sum_by-cons g x (filter p xs)
       by_test false = omega arith
 
@@ -43,9 +47,11 @@ module _ {X : Type 0} (g : X → ℕ) where
       one : (f x ≡ bound) ⊎ ((f x < bound) ⊎ (bound < f x))
           → cond (ltb (f x) (bound + 1)) (g x) 0 ≡ cond (ltb (f x) bound) (g x) 0 + cond (eqb (f x) bound) (g x) 0
       one (inl is) =
-          rw (lt-ltb (f x) (bound + 1) (omega arith), le-ltb (f x) bound (omega arith), eq-eqb (f x) bound is) (omega arith)
+          let here = eq-eqb (f x) bound is in
+          rw (lt-ltb (f x) (bound + 1) (omega arith), le-ltb (f x) bound (omega arith), here) (omega arith)
       one (inr (inl lt)) =
-          rw (lt-ltb (f x) (bound + 1) (omega arith), lt-ltb (f x) bound lt, ne_eqb (f x) bound (λ is. absurd (omega arith))) (omega arith)
+          let other = ne_eqb (f x) bound (λ is. absurd (omega arith)) in
+          rw (lt-ltb (f x) (bound + 1) (omega arith), lt-ltb (f x) bound lt, other) (omega arith)
       one (inr (inr gt)) =
           let other = ne_eqb (f x) bound (λ is. absurd (omega arith)) in
           rw (le-ltb (f x) (bound + 1) (omega arith), le-ltb (f x) bound (omega arith), other) (omega arith)
@@ -54,7 +60,8 @@ module _ {X : Type 0} (g : X → ℕ) where
 
 -- the objects have no more words than there are, where a chunk, perhaps free, stands before the others
 words_in_if : (test : Bool) (chunk : List ℕ) (objects : List Object) (words : ℕ) → words_in objects ≤ words
-    → words_in ((cond test (record { first = 0; chunk = chunk } ∷ []) []) ++ map (moved_on (length chunk)) objects) ≤ length chunk + words
+    → words_in ((cond test (record { first = 0; chunk = chunk } ∷ []) []) ++ map (moved_on (length chunk)) objects)
+    ≤ length chunk + words
 words_in_if true chunk objects words le =
     let moved = map (moved_on (length chunk)) objects in
     omega (arith, words_in-cons (record { first = 0; chunk = chunk }) moved, words_in-moved_on (length chunk) objects)
@@ -74,6 +81,12 @@ module _ (memory : Memory) (marks : List Bool) where
   live_words_below-le-words index =
       let marked = words_in-marked (take index marks) (take index (objects memory)) in
       omega (arith, marked, sum_by-take-le size (objects memory) index, words_in-le-concat memory.chunks)
+
+  -- and so are all live words
+  pub live_words-le-words : length marks ≡ object_count memory → live_words memory marks ≤ length (concat memory.chunks)
+  live_words-le-words sized =
+      let all = live_words_all memory marks (object_count memory) sized (omega arith) in
+      omega (arith, all, live_words_below-le-words (object_count memory))
 
   -- ---- the live words of a region
 
@@ -98,49 +111,54 @@ module _ (memory : Memory) (marks : List Bool) where
         ∙ ap (λ words. words + live_words_in cut memory marks region) (sym (live_words_below-objects_before region))
 
     -- the sums of the regions before one make the live words below its first object
-    sum-take-sums : (sums : List ℕ) → AreSums (record { cut = cut; memory = memory }) marks sums → (region : ℕ) → region ≤ length sums
+    sum-take-sums : (sums : List ℕ) → AreSums (record { cut = cut; memory = memory }) marks sums
+        → (region : ℕ) → region ≤ length sums
         → sum (take region sums) ≡ live_words_below memory marks (objects_before cut memory region)
     sum-take-sums sums h zero le =
         sym (live_words_below-objects_before 0 ∙ sum_by-filter_below_zero size (region_of cut) (live memory marks))
     sum-take-sums sums h (suc region) le =
         rw (← add-one region)
         (let lt : region < length sums = omega arith in
+        let before = sum-take-sums sums h region (omega arith) in
         let more = sum_by_more (λ (words : ℕ). words) sums region 0 lt in
-        omega (arith, more, sum-take-sums sums h region (omega arith), h.each region (omega (arith, h.sized)), live_words_below-next_region region))
+        let here = h.each region (omega (arith, h.sized)) in
+        omega (arith, more, before, here, live_words_below-next_region region))
 
 -- the live words of a region go behind the live words below its first object
 pub base_of_region : (regions : Regioning) (marks : List Bool) (bases : List ℕ) → AreBasesOf regions marks bases
     → (region : ℕ) → region < region_count regions.cut regions.memory
-    → get_or bases region 0 ≡ regions.memory.base + 4 * live_words_below regions.memory marks (objects_before regions.cut regions.memory region)
+    → get_or bases region 0
+    ≡ regions.memory.base + 4 * live_words_below regions.memory marks (objects_before regions.cut regions.memory region)
 base_of_region regions marks bases h region lt =
     let sized = h.are_sums.sized in
     let inside : region < length h.sums = omega arith in
     let before = sum-take-sums regions.memory marks regions.cut h.sums h.are_sums region (omega arith) in
     omega (arith, h.are_bases.each region inside, before)
 
--- the live words of a region are those between its first object and the next region's
-pub live_words_in-between : (regions : Regioning) (memory : Memory) (marks : List Bool) (region from to words : ℕ) → regions.memory ≡ memory
-    → from ≡ objects_before regions.cut regions.memory region → to ≡ objects_before regions.cut regions.memory (region + 1)
-    → live_words_below memory marks from + words ≡ live_words_below memory marks to
-    → words ≡ live_words_in regions.cut regions.memory marks region
-live_words_in-between regions memory marks region from to words same from_is to_is h =
-    let between = subst (λ (memory : Memory). live_words_below memory marks from + words ≡ live_words_below memory marks to) (sym same) h in
-    let first = ap (live_words_below regions.memory marks) from_is in
-    let end = ap (live_words_below regions.memory marks) to_is in
-    omega (arith, between, first, end, live_words_below-next_region regions.memory marks regions.cut region)
+module _ (regions : Regioning) (memory : Memory) (marks : List Bool) where
+  -- the live words of a region are those between its first object and the next region's
+  pub live_words_in-between : (region from to words : ℕ)
+      → regions.memory ≡ memory → from ≡ objects_before regions.cut regions.memory region
+      → to ≡ objects_before regions.cut regions.memory (region + 1)
+      → live_words_below memory marks from + words ≡ live_words_below memory marks to
+      → words ≡ live_words_in regions.cut regions.memory marks region
+  live_words_in-between region from to words same from_is to_is h =
+      let between =
+      subst (λ (memory : Memory). live_words_below memory marks from + words ≡ live_words_below memory marks to)
+      (sym same) h in
+      let first = ap (live_words_below regions.memory marks) from_is in
+      let end = ap (live_words_below regions.memory marks) to_is in
+      omega (arith, between, first, end, live_words_below-next_region regions.memory marks regions.cut region)
 
--- all live words are among the data words
-pub live_words-le-words : (memory : Memory) (marks : List Bool) → length marks ≡ object_count memory → live_words memory marks ≤ length (concat memory.chunks)
-live_words-le-words memory marks sized =
-    omega (arith, live_words_all memory marks (object_count memory) sized (omega arith), live_words_below-le-words memory marks (object_count memory))
-
--- the sums of all regions make all live words
-pub sum-AreSums : (regions : Regioning) (memory : Memory) (marks : List Bool) (sums : List ℕ) (count : ℕ) → regions.memory ≡ memory → AreSums regions marks sums
-    → count ≡ region_count regions.cut regions.memory → objects_before regions.cut regions.memory count ≡ object_count regions.memory → length marks ≡ object_count memory
-    → sum sums ≡ live_words memory marks
-sum-AreSums regions memory marks sums count is are count_is all sized =
-    subst (λ (m : Memory). sum sums ≡ live_words m marks) is
-    (sym (ap sum (take_all count sums (omega (arith, are.sized))))
-    ∙ sum-take-sums regions.memory marks regions.cut sums are count (omega (arith, are.sized))
-    ∙ ap (live_words_below regions.memory marks) all
-    ∙ live_words_all regions.memory marks (object_count regions.memory) (sized ∙ ap object_count (sym is)) (omega arith))
+  -- the sums of all regions make all live words
+  pub sum-AreSums : (sums : List ℕ) (count : ℕ) → regions.memory ≡ memory → AreSums regions marks sums
+      → count ≡ region_count regions.cut regions.memory
+      → objects_before regions.cut regions.memory count ≡ object_count regions.memory
+      → length marks ≡ object_count memory → sum sums ≡ live_words memory marks
+  sum-AreSums sums count is are count_is all sized =
+      subst (λ (m : Memory). sum sums ≡ live_words m marks) is
+      (sym (ap sum (take_all count sums (omega (arith, are.sized))))
+      ∙ sum-take-sums regions.memory marks regions.cut sums are count (omega (arith, are.sized))
+      ∙ ap (live_words_below regions.memory marks) all
+      ∙ live_words_all regions.memory marks (object_count regions.memory)
+      (sized ∙ ap object_count (sym is)) (omega arith))

@@ -40,18 +40,20 @@ loop-object-preserved c =
       | then-has+in_ok-push w ↦
           let is = sym c.has.ensures ∙ w.if-has.true in
           let at =
-          placed memory marks object c.loop-object.next w.chunk-chunk.result lt is w.chunk-chunk.ensures.described w.chunk-chunk.ensures.headed
-          c.requires.within so_far.next in
+          placed memory marks object c.loop-object.next w.chunk-chunk.result
+          lt is w.chunk-chunk.ensures.described w.chunk-chunk.ensures.headed c.requires.within so_far.next in
           let pushed =
-          AreEntriesOf-push_marked memory marks c.args.from object (c.loop-object.next + 4 * w.from.result) c.loop-object.places.items (omega arith) is
-          (omega (arith, at.0)) at.1 so_far.entries in
+          AreEntriesOf-push_marked memory marks c.args.from object (c.loop-object.next + 4 * w.from.result)
+          c.loop-object.places.items (omega arith) is (omega (arith, at.0)) at.1 so_far.entries in
           record {
             entries = rw (w.places-is, w.in_ok-push.ensures.items) pushed;
             next = omega (arith, at.2);
           }
       | else-has+in_ok-push-2 w ↦
           let is = sym c.has.ensures ∙ w.if-has.false in
-          let pushed = AreEntriesOf-push_unmarked memory marks c.args.from object c.loop-object.places.items (omega arith) is so_far.entries in
+          let entries = c.loop-object.places.items in
+          let pushed =
+          AreEntriesOf-push_unmarked memory marks c.args.from object entries (omega arith) is so_far.entries in
           record {
             entries = rw (w.places-is, w.in_ok-push-2.ensures.items) pushed;
             next = omega (arith, live_words_more_no memory marks object lt is);

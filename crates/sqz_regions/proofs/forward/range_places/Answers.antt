@@ -10,10 +10,11 @@ use Rattle.sqz_regions.proofs.forward.range_places.Goals as goal
 use Rattle.sqz_regions.proofs.forward.range_places.Goals.{After-words-words}
 
 -- the range's first object is the one where it begins
-first_begins : (c : After-words-words) → c.objects-from.result.0 ≡ range_begin c.args.regions.now.cut c.args.regions.now.memory c.args.range
+first_begins : (c : After-words-words)
+    → c.objects-from.result.0 ≡ range_begin c.args.regions.now.cut c.args.regions.now.memory c.args.range
 first_begins c =
     let regions = c.args.regions.now in
-    let inside : c.args.range * 4096 < object_count c.args.regions.now.memory = rw c.requires.regions c.requires.inside in
+    let inside : c.args.range * 4096 < object_count regions.memory = rw c.requires.regions c.requires.inside in
     c.objects-from.ensures.first
     ∙ ap (objects_before regions.cut regions.memory) c.region-region.ensures.region
     ∙ sym (range_begin-inside regions.cut regions.memory c.args.range inside)
@@ -32,11 +33,13 @@ places_between-requires-clause-begins c =
     let first = c.objects-from.ensures.first in
     base_of_region regions marks c.args.bases.now c.requires.bases region c.region-region.ensures.inside
     ∙ ap (λ (object : ℕ). regions.memory.base + 4 * live_words_below regions.memory marks object) (sym first)
-    ∙ ap (λ (memory : Memory). memory.base + 4 * live_words_below memory marks c.objects-from.result.0) c.requires.regions
+    ∙ ap (λ (memory : Memory). memory.base + 4 * live_words_below memory marks c.objects-from.result.0)
+    c.requires.regions
 
 pub returns : goal.returns
 returns c =
     let begins = first_begins (goal.at.returns c).After-words-words in
     IfOk-then c.places_between.result _ _ c.places_between.ensures (λ places are.
     AreEntriesOfRange-between c.args.regions.now c.args.heap.now c.args.marks.now c.args.range
-    c.objects-from.result.0 c.first_of_range-to.result places.items c.requires.regions begins c.first_of_range-to.ensures are)
+    c.objects-from.result.0 c.first_of_range-to.result places.items
+    c.requires.regions begins c.first_of_range-to.ensures are)

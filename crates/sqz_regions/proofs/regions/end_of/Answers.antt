@@ -14,5 +14,6 @@ pub returns-else-from-end : goal.returns-else-from-end
 returns-else-from-end c =
     let inside : c.loop-object.object < object_count c.args.heap.now = omega arith in
     let told = c.end-end.ensures c.first.result (omega arith) in
-    let above : points_up_to c.args.cut.now c.first.result ≤ c.args.region → ⊥ = λ le. absurd (let lt = told.1 le in omega arith) in
+    let above : points_up_to c.args.cut.now c.first.result ≤ c.args.region → ⊥ =
+    λ le. absurd (let lt = told.1 le in omega arith) in
     known_all c.args.cut.now c.args.heap.now _ _ _ inside c.first.ensures.first above c.loop-object.invariant

@@ -8,7 +8,8 @@ use Rattle.sqz_regions.proofs.sums.live_words.Goals as goal
 pub live_words_between-requires-clause-ordered : goal.live_words_between-requires-clause-ordered
 live_words_between-requires-clause-ordered c =
     let regions = c.args.regions.now in
-    omega (arith, objects_before-rises regions.cut regions.memory c.loop-region.region (c.loop-region.region + 1) (omega arith))
+    let region = c.loop-region.region in
+    omega (arith, objects_before-rises regions.cut regions.memory region (region + 1) (omega arith))
 
 pub loop-region-preserved : goal.loop-region-preserved
 loop-region-preserved c =
@@ -19,7 +20,8 @@ loop-region-preserved c =
     let one_more = ap length c.in_ok-push.ensures.items ∙ length_push sums words in
     let ends = c.objects-from.ensures in
     let is =
-    live_words_in-between c.args.regions.now c.args.heap.now c.args.marks.now region c.objects-from.result.0 c.objects-from.result.1 words
+    live_words_in-between c.args.regions.now c.args.heap.now c.args.marks.now
+    region c.objects-from.result.0 c.objects-from.result.1 words
     c.requires.regions ends.first ends.end c.live_words_between.ensures in
     record {
       sized = omega (arith, one_more, so_far.sized);
@@ -33,10 +35,12 @@ pub returns-clause-whole : goal.returns-clause-whole
 returns-clause-whole c =
     let regions = c.args.regions.now in
     let count = c.count-count.ensures in
-    let end : c.loop-region.region ≡ c.count-count.result = omega (arith, c.loop-region-test.false, c.loop-region.auto.region-end) in
+    let end : c.loop-region.region ≡ c.count-count.result =
+    omega (arith, c.loop-region-test.false, c.loop-region.auto.region-end) in
     let are : AreSums regions c.args.marks.now c.loop-region.sums.items =
     record {
       sized = c.loop-region.invariant.sized ∙ end ∙ count.count;
       each = λ region lt. c.loop-region.invariant.each region (omega (arith, lt, end, count.count));
     } in
-    sum-AreSums regions c.args.heap.now c.args.marks.now c.loop-region.sums.items c.count-count.result c.requires.regions are count.count count.all c.requires.sized
+    sum-AreSums regions c.args.heap.now c.args.marks.now c.loop-region.sums.items c.count-count.result
+    c.requires.regions are count.count count.all c.requires.sized

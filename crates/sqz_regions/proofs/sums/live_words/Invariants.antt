@@ -6,5 +6,6 @@ abbrev pub invariant-loop-region : goal.invariant-loop-region
 invariant-loop-region l =
     record {
       sized : length l.sums.items ≡ l.region;
-      each : (region : ℕ) → region < l.region → get_or l.sums.items region 0 ≡ live_words_in l.regions.cut l.regions.memory l.marks region;
+      each : (region : ℕ) → region < l.region
+          → get_or l.sums.items region 0 ≡ live_words_in l.regions.cut l.regions.memory l.marks region;
     }

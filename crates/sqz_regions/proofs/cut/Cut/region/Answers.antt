@@ -15,5 +15,6 @@ returns-in-At-clause-region c =
     let list : IsCutList c.in-At.points.items = rw c.in-At.is at c.self.invariant in
     let is : At c.in-At.points.items ≡ c.args.self.now = rw c.in-At.is at c.self.view_is in
     let clause = rw c.deref.ensures.value at c.partition_point.ensures.partitioned in
-    let point = IsPartitionPoint-from_clause (λ p. leb p c.args.word) _ _ clause (points_parted _ c.args.word list) (λ a r q k. search rules) in
+    let parted = points_parted _ c.args.word list in
+    let point = IsPartitionPoint-from_clause (λ p. leb p c.args.word) _ _ clause parted (λ a r q k. search rules) in
     region_at_point _ _ _ _ is list (rw c.deref.ensures.value at c.partition_point.ensures.bound) point

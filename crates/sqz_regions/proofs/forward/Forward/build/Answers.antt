@@ -8,7 +8,8 @@ use Rattle.rayon.specs.Numbers.{nat_range}
 use Rattle.rayon.proofs.ToStd.{nat_range-All}
 use Rattle.sqz_regions.specs.Bases.{AreBasesOf}
 use Rattle.sqz_regions.specs.Entries.{AreEntriesOf}
-use Rattle.sqz_regions.proofs.EntryLemmas.{IsRangePart, range_begins, AreEntriesOf-all_ranges, HaveRoom-entries, ArePlacesOf-entries}
+use Rattle.sqz_regions.proofs.EntryLemmas.{IsRangePart, range_begins, AreEntriesOf-all_ranges}
+use Rattle.sqz_regions.proofs.EntryLemmas.{HaveRoom-entries, ArePlacesOf-entries}
 use Rattle.sqz_regions.proofs.forward.Forward.build.Goals as goal
 use Rattle.sqz_regions.proofs.forward.Forward.build.Goals.{In_ok-places}
 
@@ -20,13 +21,19 @@ collect-requires-clause-ready g c κs within =
     let ends = c.into_par_iter.ensures in
     let many = c.div_ceil-ranges.ensures ∙ ap (λ n. div_ceil n 4096) c.len.ensures.objects in
     let inside = nat_range-All
-    (λ range. (range * 4096 < object_count heap) × ((regions.memory ≡ heap) × ((length marks ≡ object_count heap) × AreBasesOf regions marks c.args.bases.now)))
+    (λ range.
+    (range * 4096 < object_count heap)
+    × ((regions.memory ≡ heap) × ((length marks ≡ object_count heap) × AreBasesOf regions marks c.args.bases.now)))
     0 c.div_ceil-ranges.result
-    (λ range low high. (range_begins (object_count heap) range (rw many at high), (c.requires.regions, (c.requires.sized, c.requires.bases)))) in
-    rw (c.map.ensures.base, c.map.ensures.f, c.with_min_len.ensures.base, ends.0, ends.1) (λ k d lt. (inside k d lt, λ y p. tt))
+    (λ range low high.
+    let begins = range_begins (object_count heap) range (rw many at high) in
+    (begins, (c.requires.regions, (c.requires.sized, c.requires.bases)))) in
+    rw (c.map.ensures.base, c.map.ensures.f, c.with_min_len.ensures.base, ends.0, ends.1)
+    (λ k d lt. (inside k d lt, λ y p. tt))
 
 -- the table has an entry for each object
-are_entries : (g : _) (c : In_ok-places g) → AreEntriesOf c.args.heap.now c.args.marks.now 0 (object_count c.args.heap.now) c.in_ok-places.places.items
+are_entries : (g : _) (c : In_ok-places g)
+    → AreEntriesOf c.args.heap.now c.args.marks.now 0 (object_count c.args.heap.now) c.in_ok-places.places.items
 are_entries g c =
     let cut = c.args.regions.now.cut in
     let memory = c.args.heap.now in
@@ -41,10 +48,11 @@ are_entries g c =
     let ranges = chain.1 ∙ (λ i. nat_range (ends.0 i) (ends.1 i)) ∙ ap (range_with_len 0) whole in
     let each = gathered.1 ∙ ap (map Ok) (sym gathered.2) in
     let items : Vec ℕ Global → List ℕ = λ part. part.items in
-    let of_ranges : AllZip (IsRangePart cut memory marks AllocError items) chain.0 done.0 = chain.2 in
+    let is_part = IsRangePart cut memory marks AllocError items in
+    let of_ranges : AllZip is_part chain.0 done.0 = chain.2 in
     let zipped =
-    subst (λ (results : List (Result (Vec ℕ Global) AllocError)). AllZip (IsRangePart cut memory marks AllocError items) (range_with_len 0 count) results) each
-    (subst (λ (ranges : List ℕ). AllZip (IsRangePart cut memory marks AllocError items) ranges done.0) ranges of_ranges) in
+    subst (λ (results : List (Result (Vec ℕ Global) AllocError)). AllZip is_part (range_with_len 0 count) results) each
+    (subst (λ (ranges : List ℕ). AllZip is_part ranges done.0) ranges of_ranges) in
     let many = c.div_ceil-ranges.ensures ∙ ap (λ n. div_ceil n 4096) c.len.ensures.objects in
     let all = AreEntriesOf-all_ranges AllocError items cut memory marks count parts many zipped in
     rw (c.in_ok-places.ensures, c.deref.ensures.value) all
@@ -55,4 +63,5 @@ invariant_of-result g c =
 
 pub returns-clause-places : goal.returns-clause-places
 returns-clause-places g c =
-    ArePlacesOf-entries c.args.heap.now c.args.marks.now c.in_ok-places.places.items (are_entries g (goal.at.returns-clause-places g c).In_ok-places)
+    ArePlacesOf-entries c.args.heap.now c.args.marks.now c.in_ok-places.places.items
+    (are_entries g (goal.at.returns-clause-places g c).In_ok-places)

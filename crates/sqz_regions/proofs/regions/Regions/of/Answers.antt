@@ -7,7 +7,9 @@ loop-region-init c = rw c.in_ok-ends.ensures.items (no_end_yet c.args.cut.now c.
 
 pub end_of-end-requires : goal.end_of-end-requires
 end_of-end-requires c =
-    omega (arith, c.loop-region.invariant.last_is, objects_before-rises c.args.cut.now c.args.heap.now c.loop-region.region (c.loop-region.region + 1) (omega arith))
+    let region = c.loop-region.region in
+    let rises = objects_before-rises c.args.cut.now c.args.heap.now region (region + 1) (omega arith) in
+    omega (arith, c.loop-region.invariant.last_is, rises)
 
 pub loop-region-preserved : goal.loop-region-preserved
 loop-region-preserved c =
