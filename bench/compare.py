@@ -1,7 +1,7 @@
 #!/usr/bin/env python3
 """Runs the program over made images of 1, 16 and 64 MiB, and `cp` over the same files.
 
-Usage: bench/compare.py [MIB ...]
+Usage: bench/compare.py [--beside CHECKOUT] [--runs N] [MIB ...]
 
 Of the objects in each image a third is dead. The table has three parts, named in its first column.
 
@@ -17,19 +17,28 @@ a few have thousands of words. There are free chunks. Most pointers are to objec
 to a MiB away; class words name one object in 500, anywhere.
 
 Each line of the table is one run of the program and one of `cp`, each into a file that is not there
-yet. The images are the same each time, and take up to half a second a MiB to make. No time is
-asserted.
+yet. Each image has three lines, or as many as `--runs` says. The images are the same each time, and
+take up to half a second a MiB to make. No time is asserted.
+
+With `--beside` each line has also a run of the program of another checkout of this repository, which
+may be at another commit. In odd runs over an image this checkout's program goes first, in even ones
+the other, so that noise of the machine falls on both. MiB a second are then left out, and all of `cp`
+but its seconds. Behind the table stands for each image the median of the differences, this program's
+time less the other's, and in how many of the runs this one was slower. The script ends with an error
+where the two write different bytes.
 
 The peak is read from /proc each millisecond, so it is the least that it can have been; `-` stands
 where a command ended before it was read. Of a run of a few milliseconds most is the start of a
 process.
 """
 
+import argparse
 import array
 import collections
 import itertools
 import os
 import random
+import statistics
 import subprocess
 import sys
 import tempfile
@@ -37,8 +46,9 @@ import threading
 import time
 
 ROOT = os.path.dirname(os.path.dirname(os.path.realpath(__file__)))
-LAUNCHER = os.path.join(ROOT, "sqzcompact")
-PROGRAM = os.path.join(ROOT, "crates", "sqzcompact", "out", "sqzcompact")
+# What builds the program of a checkout, and the program, in the checkout's folder.
+LAUNCHER = "sqzcompact"
+PROGRAM = os.path.join("crates", "sqzcompact", "out", "sqzcompact")
 MIB = 1 << 20
 BASE = 0x1000
 HEADER_WORDS = 16
@@ -47,6 +57,7 @@ LARGEST = 20
 NEAR = 50
 FAR = 12_500
 ANYWHERE = 1 << 30
+SIZES = [1, 16, 64]
 RUNS = 3
 
 # How far the pointers of an image go: the part of them that go near, and how many objects away the
@@ -320,11 +331,46 @@ def measure(command):
     return seconds, memory.bytes
 
 
+def measure_in_turn(commands, run):
+    """What `measure` answers for each command; in each second run the last of them is run first."""
+    step = 1 if run % 2 == 0 else -1
+    return [measure(command) for command in commands[::step]][::step]
+
+
+def are_same(one, other):
+    """Whether two files have the same bytes."""
+    with open(one, "rb") as left, open(other, "rb") as right:
+        while True:
+            piece = left.read(MIB)
+            if piece != right.read(MIB):
+                return False
+            if not piece:
+                return True
+
+
+def memory_columns(size, peak):
+    """The peak memory over a file of so many bytes, as a part of a line."""
+    return f"{peak / MIB:9.1f} {peak / size:8.2f}" if peak else f"{'-':>9} {'-':>8}"
+
+
 def columns(size, measured):
     """What was measured over a file of so many bytes, as a part of a line."""
     seconds, peak = measured
-    memory = f"{peak / MIB:9.1f} {peak / size:8.2f}" if peak else f"{'-':>9} {'-':>8}"
-    return f"{seconds:9.3f} {size / MIB / seconds:8.1f} {memory}"
+    return f"{seconds:9.3f} {size / MIB / seconds:8.1f} {memory_columns(size, peak)}"
+
+
+def columns_beside(size, measured):
+    """The same for a line with two programs, which has no room for MiB a second."""
+    seconds, peak = measured
+    return f"{seconds:9.3f} {memory_columns(size, peak)}"
+
+
+def sides(size, programs, copied):
+    """What was measured of one program or two, and of `cp`, over a file of so many bytes."""
+    if len(programs) == 1:
+        return f"{columns(size, programs[0])}  {columns(size, copied)}"
+    each = "  ".join(columns_beside(size, measured) for measured in programs)
+    return f"{each}  {copied[0]:9.3f}"
 
 
 def print_titles():
@@ -334,32 +380,99 @@ def print_titles():
     print(f"{'far':>8} {'image':>5} {'MiB out':>9} {titles}  {titles}")
 
 
-def compare(mib, part, folder):
-    """Makes an image of so many MiB in the folder, and prints a line for each run over it."""
-    image, answer, copy = (os.path.join(folder, name) for name in ("image", "answer", "copy"))
+def print_titles_beside():
+    """Prints the two lines over a table with two programs."""
+    titles = f"{'seconds':>9} {'peak MiB':>9} {'of file':>8}"
+    print(f"{'':>24} {'sqzcompact':<28}    {'beside':<28}  cp")
+    print(f"{'far':>8} {'image':>5} {'MiB out':>9} {titles}  {titles}  {'seconds':>9}")
+
+
+def compare(mib, part, folder, programs, runs):
+    """Makes an image of so many MiB in the folder, and prints a line for each run over it. Answers for
+    each run the seconds of each program."""
+    image, copy = (os.path.join(folder, name) for name in ("image", "copy"))
+    answers = [os.path.join(folder, f"answer{number}") for number in range(len(programs))]
+    commands = [[program, image, answer] for program, answer in zip(programs, answers)]
     make_image(image, mib * MIB, PARTS[part])
-    for _ in range(RUNS):
-        compacted = measure([PROGRAM, image, answer])
+    seconds = []
+    for run in range(runs):
+        compacted = measure_in_turn(commands, run)
         copied = measure(["cp", image, copy])
-        out = os.path.getsize(answer) / MIB
-        for made in (answer, copy):
+        out = os.path.getsize(answers[0]) / MIB
+        if not all(are_same(answers[0], answer) for answer in answers[1:]):
+            sys.exit(f"the programs differ in what they write for {part}, {mib} MiB")
+        for made in (*answers, copy):
             os.remove(made)
-        sides = f"{columns(mib * MIB, compacted)}  {columns(mib * MIB, copied)}"
-        print(f"{part:>8} {mib:5} {out:9.2f} {sides}", flush=True)
+        print(f"{part:>8} {mib:5} {out:9.2f} {sides(mib * MIB, compacted, copied)}", flush=True)
+        seconds.append([measured[0] for measured in compacted])
+    return seconds
+
+
+def print_difference(mib, part, seconds):
+    """Prints by how much the first program was slower than the second, by their seconds in each run."""
+    differences = [this - other for this, other in seconds]
+    slower = f"{sum(difference > 0 for difference in differences)} of {len(differences)}"
+    print(f"{part:>8} {mib:5} {1000 * statistics.median(differences):+9.2f} {slower:>8}")
+
+
+def print_differences(compared):
+    """Prints a line for each image, by its size and part and by what `compare` answered."""
+    print()
+    print("sqzcompact less beside, the median in milliseconds, and in how many runs it was slower")
+    print(f"{'far':>8} {'image':>5} {'ms':>9} {'slower':>8}")
+    for mib, part, seconds in compared:
+        print_difference(mib, part, seconds)
+
+
+def build(checkout):
+    """Builds the program of a checkout where that is needed, and answers its path."""
+    launcher = os.path.join(checkout, LAUNCHER)
+    if not os.path.isfile(launcher):
+        sys.exit(f"{checkout} is no checkout of this repository")
+    if subprocess.run([launcher, "--help"], stdout=subprocess.DEVNULL).returncode != 0:
+        sys.exit(f"the program of {checkout} was not built")
+    return os.path.join(checkout, PROGRAM)
+
+
+def positive(word):
+    """The number above 0 that a word of the command line spells."""
+    number = int(word)
+    if number < 1:
+        raise ValueError
+    return number
+
+
+def read_options():
+    """What the command line asks for."""
+    parser = argparse.ArgumentParser(
+        usage="bench/compare.py [--beside CHECKOUT] [--runs N] [MIB ...]",
+        description="Runs the program over made images, and `cp` over the same files.",
+    )
+    parser.add_argument("--beside", metavar="CHECKOUT", help="run the program of this checkout too")
+    parser.add_argument("--runs", metavar="N", type=positive, default=RUNS, help="runs over each image")
+    parser.add_argument(
+        "sizes", metavar="MIB", type=positive, nargs="*", default=SIZES, help="how large images are"
+    )
+    return parser.parse_args()
 
 
 def main():
-    """Builds the program where that is needed, and compares it with `cp` on images of each size."""
-    words = sys.argv[1:] or ["1", "16", "64"]
-    if not all(word.isdecimal() and int(word) > 0 for word in words):
-        sys.exit(__doc__)
-    if subprocess.run([LAUNCHER, "--help"], stdout=subprocess.DEVNULL).returncode != 0:
-        sys.exit("the program was not built")
-    print_titles()
+    """Builds the programs where that is needed, and compares them on images of each size."""
+    options = read_options()
+    checkouts = [ROOT, options.beside] if options.beside else [ROOT]
+    programs = [build(checkout) for checkout in checkouts]
+    if options.beside:
+        print_titles_beside()
+    else:
+        print_titles()
+    compared = []
     with tempfile.TemporaryDirectory() as folder:
         for part in PARTS:
-            for word in words:
-                compare(int(word), part, folder)
+            for mib in options.sizes:
+                seconds = compare(mib, part, folder, programs, options.runs)
+                compared.append((mib, part, seconds))
+    if options.beside:
+        print_differences(compared)
 
 
 if __name__ == "__main__":
