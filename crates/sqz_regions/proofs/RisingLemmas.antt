@@ -96,9 +96,14 @@ module _ {X : Type 0} (f : X → ℕ) where
             rw (lt-ltb (f x) (bound + 1) (omega arith), lt-ltb (f x) bound lt, ne_eqb (f x) bound (λ is. absurd (omega arith)))
             (ap (λ (ys : List X). x ∷ ys) (filter_below-more bound (f x) marks xs h.1))
         | inr (inr gt) ↦
-            rw (le-ltb (f x) (bound + 1) (omega arith), le-ltb (f x) bound (omega arith), ne_eqb (f x) bound (λ is. absurd (omega arith)),
-            filter_below-none (bound + 1) (f x) marks xs (omega arith) h.1, filter_below-none bound (f x) marks xs (omega arith) h.1,
-            filter_at-none bound (f x) marks xs gt h.1) refl
+            rw (
+              le-ltb (f x) (bound + 1) (omega arith),
+              le-ltb (f x) bound (omega arith),
+              ne_eqb (f x) bound (λ is. absurd (omega arith)),
+              filter_below-none (bound + 1) (f x) marks xs (omega arith) h.1,
+              filter_below-none bound (f x) marks xs (omega arith) h.1,
+              filter_at-none bound (f x) marks xs gt h.1,
+            ) refl
       ]
 
   -- the marked ones among those below a bound are those of the marked ones that are below it
