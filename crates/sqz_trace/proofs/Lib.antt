@@ -1,3 +1,4 @@
+pub mod ShadeLemmas
 pub mod SlotLemmas
 pub mod EdgeLemmas
 pub mod NamedLemmas
@@ -5,3 +6,4 @@ pub mod ReachabilityLemmas
 pub mod MarkingLemmas
 pub mod DefectLemmas
 pub mod FirstDefectLemmas
+pub mod FinishingLemmas

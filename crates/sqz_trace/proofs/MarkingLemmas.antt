@@ -242,6 +242,6 @@ IsMarking-inside graph marks worklist index marking there =
     omega (arith, lt, marking.sized)
 
 -- a vector whose whole slice was written
-pub whole_slice : (count : ℕ) (new old : List Bool) → length new ≡ length old → count ≡ length old
+pub whole_slice : {X : Type 0} (count : ℕ) (new old : List X) → length new ≡ length old → count ≡ length old
     → take count (new ++ drop (length new) old) ≡ new
 whole_slice count new old same is = take_at new (drop (length new) old) count (sym (is ∙ sym same))

@@ -6,3 +6,4 @@ pub mod Marking
 pub mod Live
 pub mod Defects
 pub mod Ranges
+pub mod Shades

@@ -3,14 +3,18 @@
 
 mod contexts;
 mod defects;
+mod finishing;
 mod lowest_defect;
 mod marking;
 mod marks;
 mod methods;
+mod shades;
 mod slots;
 
 pub use defects::defect;
+pub use finishing::finish;
 pub use lowest_defect::first_defect;
 pub use marking::mark_plain;
 pub use marks::Marks;
+pub use shades::{Shade, Shades, first_shades};
 pub use slots::{class_address, named_by, target, traced, traced_fields};

@@ -7,8 +7,10 @@ ghost use Rattle.sqz_image.specs.Objects.{object_count};
 ghost use Rattle.sqz_trace.specs.Edges.{named_by, named_in, HasEdge};
 ghost use Rattle.sqz_trace.specs.Reachability.{IsReachability};
 ghost use Rattle.sqz_trace.specs.Marking.{IsNamedBelow, MarksTargets};
+ghost use Rattle.sqz_trace.specs.Shades.{marks_of};
 
-use crate::marks::Marks;
+use crate::marks::{Marks, has_mark};
+use crate::shades::{Shade, first_shades};
 use crate::slots::{class_address, named_by, traced_fields};
 use sqz_image::{Fault, Heap, Object};
 use std::alloc::{AllocError, Global};
@@ -17,17 +19,17 @@ use std::alloc::{AllocError, Global};
 fn mark_named(
     heap: &Heap,
     word: u32,
-    marks: &mut [bool],
+    shades: &mut [Shade],
     worklist: &mut Vec<u32>,
 ) -> Result<(), AllocError>
-    requires { length marks.old ≡ object_count heap.now }
+    requires { length shades.old ≡ object_count heap.now }
     ensures { OnOk result (MarksTargets (λ index. named_by heap.now word ≡ Some index)
-        marks.old worklist.old.items marks.new worklist.new.items) }
+        (marks_of shades.old) worklist.old.items (marks_of shades.new) worklist.new.items) }
 {
     if let Some(found) = named_by(heap, word) {
-        if !marks[found as usize] {
+        if !has_mark(shades[found as usize]) {
             worklist.push(found)?;
-            marks[found as usize] = true;
+            shades[found as usize] = Shade::Grey;
         }
     }
     Ok(())
@@ -37,15 +39,15 @@ fn mark_named(
 fn mark_all_named(
     heap: &Heap,
     words: &[u32],
-    marks: &mut [bool],
+    shades: &mut [Shade],
     worklist: &mut Vec<u32>,
 ) -> Result<(), AllocError>
-    requires { length marks.old ≡ object_count heap.now }
+    requires { length shades.old ≡ object_count heap.now }
     ensures { OnOk result (MarksTargets (IsNamedBelow heap.now words.now (length words.now))
-        marks.old worklist.old.items marks.new worklist.new.items) }
+        (marks_of shades.old) worklist.old.items (marks_of shades.new) worklist.new.items) }
 {
     for word in words {
-        mark_named(heap, *word, marks, worklist)?;
+        mark_named(heap, *word, shades, worklist)?;
     }
     Ok(())
 }
@@ -55,15 +57,15 @@ fn mark_all_named(
 fn mark_class(
     heap: &Heap,
     object: &Object<'_>,
-    marks: &mut [bool],
+    shades: &mut [Shade],
     worklist: &mut Vec<u32>,
 ) -> Result<(), AllocError>
-    requires { length marks.old ≡ object_count heap.now }
+    requires { length shades.old ≡ object_count heap.now }
     ensures { OnOk result (MarksTargets (λ index. named_in heap.now object.now ClassWord ≡ Some index)
-        marks.old worklist.old.items marks.new worklist.new.items) }
+        (marks_of shades.old) worklist.old.items (marks_of shades.new) worklist.new.items) }
 {
     if let Some(word) = class_address(object) {
-        mark_named(heap, word, marks, worklist)?;
+        mark_named(heap, word, shades, worklist)?;
     }
     Ok(())
 }
@@ -73,19 +75,19 @@ fn mark_class(
 fn mark_targets(
     heap: &Heap,
     index: u32,
-    marks: &mut [bool],
+    shades: &mut [Shade],
     worklist: &mut Vec<u32>,
 ) -> Result<(), AllocError>
     requires object { index < object_count heap.now }
-    requires sized { length marks.old ≡ object_count heap.now }
+    requires sized { length shades.old ≡ object_count heap.now }
     ensures { OnOk result (MarksTargets (HasEdge heap.now index)
-        marks.old worklist.old.items marks.new worklist.new.items) }
+        (marks_of shades.old) worklist.old.items (marks_of shades.new) worklist.new.items) }
 {
     let object = heap.object(index);
     let fields = object.fields();
     let traced = traced_fields(&object) as usize;
-    mark_class(heap, &object, marks, worklist)?;
-    mark_all_named(heap, &fields[..traced], marks, worklist)
+    mark_class(heap, &object, shades, worklist)?;
+    mark_all_named(heap, &fields[..traced], shades, worklist)
 }
 
 /// The reachable objects of a heap: a mark for each. Fails for want of memory alone.
@@ -93,13 +95,11 @@ pub fn mark_plain(alloc: Global, heap: &Heap) -> Result<Marks, Fault>
     ensures reachable { IfOk result (λ marks. IsReachability heap.now marks) }
     ensures refused { IfErr result (λ fault. fault ≡ OutOfMemory) }
 {
-    let mut marks = vec![in alloc; false; heap.len() as usize]?;
+    let mut shades = first_shades(alloc, heap)?;
     let mut worklist = Vec::new(alloc);
-    let special = heap.special();
-    marks[special as usize] = true;
-    worklist.push(special)?;
+    worklist.push(heap.special())?;
     while let Some(object) = worklist.pop() {
-        mark_targets(heap, object, &mut marks, &mut worklist)?;
+        mark_targets(heap, object, &mut shades, &mut worklist)?;
     }
-    Ok(Marks::new(marks))
+    Ok(Marks::new(shades))
 }

@@ -2,34 +2,38 @@
 
 ghost use Rattle.std.specs.Prelude.{◌≡◌, ◌<◌, ◌^◌, length, count_by, vec_len};
 ghost use Rattle.sqz_trace.specs.Graph.{is_marked};
+ghost use Rattle.sqz_trace.specs.Shades.{has_mark, marks_of};
 
+use crate::shades::{Shade, Shades};
 use std::marker::Model;
 
 /// A mark for each object of a heap. Contracts see it as the list of the marks, by index.
 #[derive(Drop)]
 pub struct Marks {
-    marks: Vec<bool>,
+    /// An object is marked where its shade is not white.
+    shades: Shades,
     count: u32,
 }
 
 impl Model for Marks {
     ghost use Rattle.std.specs.Prelude.{◌≡◌, Bool, List, count_by};
+    ghost use Rattle.sqz_trace.specs.Shades.{has_mark, marks_of};
 
     ghost Value = { List Bool };
 
-    ghost view = { λ marks. marks.marks.items };
+    ghost view = { λ marks. marks_of marks.shades.items };
 
-    ghost invariant = { λ marks. marks.count ≡ count_by (λ mark. mark) marks.marks.items };
+    ghost invariant = { λ marks. marks.count ≡ count_by (λ shade. has_mark shade) marks.shades.items };
 }
 
 impl Marks {
-    /// These marks, of which those that are set are counted.
-    pub(crate) fn new(marks: Vec<bool>) -> Marks
-        requires { vec_len marks < 2 ^ 32 }
-        ensures { result ≡ marks.items }
+    /// Marks for the objects that are not white, which are counted.
+    pub(crate) fn new(shades: Shades) -> Marks
+        requires { vec_len shades < 2 ^ 32 }
+        ensures { result ≡ marks_of shades.items }
     {
-        let count = marks.iter().filter(|mark| **mark).count() as u32;
-        Marks { marks, count }
+        let count = shades.iter().filter(|shade| has_mark(**shade)).count() as u32;
+        Marks { shades, count }
     }
 
     /// Whether the object is marked.
@@ -37,7 +41,7 @@ impl Marks {
         requires { object < length self.now }
         ensures { result ≡ is_marked self.now object }
     {
-        self.marks[object as usize]
+        has_mark(self.shades[object as usize])
     }
 
     /// How many objects are marked.
@@ -45,5 +49,15 @@ impl Marks {
         ensures { result ≡ count_by (λ mark. mark) self.now }
     {
         self.count
+    }
+}
+
+/// Whether an object of this shade is marked.
+pub(crate) fn has_mark(shade: Shade) -> bool
+    ensures { result ≡ has_mark shade }
+{
+    match shade {
+        Shade::White => false,
+        Shade::Grey | Shade::Black => true,
     }
 }

@@ -2,7 +2,7 @@
 
 use super::files::image_of;
 use sqz_image::{Fault, Slot};
-use sqz_trace::{defect, first_defect, mark_plain, target, traced};
+use sqz_trace::{defect, finish, first_defect, first_shades, mark_plain, target, traced};
 use std::test::Fail;
 
 /// A word that is neither an integer nor an address.
@@ -19,8 +19,11 @@ fn marks_of_a_dead_cycle(rt: HostRuntime) -> Result<(), Fail> {
     assert_eq!(rt; heap.len(), 6);
     let marks = mark_plain(rt.alloc(), heap)?;
     assert_eq!(rt; marks.count(), 4);
+    let finished = finish(heap, first_shades(rt.alloc(), heap)?);
+    assert_eq!(rt; finished.count(), 4);
     for (object, reachable) in [true, true, false, true, false, true].iter().enumerate() {
         assert_eq!(rt; marks.has(object as u32), *reachable, "object {object}");
+        assert_eq!(rt; finished.has(object as u32), *reachable, "object {object}");
     }
     assert_eq!(rt; first_defect(&rt, heap, &marks), None);
     Ok(())

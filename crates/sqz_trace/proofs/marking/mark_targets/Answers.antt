@@ -14,5 +14,5 @@ returns c =
     on_ok_weaker c.mark_all_named.result
     (λ second.
     MarksTargets-slots c.args.heap.now c.args.index c.requires.object fits _ (rw (count, words) refl)
-    c.args.marks.now _ _ c.args.worklist.now.items _ _ first second)
+    _ _ _ c.args.worklist.now.items _ _ first second)
     c.mark_all_named.ensures

@@ -1,0 +1,68 @@
+use Rattle.std.proofs.Common.{◌≡◌, ◌<◌, length, sym, ap, ◌∙◌, arith, inl, inr}
+use Rattle.std.proofs.lemmas.Bool.{cases_order}
+use Rattle.std.proofs.lemmas.List.{get_or_read}
+use Rattle.sqz_image.specs.Objects.{object_count}
+use Rattle.sqz_trace.specs.declared.shades.Shade.TheVariants.{White, Grey}
+use Rattle.sqz_trace.specs.Edges.{HasEdge}
+use Rattle.sqz_trace.specs.Reachability.{graph_from}
+use Rattle.sqz_trace.specs.Shades.{shade_at}
+use Rattle.sqz_trace.proofs.MarkingLemmas.{whole_slice}
+use Rattle.sqz_trace.proofs.FinishingLemmas.{grey-black, AreLawful-blackened, MarksReachable-finished, none_grey, unfinished_count, unfinished-blackened, less_to_do}
+use Rattle.sqz_trace.proofs.finishing.finish.Goals as goal
+
+pub loop-object-smaller-in-Grey : goal.loop-object-smaller-in-Grey
+loop-object-smaller-in-Grey c =
+    let object = c.loop-object.object in
+    let old = c.loop-object.shades in
+    let new = c.blacken-object.new.shades in
+    let inside : c.loop-object.object < length c.loop-object.shades.items =
+    omega (arith, c.loop-object-test.true, c.len.ensures.objects, c.loop-object.invariant.lawful.lawful.sized)
+    in
+    let grey : shade_at c.loop-object.shades.items c.loop-object.object ≡ Grey =
+    sym (get_or_read _ _ _ inside c.index.ensures White) ∙ c.in-Grey.is
+    in
+    let step = rw c.deref_mut.ensures.value at c.blacken-object.ensures.blackened in
+    let less = unfinished-blackened (HasEdge c.args.heap.now object) object old.items new inside grey step in
+    rw (whole_slice old.len new old.items step.sized old.ok.0)
+    (less_to_do (object_count c.args.heap.now) (unfinished_count new) (unfinished_count old.items) object c.blacken-object.result less)
+
+pub loop-object-preserved-in-Grey : goal.loop-object-preserved-in-Grey
+loop-object-preserved-in-Grey c =
+    let object = c.loop-object.object in
+    let old = c.loop-object.shades in
+    let new = c.blacken-object.new.shades in
+    let so_far = c.loop-object.invariant in
+    let law = so_far.lawful in
+    let inside : c.loop-object.object < length c.loop-object.shades.items =
+    omega (arith, c.loop-object-test.true, c.len.ensures.objects, c.loop-object.invariant.lawful.lawful.sized)
+    in
+    let grey : shade_at c.loop-object.shades.items c.loop-object.object ≡ Grey =
+    sym (get_or_read _ _ _ inside c.index.ensures White) ∙ c.in-Grey.is
+    in
+    let step = rw c.deref_mut.ensures.value at c.blacken-object.ensures.blackened in
+    let lowest = rw c.deref_mut.ensures.value at c.blacken-object.ensures.lowest in
+    rw (whole_slice old.len new old.items step.sized old.ok.0)
+    (record {
+      lawful = record {
+        start = law.start;
+        is_special = law.is_special;
+        lawful = AreLawful-blackened (graph_from law.start c.args.heap.now) object old.items new law.lawful grey step;
+      };
+      before = λ index lt is. elim (cases_order index object) [
+        | inl same ↦ grey-black (sym is ∙ ap (shade_at new) same ∙ step.black)
+        | inr (inl below) ↦ so_far.before index below (lowest index lt is)
+        | inr (inr above) ↦ absurd (omega (arith, c.blacken-object.ensures.next))
+      ];
+    })
+
+pub returns : goal.returns
+returns c =
+    let law = c.loop-object.invariant.lawful in
+    let all = none_grey (graph_from law.start c.args.heap.now) c.loop-object.shades.items c.loop-object.object
+    (omega (arith, c.loop-object-test.false, c.len.ensures.objects, law.lawful.sized)) c.loop-object.invariant.before in
+    rw c.new.ensures
+    (record {
+      start = law.start;
+      is_special = law.is_special;
+      reached = MarksReachable-finished (graph_from law.start c.args.heap.now) c.loop-object.shades.items law.lawful all;
+    })

@@ -1,0 +1,72 @@
+//! Marking that was begun, and is brought to its end without memory.
+
+ghost use Rattle.std.specs.Prelude.{◌≡◌, ℕ, ◌+◌, ◌<◌, ◌≤◌, length, Some};
+ghost use Rattle.sqz_image.specs.Objects.{object_count};
+ghost use Rattle.sqz_trace.specs.declared.shades.Shade.TheVariants.{Grey};
+ghost use Rattle.sqz_trace.specs.Edges.{target, HasEdge};
+ghost use Rattle.sqz_trace.specs.Reachability.{IsReachability};
+ghost use Rattle.sqz_trace.specs.Shades.{AreLawfulOf, Blackens, Greys, shade_at};
+
+use crate::marks::Marks;
+use crate::shades::{Shade, Shades};
+use crate::slots::{target, traced};
+use sqz_image::{Heap, Slot};
+
+/// The reachable objects of a heap, by shades of which the special objects array is not white, each object that is not
+/// white is reachable, and none that a black one names is white. It takes no memory.
+///
+/// Where no object is grey it looks at each shade once. Else it goes over the objects from the lowest grey one on, and
+/// back to the lowest that becomes grey on the way.
+pub fn finish(heap: &Heap, mut shades: Shades) -> Marks
+    requires { AreLawfulOf heap.now shades.items }
+    ensures { IsReachability heap.now result }
+{
+    let mut object = 0;
+    while object < heap.len() {
+        object = match shades[object as usize] {
+            Shade::Grey => blacken(heap, object, &mut shades),
+            Shade::White | Shade::Black => object + 1,
+        };
+    }
+    Marks::new(shades)
+}
+
+/// Makes the white targets of an object grey, and it black. Answers the lowest of them, or the next object where that is
+/// lower.
+fn blacken(heap: &Heap, object: u32, shades: &mut [Shade]) -> u32
+    requires object { object < object_count heap.now }
+    requires sized { length shades.old ≡ object_count heap.now }
+    ensures blackened { Blackens (HasEdge heap.now object) object shades.old shades.new }
+    ensures next { result ≤ object + 1 }
+    ensures lowest { (index : ℕ) → index < result → shade_at shades.new index ≡ Grey → shade_at shades.old index ≡ Grey }
+{
+    // no index is above 2^30
+    let _count = heap.len();
+    let mut lowest = grey_target(heap, object, Slot::ClassWord, shades, object + 1);
+    for k in 0..traced(heap, object) {
+        lowest = grey_target(heap, object, Slot::Field(k), shades, lowest);
+    }
+    shades[object as usize] = Shade::Black;
+    lowest
+}
+
+/// Makes the object that a slot names grey where it is white. Answers it, or the lowest so far where that is lower or
+/// none became grey.
+fn grey_target(heap: &Heap, object: u32, slot: Slot, shades: &mut [Shade], lowest: u32) -> u32
+    requires object { object < object_count heap.now }
+    requires sized { length shades.old ≡ object_count heap.now }
+    ensures greyed { Greys (λ index. target heap.now object slot ≡ Some index) shades.old shades.new }
+    ensures no_higher { result ≤ lowest }
+    ensures lowest { (index : ℕ) → index < result → shade_at shades.new index ≡ shade_at shades.old index }
+{
+    let Some(found) = target(heap, object, slot) else {
+        return lowest;
+    };
+    match shades[found as usize] {
+        Shade::White => {
+            shades[found as usize] = Shade::Grey;
+            lowest.min(found)
+        }
+        Shade::Grey | Shade::Black => lowest,
+    }
+}
