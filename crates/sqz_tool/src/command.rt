@@ -16,6 +16,7 @@ use clap::error::ErrorKind;
 use sqz_image::{Fault, Sink};
 use std::alloc::Global;
 use std::rt::Files;
+use std::sync::Wait;
 use std::thread::Threads;
 
 /// Does all that the command line asks for, and answers what the program is to end with: 0 where the
@@ -25,7 +26,7 @@ use std::thread::Threads;
 ///
 /// A file is made, or emptied, only when the first bytes of the answer are there. A fault is printed
 /// as one line on `err`, and the help on `out`. Where one of the two fails, the answer is the same.
-pub fn program<T: Files + Threads + Sync, C: Sink, E: Sink>(
+pub fn program<T: Files + Threads + Wait + Sync, C: Sink, E: Sink>(
     rt: &T,
     alloc: Global,
     words: &[String],

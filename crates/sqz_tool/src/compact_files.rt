@@ -16,6 +16,7 @@ use std::alloc::Global;
 use std::fs::File;
 use std::io::Read;
 use std::rt::Files;
+use std::sync::Wait;
 use std::thread::Threads;
 
 /// Compacts the image in one file into another.
@@ -23,7 +24,7 @@ use std::thread::Threads;
 /// Fails as `run` does, with `ReadFailed` also where the image cannot be opened, and with
 /// `WriteFailed` also where the other file cannot be made. Unless it fails with `WriteFailed`, that
 /// file is then as it was.
-pub(crate) fn compact<T: Files + Threads + Sync>(
+pub(crate) fn compact<T: Files + Threads + Wait + Sync>(
     rt: &T,
     alloc: Global,
     plan: &Plan,
@@ -39,7 +40,7 @@ pub(crate) fn compact<T: Files + Threads + Sync>(
 }
 
 /// A run over all that a reader has left. Fails as `run` does.
-fn compact_from<T: Threads + Sync, R: Read + Drop, W: Sink>(
+fn compact_from<T: Threads + Wait + Sync, R: Read + Drop, W: Sink>(
     rt: &T,
     alloc: Global,
     plan: &Plan,

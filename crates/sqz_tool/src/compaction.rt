@@ -11,9 +11,10 @@ use crate::summary::Summary;
 use sqz_image::{Fault, Image};
 use sqz_regions::{Forward, Regions, bases, live_words};
 use sqz_slide::{Pieces, slide};
-use sqz_trace::{first_defect, mark_plain};
-use sqz_workers::Gate;
+use sqz_trace::first_defect;
+use sqz_workers::{Gate, mark_locked};
 use std::alloc::Global;
+use std::sync::Wait;
 use std::thread::Threads;
 
 /// The data of a compacted image, and what its header says of them.
@@ -28,7 +29,7 @@ pub(crate) struct Compaction {
 
 /// The compaction of an image. Refused with the defect of the lowest reachable object that has one,
 /// else for want of memory alone.
-pub(crate) fn compaction_of<T: Threads + Sync, G: Gate>(
+pub(crate) fn compaction_of<T: Threads + Wait + Sync, G: Gate>(
     rt: &T,
     alloc: Global,
     plan: &Plan,
@@ -40,7 +41,7 @@ pub(crate) fn compaction_of<T: Threads + Sync, G: Gate>(
     ensures refused { IfErr result (λ fault. (fault ≡ OutOfMemory) ⊎ HasDefectIn image.now fault) }
 {
     let heap = image.heap();
-    let marks = mark_plain(alloc, heap)?;
+    let marks = mark_locked(rt, alloc, heap, plan.workers, gate)?;
     if let Some(fault) = first_defect(rt, heap, &marks) {
         return Err(fault);
     }

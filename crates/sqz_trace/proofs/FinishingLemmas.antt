@@ -20,7 +20,7 @@ use Rattle.sqz_trace.proofs.ShadeLemmas.{is_marked-shade, length-marks_of, marks
 use Rattle.sqz_trace.proofs.MarkingLemmas.{IsMarking, IsMarking-start}
 
 -- no two shades are one
-white-grey : White ≡ Grey → ⊥
+pub white-grey : White ≡ Grey → ⊥
 white-grey e = absurd cc
 
 white-black : White ≡ Black → ⊥
@@ -80,7 +80,7 @@ module _ (IsFirst IsSecond IsTarget : ℕ → Type 0)
     (from_first : (index : ℕ) → IsFirst index → IsTarget index)
     (from_second : (index : ℕ) → IsSecond index → IsTarget index) where
   -- some targets become grey, and then the others
-  pub Greys-then : (old shades new : List Shade) → Greys IsFirst old shades → Greys IsSecond shades new → Greys IsTarget old new
+  Greys-then : (old shades new : List Shade) → Greys IsFirst old shades → Greys IsSecond shades new → Greys IsTarget old new
   Greys-then old shades new first second =
       record {
         sized = second.sized ∙ first.sized;
@@ -101,7 +101,7 @@ module _ (IsFirst IsSecond IsTarget : ℕ → Type 0)
       }
 
 -- an object whose targets became grey becomes black
-pub Blackens-after : (IsTarget IsEdge : ℕ → Type 0) (object : ℕ) (old shades : List Shade) → object < length shades
+Blackens-after : (IsTarget IsEdge : ℕ → Type 0) (object : ℕ) (old shades : List Shade) → object < length shades
     → ((index : ℕ) → IsEdge index → IsTarget index) → ((index : ℕ) → IsTarget index → IsEdge index)
     → Greys IsTarget old shades → Blackens IsEdge object old (set shades object Black)
 Blackens-after IsTarget IsEdge object old shades inside to_target to_edge greys =
@@ -301,7 +301,7 @@ less_to_do count new old object next is =
 
 module _ (memory : Memory) (object : ℕ) where
   -- what one field more names is named by it, or by a slot before
-  pub below_or_next : (k index : ℕ) → IsTargetBelow memory object (k + 1) index
+  below_or_next : (k index : ℕ) → IsTargetBelow memory object (k + 1) index
       → IsTargetBelow memory object k index ⊎ (target memory object (Field k) ≡ Some index)
   below_or_next k index named = by_slot named.slot named.below named.names
     where
@@ -315,7 +315,7 @@ module _ (memory : Memory) (object : ℕ) where
           ]
 
   -- a slot before is one before the next
-  pub below_more : (k index : ℕ) → IsTargetBelow memory object k index → IsTargetBelow memory object (k + 1) index
+  below_more : (k index : ℕ) → IsTargetBelow memory object k index → IsTargetBelow memory object (k + 1) index
   below_more k index named = by_slot named.slot named.below named.names
     where
       by_slot : (slot : Slot) → IsBelow k slot → target memory object slot ≡ Some index → IsTargetBelow memory object (k + 1) index
@@ -323,7 +323,7 @@ module _ (memory : Memory) (object : ℕ) where
       by_slot (Field j) below names = record { slot = Field j; below = omega arith; names = names }
 
   -- what an edge leads to is named by the class word or by a traced field
-  pub edge-below : (index : ℕ) → HasEdge memory object index → IsTargetBelow memory object (traced (chunk_words memory object)) index
+  edge-below : (index : ℕ) → HasEdge memory object index → IsTargetBelow memory object (traced (chunk_words memory object)) index
   edge-below index edge = by_slot edge.slot edge.names
     where
       by_slot : (slot : Slot) → target memory object slot ≡ Some index
@@ -336,5 +336,24 @@ module _ (memory : Memory) (object : ℕ) where
           record { slot = Field k; below = ltb-true k (traced (chunk_words memory object)) held.0; names = names })
 
   -- and such a slot is an edge
-  pub below-edge : (count index : ℕ) → object < object_count memory → IsTargetBelow memory object count index → HasEdge memory object index
+  below-edge : (count index : ℕ) → object < object_count memory → IsTargetBelow memory object count index → HasEdge memory object index
   below-edge count index inside named = record { inside = inside; slot = named.slot; names = named.names }
+
+  -- the targets of the slots before became grey, and then that of the next field
+  pub Greys-next_field : (k : ℕ) (old shades new : List Shade) → Greys (IsTargetBelow memory object k) old shades
+      → Greys (λ index. target memory object (Field k) ≡ Some index) shades new
+      → Greys (IsTargetBelow memory object (k + 1)) old new
+  Greys-next_field k old shades new first second =
+      Greys-then (IsTargetBelow memory object k) (λ index. target memory object (Field k) ≡ Some index)
+      (IsTargetBelow memory object (k + 1)) (below_or_next k) (below_more k)
+      (λ index names. record { slot = Field k; below = omega arith; names = names }) old shades new first second
+
+  -- the targets of all slots became grey, and then the object black
+  pub Blackens-after_slots : (count : ℕ) (old shades : List Shade) → object < object_count memory
+      → length old ≡ object_count memory → count ≡ traced (chunk_words memory object)
+      → Greys (IsTargetBelow memory object count) old shades → Blackens (HasEdge memory object) object old (set shades object Black)
+  Blackens-after_slots count old shades inside sized all greys =
+      Blackens-after (IsTargetBelow memory object count) (HasEdge memory object) object old shades
+      (omega (arith, greys.sized, sized, inside))
+      (λ index edge. subst (λ (k : ℕ). IsTargetBelow memory object k index) (sym all) (edge-below index edge))
+      (λ index. below-edge count index inside) greys

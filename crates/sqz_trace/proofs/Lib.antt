@@ -7,3 +7,4 @@ pub mod MarkingLemmas
 pub mod DefectLemmas
 pub mod FirstDefectLemmas
 pub mod FinishingLemmas
+pub mod TurnLemmas

@@ -9,7 +9,7 @@ use Rattle.sqz_trace.specs.Marking.{IsIn, unmarked_count, MarksTargets}
 
 -- ---- lists
 
-IsIn-front : (x : ℕ) (xs ys : List ℕ) → IsIn x xs → IsIn x (xs ++ ys)
+pub IsIn-front : (x : ℕ) (xs ys : List ℕ) → IsIn x xs → IsIn x (xs ++ ys)
 IsIn-front x [] ys h = absurd h
 IsIn-front x (y ∷ xs) ys (inl e) = inl e
 IsIn-front x (y ∷ xs) ys (inr h) = inr (IsIn-front x xs ys h)

@@ -7,9 +7,10 @@ ghost use Rattle.sqz_trace.specs.Edges.{target, HasEdge};
 ghost use Rattle.sqz_trace.specs.Reachability.{IsReachability};
 ghost use Rattle.sqz_trace.specs.Shades.{AreLawfulOf, Blackens, Greys, shade_at};
 
+use crate::greying::grey_white_target;
 use crate::marks::Marks;
 use crate::shades::{Shade, Shades};
-use crate::slots::{target, traced};
+use crate::slots::traced;
 use sqz_image::{Heap, Slot};
 
 /// The reachable objects of a heap, by shades of which the special objects array is not white, each object that is not
@@ -59,14 +60,8 @@ fn grey_target(heap: &Heap, object: u32, slot: Slot, shades: &mut [Shade], lowes
     ensures no_higher { result ≤ lowest }
     ensures lowest { (index : ℕ) → index < result → shade_at shades.new index ≡ shade_at shades.old index }
 {
-    let Some(found) = target(heap, object, slot) else {
-        return lowest;
-    };
-    match shades[found as usize] {
-        Shade::White => {
-            shades[found as usize] = Shade::Grey;
-            lowest.min(found)
-        }
-        Shade::Grey | Shade::Black => lowest,
+    match grey_white_target(heap, object, slot, shades) {
+        Some(found) => lowest.min(found),
+        None => lowest,
     }
 }

@@ -4,12 +4,14 @@
 mod contexts;
 mod defects;
 mod finishing;
+mod greying;
 mod lowest_defect;
 mod marking;
 mod marks;
 mod methods;
 mod shades;
 mod slots;
+mod turns;
 
 pub use defects::defect;
 pub use finishing::finish;
@@ -18,3 +20,4 @@ pub use marking::mark_plain;
 pub use marks::Marks;
 pub use shades::{Shade, Shades, first_shades};
 pub use slots::{class_address, named_by, target, traced, traced_fields};
+pub use turns::blacken_listed;

@@ -2,5 +2,8 @@
 #![tactic(auto)]
 
 mod gate;
+mod locked;
+mod marking;
 
 pub use gate::{Gate, OpenGate, Phase};
+pub use locked::mark_locked;

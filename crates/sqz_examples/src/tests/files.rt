@@ -10,8 +10,15 @@ use sqz_tool::{Plan, Summary, run};
 use sqz_workers::OpenGate;
 use std::alloc::{AllocError, Global};
 use std::process::Abort;
+use std::sync::Wait;
 use std::test::Fail;
 use std::thread::Threads;
+
+/// The words of an image in which two dead objects name each other, and two live ones do so. Its special objects array
+/// is at 0x1024 where the words begin at 0x1000.
+pub const DEAD_CYCLE: [u32; 12] = [
+    0x1007, 0x110B, 0x1014, 0x110B, 0x101C, 0x110B, 0x1004, 0x110B, 0x100C, 0x320F, 0x1000, 0x1004,
+];
 
 /// The bytes of a file with these data words.
 pub fn file_of(
@@ -52,7 +59,7 @@ pub fn plan_of(words: u32) -> Result<Plan, Fault> {
 }
 
 /// A run over a file by a plan, with room for all it may write.
-pub fn run_by_plan<R: Threads + Sync>(
+pub fn run_by_plan<R: Threads + Wait + Sync>(
     rt: &R,
     alloc: Global,
     plan: &Plan,
@@ -65,7 +72,11 @@ pub fn run_by_plan<R: Threads + Sync>(
 }
 
 /// A run over a file with regions of 64 Ki words.
-pub fn run_over<R: Threads + Sync>(rt: &R, alloc: Global, file: Vec<u8>) -> Result<Outcome, Fail> {
+pub fn run_over<R: Threads + Wait + Sync>(
+    rt: &R,
+    alloc: Global,
+    file: Vec<u8>,
+) -> Result<Outcome, Fail> {
     run_by_plan(rt, alloc, &plan_of(65_536)?, file)
 }
 
@@ -78,7 +89,7 @@ pub fn image_of(alloc: Global, words: &[u32], special: u32) -> Result<Image, Fai
 }
 
 /// Asserts that a file is compacted to another, and answers the numbers of the run.
-pub fn assert_file_compacts<R: Threads + Sync + Abort + AllocGlobal>(
+pub fn assert_file_compacts<R: Threads + Wait + Sync + Abort + AllocGlobal>(
     rt: &R,
     file: Vec<u8>,
     wanted: &[u8],
@@ -90,7 +101,7 @@ pub fn assert_file_compacts<R: Threads + Sync + Abort + AllocGlobal>(
 }
 
 /// Asserts that little-endian words are compacted to others, and answers the numbers of the run.
-pub fn assert_compacts<R: Threads + Sync + Abort + AllocGlobal>(
+pub fn assert_compacts<R: Threads + Wait + Sync + Abort + AllocGlobal>(
     rt: &R,
     base: u32,
     words: &[u32],
@@ -107,7 +118,7 @@ pub fn assert_compacts<R: Threads + Sync + Abort + AllocGlobal>(
 }
 
 /// Asserts that a run over a file is refused with this fault and writes nothing.
-pub fn assert_refused<R: Threads + Sync + Abort + AllocGlobal>(
+pub fn assert_refused<R: Threads + Wait + Sync + Abort + AllocGlobal>(
     rt: &R,
     file: Vec<u8>,
     fault: Fault,
@@ -120,7 +131,7 @@ pub fn assert_refused<R: Threads + Sync + Abort + AllocGlobal>(
 
 /// Asserts that a run over words from the address 0x1000 on is refused with this fault in either byte
 /// order, and writes nothing.
-pub fn assert_words_refused<R: Threads + Sync + Abort + AllocGlobal>(
+pub fn assert_words_refused<R: Threads + Wait + Sync + Abort + AllocGlobal>(
     rt: &R,
     words: &[u32],
     special: u32,

@@ -1,6 +1,6 @@
 //! Gates that watch the workers, and hold them until others have come.
 
-use super::files::file_of;
+use super::files::{DEAD_CYCLE, file_of};
 use sqz_image::{Fault, MemorySink, MemorySource};
 use sqz_marks::Workers;
 use sqz_object::Order;
@@ -8,6 +8,7 @@ use sqz_regions::Cut;
 use sqz_tool::{Plan, run};
 use sqz_workers::{Gate, Phase};
 use std::process::Abort;
+use std::sync::Wait;
 use std::sync::atomic::{AtomicU64, Ordering};
 use std::test::Fail;
 use std::thread;
@@ -18,11 +19,6 @@ const MOST_LOOKS: u32 = 10_000_000;
 
 /// How many turns of each worker a watch counts.
 const TURNS: u64 = 8;
-
-/// An image in which two dead objects name each other, and two live ones do so.
-const DEAD_CYCLE: [u32; 12] = [
-    0x1007, 0x110B, 0x1014, 0x110B, 0x101C, 0x110B, 0x1004, 0x110B, 0x100C, 0x320F, 0x1000, 0x1004,
-];
 
 /// A gate that holds the first turn of each of two workers until the other one's was called.
 #[derive(Drop)]
@@ -98,8 +94,35 @@ impl Gate for Watch {
     }
 }
 
+/// A gate that counts the turns of a phase, and keeps the highest.
+#[derive(Drop)]
+struct Count {
+    phase: Phase,
+    turns: AtomicU64,
+    highest: AtomicU64,
+}
+
+impl Count {
+    fn new(phase: Phase) -> Count {
+        Count {
+            phase,
+            turns: AtomicU64::new(0),
+            highest: AtomicU64::new(0),
+        }
+    }
+}
+
+impl Gate for Count {
+    fn pass(&self, phase: Phase, _worker: u32, turn: u64) {
+        if phase == self.phase {
+            self.turns.fetch_add(1, Ordering::SeqCst);
+            self.highest.fetch_max(turn, Ordering::SeqCst);
+        }
+    }
+}
+
 /// A run over the image by a plan, through a gate; answers how many objects it kept.
-fn run_through<R: Threads + Sync + Abort + AllocGlobal, G: Gate>(
+fn run_through<R: Threads + Wait + Sync + Abort + AllocGlobal, G: Gate>(
     rt: &R,
     workers: u32,
     cut: Cut,
@@ -114,6 +137,23 @@ fn run_through<R: Threads + Sync + Abort + AllocGlobal, G: Gate>(
     let mut sink = MemorySink::new(rt.alloc(), 4096, None)?;
     let summary = run(rt, rt.alloc(), &plan, &mut source, &mut sink, gate)?;
     Ok(summary.kept)
+}
+
+#[test]
+fn two_workers_mark_at_one_time(rt: HostRuntime) -> Result<(), Fail> {
+    let gate = Meeting::new(Phase::Mark);
+    assert_eq!(rt; run_through(&rt, 2, Cut::every(65_536)?, &gate)?, 4);
+    assert_eq!(rt; gate.met.load(Ordering::SeqCst), 2);
+    Ok(())
+}
+
+#[test]
+fn worker_leaves_after_64_empty_turns(rt: HostRuntime) -> Result<(), Fail> {
+    let gate = Count::new(Phase::Mark);
+    assert_eq!(rt; run_through(&rt, 1, Cut::every(65_536)?, &gate)?, 4);
+    assert_eq!(rt; gate.turns.load(Ordering::SeqCst), 68);
+    assert_eq!(rt; gate.highest.load(Ordering::SeqCst), 67);
+    Ok(())
 }
 
 #[test]

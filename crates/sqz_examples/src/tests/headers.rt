@@ -5,6 +5,7 @@ use sqz_image::Fault;
 use sqz_object::{Order, put_word};
 use std::alloc::{AllocError, Global};
 use std::process::Abort;
+use std::sync::Wait;
 use std::test::Fail;
 use std::thread::Threads;
 
@@ -38,7 +39,7 @@ fn file_that_states(
 }
 
 /// Asserts that so many bytes of a file that states this are refused, in either order.
-fn assert_refuses<R: Threads + Sync + Abort + AllocGlobal>(
+fn assert_refuses<R: Threads + Wait + Sync + Abort + AllocGlobal>(
     rt: &R,
     stated: &Stated,
     length: usize,

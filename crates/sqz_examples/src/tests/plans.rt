@@ -1,6 +1,6 @@
 //! One image by several plans: the answer is the same.
 
-use super::files::{file_of, run_by_plan};
+use super::files::{DEAD_CYCLE, file_of, run_by_plan};
 use sqz_image::Fault;
 use sqz_marks::Workers;
 use sqz_object::Order;
@@ -10,10 +10,6 @@ use std::test::Fail;
 
 #[test]
 fn same_answer_for_each_plan(rt: HostRuntime) -> Result<(), Fail> {
-    let words = [
-        0x1007, 0x110B, 0x1014, 0x110B, 0x101C, 0x110B, 0x1004, 0x110B, 0x100C, 0x320F, 0x1000,
-        0x1004,
-    ];
     let answer = [
         0x1007, 0x110B, 0x100C, 0x110B, 0x1004, 0x320F, 0x1000, 0x1004,
     ];
@@ -31,7 +27,7 @@ fn same_answer_for_each_plan(rt: HostRuntime) -> Result<(), Fail> {
         };
         for number in [1, 2, 64] {
             plan.workers = Workers::new(number)?;
-            let file = file_of(rt.alloc(), Order::Little, 0x1000, &words, 0x1024)?;
+            let file = file_of(rt.alloc(), Order::Little, 0x1000, &DEAD_CYCLE, 0x1024)?;
             let outcome = run_by_plan(&rt, rt.alloc(), &plan, file)?;
             let summary = outcome.answer?;
             assert_eq!(rt; summary.kept, 4, "with {number} workers");

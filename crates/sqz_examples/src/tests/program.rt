@@ -9,6 +9,7 @@ use std::fs::File;
 use std::io::{Read, Write};
 use std::process::Abort;
 use std::rt::Files;
+use std::sync::Wait;
 use std::test::Fail;
 use std::thread::Threads;
 
@@ -21,7 +22,7 @@ pub struct Ended {
 }
 
 /// Runs the program with these words after its name.
-pub fn run_program<R: Threads + Sync + Files>(
+pub fn run_program<R: Threads + Wait + Sync + Files>(
     rt: &R,
     alloc: Global,
     words: &[&str],
@@ -38,7 +39,7 @@ pub fn run_program<R: Threads + Sync + Files>(
 }
 
 /// Asserts that the program ended so, with this line on standard error and nothing else printed.
-fn assert_faults<R: Threads + Sync + Abort + AllocGlobal + Files>(
+fn assert_faults<R: Threads + Wait + Sync + Abort + AllocGlobal + Files>(
     rt: &R,
     words: &[&str],
     exit: u8,
@@ -52,7 +53,7 @@ fn assert_faults<R: Threads + Sync + Abort + AllocGlobal + Files>(
 }
 
 /// Asserts that a run from the one path to the other ends so, with this line, and makes no file there.
-fn assert_makes_nothing<R: Threads + Sync + Abort + AllocGlobal + Files>(
+fn assert_makes_nothing<R: Threads + Wait + Sync + Abort + AllocGlobal + Files>(
     rt: &R,
     from: &str,
     to: &str,

@@ -7,6 +7,7 @@ use super::test_files::{Behavior, Disk, IN, OUT, SOUND, TestFiles, Written};
 use sqz_object::Order;
 use std::alloc::{AllocError, Global};
 use std::process::Abort;
+use std::sync::Wait;
 use std::test::Fail;
 use std::thread::Threads;
 
@@ -27,7 +28,7 @@ fn compacted_image(alloc: Global) -> Result<Vec<u8>, AllocError> {
 }
 
 /// How the program ended with this image in IN, and what it did to OUT.
-fn run_over<R: Threads + Sync + Drop>(
+fn run_over<R: Threads + Wait + Sync + Drop>(
     rt: &R,
     alloc: Global,
     image: &[u8],
@@ -40,7 +41,7 @@ fn run_over<R: Threads + Sync + Drop>(
 }
 
 /// Asserts that the program writes this to OUT and flushes it.
-fn assert_writes<R: Threads + Sync + Abort + AllocGlobal + Drop>(
+fn assert_writes<R: Threads + Wait + Sync + Abort + AllocGlobal + Drop>(
     rt: &R,
     image: &[u8],
     behavior: Behavior,
@@ -54,7 +55,7 @@ fn assert_writes<R: Threads + Sync + Abort + AllocGlobal + Drop>(
 }
 
 /// Asserts that the program ends with 3 and this line, and answers what it did to OUT.
-fn assert_fails<R: Threads + Sync + Abort + AllocGlobal + Drop>(
+fn assert_fails<R: Threads + Wait + Sync + Abort + AllocGlobal + Drop>(
     rt: &R,
     image: &[u8],
     behavior: Behavior,

@@ -1,6 +1,6 @@
 //! Regions of small images, their live words and bases, and the places of their objects.
 
-use super::files::image_of;
+use super::files::{DEAD_CYCLE, image_of};
 use sqz_image::Image;
 use sqz_regions::{Cut, Forward, Regions, bases, live_words};
 use sqz_trace::mark_plain;
@@ -9,12 +9,7 @@ use std::process::Abort;
 use std::test::Fail;
 use std::thread::Threads;
 
-/// Two dead objects that name each other, and two live ones that do so.
-const DEAD_CYCLE: [u32; 12] = [
-    0x1007, 0x110B, 0x1014, 0x110B, 0x101C, 0x110B, 0x1004, 0x110B, 0x100C, 0x320F, 0x1000, 0x1004,
-];
-
-/// Where the live objects of that image go.
+/// Where the live objects of the dead cycle's image go.
 const DEAD_CYCLE_PLACES: [Option<u32>; 6] = [
     Some(0x1000),
     Some(0x1004),

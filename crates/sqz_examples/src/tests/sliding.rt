@@ -3,7 +3,7 @@
 ghost use Rattle.std.specs.Prelude.{◌≡◌, length, IfOk};
 ghost use Rattle.sqz_image.specs.Objects.{object_count};
 
-use super::files::image_of;
+use super::files::{DEAD_CYCLE, image_of};
 use sqz_image::{Heap, Image};
 use sqz_marks::Workers;
 use sqz_regions::{Cut, Forward, Regions, bases, live_words};
@@ -83,14 +83,10 @@ fn assert_pieces<R: Threads + Sync + Abort + AllocGlobal>(
 
 #[test]
 fn dead_cycle_in_three_pieces(rt: HostRuntime) -> Result<(), Fail> {
-    let words = [
-        0x1007, 0x110B, 0x1014, 0x110B, 0x101C, 0x110B, 0x1004, 0x110B, 0x100C, 0x320F, 0x1000,
-        0x1004,
-    ];
     let wanted = [
         0x1007, 0x110B, 0x100C, 0x110B, 0x1004, 0x320F, 0x1000, 0x1004,
     ];
-    let image = image_of(rt.alloc(), &words, 0x1024)?;
+    let image = image_of(rt.alloc(), &DEAD_CYCLE, 0x1024)?;
     for workers in [1, 2, 64] {
         assert_pieces(&rt, &image, &[1, 3], workers, &[1, 2, 5], &wanted)?;
     }

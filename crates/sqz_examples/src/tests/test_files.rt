@@ -7,7 +7,7 @@ use std::fs::{Metadata, OpenOptions};
 use std::io;
 use std::io::{Empty, Error, ErrorKind};
 use std::rt::Files;
-use std::sync::Mutex;
+use std::sync::{Mutex, Wait};
 use std::thread::Threads;
 
 /// The path of the file that can be read.
@@ -88,6 +88,8 @@ pub struct TestFiles<'a, R> {
 }
 
 impl<R: Threads> Threads for TestFiles<'_, R> {}
+
+impl<R: Wait> Wait for TestFiles<'_, R> {}
 
 impl<'a, R> Files for TestFiles<'a, R> {
     type File = TestFile<'a>;

@@ -1,8 +1,10 @@
 //! What objects name, which of them are reachable, and what is wrong with them, in small images.
 
-use super::files::image_of;
+use super::files::{DEAD_CYCLE, image_of};
 use sqz_image::{Fault, Slot};
+use sqz_marks::Workers;
 use sqz_trace::{defect, finish, first_defect, first_shades, mark_plain, target, traced};
+use sqz_workers::{OpenGate, mark_locked};
 use std::test::Fail;
 
 /// A word that is neither an integer nor an address.
@@ -10,11 +12,7 @@ const ODD: u32 = 0xFFFF_FFFE;
 
 #[test]
 fn marks_of_a_dead_cycle(rt: HostRuntime) -> Result<(), Fail> {
-    let words = [
-        0x1007, 0x110B, 0x1014, 0x110B, 0x101C, 0x110B, 0x1004, 0x110B, 0x100C, 0x320F, 0x1000,
-        0x1004,
-    ];
-    let image = image_of(rt.alloc(), &words, 0x1024)?;
+    let image = image_of(rt.alloc(), &DEAD_CYCLE, 0x1024)?;
     let heap = image.heap();
     assert_eq!(rt; heap.len(), 6);
     let marks = mark_plain(rt.alloc(), heap)?;
@@ -26,6 +24,22 @@ fn marks_of_a_dead_cycle(rt: HostRuntime) -> Result<(), Fail> {
         assert_eq!(rt; finished.has(object as u32), *reachable, "object {object}");
     }
     assert_eq!(rt; first_defect(&rt, heap, &marks), None);
+    Ok(())
+}
+
+#[test]
+fn marks_under_a_lock(rt: HostRuntime) -> Result<(), Fail> {
+    let image = image_of(rt.alloc(), &DEAD_CYCLE, 0x1024)?;
+    let heap = image.heap();
+    assert_eq!(rt; heap.len(), 6);
+    for number in [1, 2, 64] {
+        let workers = Workers::new(number)?;
+        let marks = mark_locked(&rt, rt.alloc(), heap, workers, &OpenGate)?;
+        assert_eq!(rt; marks.count(), 4, "with {number} workers");
+        for (object, reachable) in [true, true, false, true, false, true].iter().enumerate() {
+            assert_eq!(rt; marks.has(object as u32), *reachable, "object {object}");
+        }
+    }
     Ok(())
 }
 

@@ -1,0 +1,86 @@
+//! Marking by workers that take turns under a lock.
+
+ghost use Rattle.std.specs.Prelude.{◌≡◌, ◌<◌, IfOk, IfErr};
+ghost use Rattle.sqz_image.specs.declared.fault.Fault.TheVariants.{OutOfMemory};
+ghost use Rattle.sqz_trace.specs.Reachability.{IsReachability};
+
+use crate::gate::{Gate, Phase};
+use crate::marking::{Marked, Marking};
+use sqz_image::{Fault, Heap};
+use sqz_marks::Workers;
+use sqz_trace::Marks;
+use std::alloc::Global;
+use std::marker::Brand;
+use std::sync::{Mutex, Wait};
+use std::thread;
+use std::thread::Threads;
+
+/// After so many turns in a row that found no object a worker leaves.
+const MOST_EMPTY_TURNS: u32 = 64;
+
+/// The reachable objects of a heap, marked by so many workers, each in a thread of its own where one can be started. In
+/// its turn a worker passes the gate, takes the lock, takes one object from a list, and marks what that names. It leaves
+/// after 64 turns in a row that found the list empty, or after four turns for each object and 4096 more. It may wait, for
+/// the lock. Fails for want of memory alone.
+pub fn mark_locked<R: Threads + Wait + Sync, G: Gate>(
+    rt: &R,
+    alloc: Global,
+    heap: &Heap,
+    workers: Workers,
+    gate: &G,
+) -> Result<Marks, Fault>
+    ensures reachable { IfOk result (λ marks. IsReachability heap.now marks) }
+    ensures refused { IfErr result (λ fault. fault ≡ OutOfMemory) }
+{
+    mark_in_turns::<Brand, R, G>(rt, alloc, heap, workers, gate)
+}
+
+/// The same, where the heap has a name.
+fn mark_in_turns<M: Marked + Send + Sync, R: Threads + Wait + Sync, G: Gate>(
+    rt: &R,
+    alloc: Global,
+    heap: &Heap,
+    workers: Workers,
+    gate: &G,
+) -> Result<Marks, Fault>
+    requires { heap.now ≡ M.memory }
+    ensures reachable { IfOk result (λ marks. IsReachability heap.now marks) }
+    ensures refused { IfErr result (λ fault. fault ≡ OutOfMemory) }
+{
+    let marking: Mutex<Marking<M>> = Mutex::new(Marking::new(alloc, heap)?);
+    thread::map_indices(
+        rt,
+        alloc,
+        workers.number() as usize,
+        &|worker: usize|
+            requires worker { worker < 64 }
+            requires heap { heap.now ≡ M.memory }
+        { work(rt, &marking, heap, worker as u32, gate) },
+    )?;
+    Ok(marking.into_inner().finish(heap))
+}
+
+/// The turns of a worker.
+fn work<M: Marked, R: Wait, G: Gate>(
+    rt: &R,
+    marking: &Mutex<Marking<M>>,
+    heap: &Heap,
+    worker: u32,
+    gate: &G,
+)
+    requires { heap.now ≡ M.memory }
+{
+    let turns = 4 * u64::from(heap.len()) + 4096;
+    let mut empty = 0;
+    for turn in 0..turns {
+        gate.pass(Phase::Mark, worker, turn);
+        if marking.lock(rt).turn(heap) {
+            empty = 0;
+        } else {
+            empty += 1;
+        }
+        if empty == MOST_EMPTY_TURNS {
+            return;
+        }
+    }
+}
