@@ -38,16 +38,16 @@ PASSES = {
     "read": r"(__GI_)?(__)?(libc_)?read$|sqz_image::read_whole::",
     "words": r"sqz_image::words::words_of",
     "index": r"sqz_image::(index::|ranks::ranked)",
-    "mark": r"sqz_trace::marking::",
+    "mark": r"sqz_workers::(locked|marking)::|sqz_trace::(turns|greying|slots::traced\b)",
     "defects": r"sqz_trace::(lowest_defect|defects)::",
     "sums": r"sqz_regions::(sums|region_bases)::|sqz_regions::regions::Regions::of",
     "places": r"sqz_regions::forward::(Forward::build|range_places|places_between|joined)",
-    "slide": r"sqz_tool::sliding::|sqz_slide::",
+    "slide": r"sqz_slide::",
     "write": r"(__GI_)?(__)?(libc_)?write$|sqz_image::(write_words|writing|write_whole)::",
 }
 # The passes that may have threads, in their order, and the functions that run in the threads.
-THREADED = ("defects", "places", "slide")
-IN_THREADS = r"rayon::.*::fold_into\b"
+THREADED = ("mark", "defects", "places", "slide")
+IN_THREADS = r"rayon::.*::fold_into\b|std::thread::fork::calls_from\b"
 # The functions that call passes. A pass without a function of its own is a loop in one of them.
 CALLERS = (
     r"sqz_tool::(command|compact_files|running|compaction)::"
