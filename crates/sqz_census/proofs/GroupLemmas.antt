@@ -1,0 +1,213 @@
+-- Groups, their keys, and the objects that they have.
+use Rattle.std.proofs.Common.{◌≡◌, ℕ, zero, suc, ◌+◌, ◌-◌, ◌<◌, ◌≤◌, Bool, true, false, List, [], ◌∷◌}
+use Rattle.std.proofs.Common.{filter, length, get_or, Option, Some, None, refl, sym, ap, subst, ◌∙◌, arith, inl, inr}
+use Rattle.std.specs.Prelude.{option_and_then}
+use Rattle.std.proofs.lemmas.Bool.{cases_lt, cases_Bool, lt-ltb, le-ltb, eq-eqb, ne_eqb, eqb-true}
+use Rattle.sqz_object.specs.declared.chunk.Kind.{Kind}
+use Rattle.sqz_object.specs.declared.chunk.Kind.TheVariants.{Three, Two, Free, Short}
+use Rattle.sqz_object.specs.Chunk.{chunk_kind, compact_index}
+use Rattle.sqz_image.specs.declared.fault.Slot.{Slot}
+use Rattle.sqz_image.specs.declared.fault.Slot.TheVariants.{ClassWord, Field}
+use Rattle.sqz_image.specs.Objects.{Memory, Object, objects, object_count, chunk_words}
+use Rattle.sqz_image.proofs.ObjectLemmas.{find_in-lt}
+use Rattle.sqz_trace.specs.Slots.{slot_word}
+use Rattle.sqz_trace.specs.Edges.{named_by, target}
+use Rattle.sqz_trace.specs.Graph.{is_marked}
+use Rattle.sqz_trace.specs.Live.{marked}
+use Rattle.sqz_trace.specs.Reachability.{graph_from, IsReachability}
+use Rattle.sqz_trace.proofs.EdgeLemmas.{named_by-lt, target-lt}
+use Rattle.sqz_trace.proofs.ReachabilityLemmas.{IsClosed-reachable}
+use Rattle.sqz_census.specs.Classes.{compact_classes, compact_class, class_by, class_of}
+use Rattle.sqz_census.specs.Census.{Group, Class, Compact, is_same, group_by, group_of, members}
+use Rattle.sqz_census.specs.Keys.{key_of, group_with}
+
+-- ---- classes are objects
+
+module _ (memory : Memory) where
+  named_at-lt : (word : Option ℕ) (class : ℕ) → option_and_then (named_by memory) word ≡ Some class
+      → class < object_count memory
+  named_at-lt None class e = absurd cc
+  named_at-lt (Some word) class e = named_by-lt memory word class e
+
+  compact_class-lt : (index class : ℕ) → compact_class memory index ≡ Some class → class < object_count memory
+  compact_class-lt zero class e = absurd cc
+  compact_class-lt (suc field) class e = by_array (compact_classes memory) e
+    where
+      by_array : (array : Option ℕ) → option_and_then (λ array. target memory array (Field field)) array ≡ Some class
+          → class < object_count memory
+      by_array None e = absurd cc
+      by_array (Some array) e = target-lt memory array (Field field) class e
+
+  class_by-lt : (chunk : List ℕ) (kind : Kind) (class : ℕ) → class_by memory chunk kind ≡ Some class
+      → class < object_count memory
+  class_by-lt chunk Three class e = named_at-lt (slot_word chunk ClassWord) class e
+  class_by-lt chunk Two class e = named_at-lt (slot_word chunk ClassWord) class e
+  class_by-lt chunk Free class e = absurd cc
+  class_by-lt chunk Short class e = compact_class-lt (compact_index chunk) class e
+
+  -- the class of an object is one
+  pub class_of-lt : (chunk : List ℕ) (class : ℕ) → class_of memory chunk ≡ Some class → class < object_count memory
+  class_of-lt chunk class e = class_by-lt chunk (chunk_kind chunk) class e
+
+-- ---- groups and keys
+
+-- a group that some object may be in, where there are so many objects
+abbrev pub IsInside : ℕ → Group → Type 0
+IsInside count (Class class) = class < count
+IsInside count (Compact index) = index < 32
+
+-- the group of an object is one
+pub group_of-inside : (memory : Memory) (chunk : List ℕ) → IsInside (object_count memory) (group_of memory chunk)
+group_of-inside memory chunk = by_class (class_of memory chunk) refl
+  where
+    by_class : (class : Option ℕ) → class_of memory chunk ≡ class
+        → IsInside (object_count memory) (group_by class (compact_index chunk))
+    by_class (Some class) e = class_of-lt memory chunk class e
+    by_class None e = omega arith
+
+module _ (count : ℕ) where
+  pub group_with-below : (key : ℕ) → key < count → group_with count key ≡ Class key
+  group_with-below key lt = rw (lt-ltb key count lt) refl
+
+  pub group_with-above : (key : ℕ) → count ≤ key → group_with count key ≡ Compact (key - count)
+  group_with-above key le = rw (le-ltb key count le) refl
+
+  -- its key is below the number of keys
+  pub key_of-lt : (group : Group) → IsInside count group → key_of count group < count + 32
+  key_of-lt (Class class) inside = omega arith
+  key_of-lt (Compact index) inside = omega arith
+
+  -- the group with its key is the group
+  pub group_with-key_of : (group : Group) → IsInside count group → group_with count (key_of count group) ≡ group
+  group_with-key_of (Class class) inside = group_with-below class inside
+  group_with-key_of (Compact index) inside =
+      let same : count + index - count ≡ index = omega arith in
+      group_with-above (count + index) (omega arith) ∙ ap Compact same
+
+  -- the group with a key is an object's group where the key is that group's key
+  pub is_same-key : (group : Group) → IsInside count group → is_same (group_with count (key_of count group)) group ≡ true
+  is_same-key (Class class) inside = rw (lt-ltb class count inside, eq-eqb class class refl) refl
+  is_same-key (Compact index) inside =
+      let same : count + index - count ≡ index = omega arith in
+      rw (le-ltb (count + index) count (omega arith), eq-eqb (count + index - count) index same) refl
+
+  -- and not where it is another
+  pub is_same-other : (key : ℕ) (group : Group) → IsInside count group → (key ≡ key_of count group → ⊥)
+      → is_same (group_with count key) group ≡ false
+  is_same-other key (Class class) inside other =
+      elim (cases_lt key count) [
+        | inl lt ↦ rw (lt-ltb key count lt, ne_eqb key class other) refl
+        | inr ge ↦ rw (le-ltb key count ge) refl
+      ]
+  is_same-other key (Compact index) inside other =
+      elim (cases_lt key count) [
+        | inl lt ↦ rw (lt-ltb key count lt) refl
+        | inr ge ↦
+            let apart : key - count ≡ index → ⊥ = λ same. other (omega arith) in
+            rw (le-ltb key count ge, ne_eqb (key - count) index apart) refl
+      ]
+
+-- groups that are told to be the same are the same
+pub is_same-equal : (one other : Group) → is_same one other ≡ true → one ≡ other
+is_same-equal (Class one) (Class other) e = ap Class (eqb-true one other e)
+is_same-equal (Compact one) (Compact other) e = ap Compact (eqb-true one other e)
+is_same-equal (Class one) (Compact other) e = absurd cc
+is_same-equal (Compact one) (Class other) e = absurd cc
+
+-- ---- members
+
+-- where some marked one passes a test, there is its index
+some_marked : {X : Type 0} (p : X → Bool) (marks : List Bool) (xs : List X) (d : X)
+    → 0 < length (filter p (marked marks xs))
+    → (i : ℕ) × (i < length xs) × (get_or marks i false ≡ true) × (p (get_or xs i d) ≡ true)
+some_marked p [] xs d lt = absurd (omega arith)
+some_marked p (true ∷ marks) [] d lt = absurd (omega arith)
+some_marked p (false ∷ marks) [] d lt = absurd (omega arith)
+some_marked p (true ∷ marks) (x ∷ xs) d lt =
+    elim (cases_Bool (p x)) [
+      | inl passes ↦ (0, omega arith, refl, passes)
+      | inr fails ↦
+          let fewer : 0 < length (filter p (marked marks xs)) = rw fails at lt in
+          let rest = some_marked p marks xs d fewer in (suc rest.0, omega (arith, rest.1), rest.2, rest.3)
+    ]
+some_marked p (false ∷ marks) (x ∷ xs) d lt =
+    let rest = some_marked p marks xs d lt in (suc rest.0, omega (arith, rest.1), rest.2, rest.3)
+
+abbrev pub no_object : Object
+no_object = record { first = 0; chunk = [] }
+
+module _ (memory : Memory) (marks : List Bool) (group : Group) (some : 0 < length (members memory marks group)) where
+  -- a group that has a member has one with an index
+  abbrev IsMember : ℕ → Type 0
+  IsMember index =
+      (index < object_count memory) × (is_marked marks index ≡ true)
+      × (group_of memory (chunk_words memory index) ≡ group)
+
+  pub some_member : (index : ℕ) × IsMember index
+  some_member =
+      let found = some_marked (λ object. is_same group (group_of memory object.chunk)) marks (objects memory) no_object some in
+      (found.0, (found.1, found.2, sym (is_same-equal group (group_of memory (chunk_words memory found.0)) found.3)))
+
+  -- and so some object may be in it
+  pub member-inside : IsInside (object_count memory) group
+  member-inside =
+      let found = some_member in
+      subst (IsInside (object_count memory)) found.1.2 (group_of-inside memory (chunk_words memory found.0))
+
+-- ---- the class of a live object is live
+
+module _ (memory : Memory) (marks : List Bool) (reach : IsReachability memory marks) where
+  edge_marked : (from : ℕ) → from < object_count memory → is_marked marks from ≡ true → (slot : Slot) (to : ℕ)
+      → target memory from slot ≡ Some to → is_marked marks to ≡ true
+  edge_marked from inside is slot to names =
+      (IsClosed-reachable (graph_from reach.start memory) marks reach.reached).along from to is
+      (record { inside = inside; slot = slot; names = names })
+
+  special_marked : is_marked marks reach.start ≡ true
+  special_marked = reach.reached.complete reach.start (record { path = []; leads = refl })
+
+  array_marked : (array : ℕ) → compact_classes memory ≡ Some array → is_marked marks array ≡ true
+  array_marked array e =
+      let inside = find_in-lt memory.base (objects memory) memory.special reach.start reach.is_special in
+      let same =
+      ap (option_and_then (λ (special : ℕ). target memory special (Field 28))) (sym reach.is_special) in
+      edge_marked reach.start inside special_marked (Field 28) array (same ∙ e)
+
+  compact_marked : (index class : ℕ) → compact_class memory index ≡ Some class → is_marked marks class ≡ true
+  compact_marked zero class e = absurd cc
+  compact_marked (suc field) class e = by_array (compact_classes memory) refl e
+    where
+      by_array : (array : Option ℕ) → compact_classes memory ≡ array
+          → option_and_then (λ array. target memory array (Field field)) array ≡ Some class
+          → is_marked marks class ≡ true
+      by_array None is e = absurd cc
+      by_array (Some array) is e =
+          let special = ap (option_and_then (λ (special : ℕ). target memory special (Field 28))) (sym reach.is_special) in
+          let inside = target-lt memory reach.start (Field 28) array (special ∙ is) in
+          edge_marked array inside (array_marked array is) (Field field) class e
+
+  class_marked : (index class : ℕ) → index < object_count memory → is_marked marks index ≡ true
+      → class_of memory (chunk_words memory index) ≡ Some class → is_marked marks class ≡ true
+  class_marked index class inside is e = by_kind (chunk_kind (chunk_words memory index)) e
+    where
+      by_kind : (kind : Kind) → class_by memory (chunk_words memory index) kind ≡ Some class
+          → is_marked marks class ≡ true
+      by_kind Three e = edge_marked index inside is ClassWord class e
+      by_kind Two e = edge_marked index inside is ClassWord class e
+      by_kind Free e = absurd cc
+      by_kind Short e = compact_marked (compact_index (chunk_words memory index)) class e
+
+  -- the class of a group that has a member is marked
+  pub class_of_group-marked : (class : ℕ) → 0 < length (members memory marks (Class class)) → is_marked marks class ≡ true
+  class_of_group-marked class some =
+      let found = some_member memory marks (Class class) some in
+      by_class found.0 found.1.0 found.1.1 (class_of memory (chunk_words memory found.0)) refl found.1.2
+    where
+      by_class : (index : ℕ) → index < object_count memory → is_marked marks index ≡ true
+          → (its : Option ℕ) → class_of memory (chunk_words memory index) ≡ its
+          → group_by its (compact_index (chunk_words memory index)) ≡ Class class → is_marked marks class ≡ true
+      by_class index inside is (Some other) e same =
+          let group_class : Group → ℕ = λ group. key_of 0 group in
+          let same_class : other ≡ class = ap group_class same in
+          class_marked index class inside is (e ∙ ap Some same_class)
+      by_class index inside is None e same = absurd cc

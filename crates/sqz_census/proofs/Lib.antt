@@ -1,0 +1,10 @@
+pub mod GroupLemmas
+pub mod NameLemmas
+pub mod EntryLemmas
+pub mod TallyLemmas
+pub mod ShareLemmas
+pub mod RowLemmas
+pub mod CensusLemmas
+pub mod OrderedLemmas
+pub mod Uniqueness
+pub mod TextLemmas

@@ -1,0 +1,14 @@
+use Rattle.std.proofs.Common.{ℕ, take, ap, ◌∙◌}
+use Rattle.sqz_object.specs.Bytes.{spelling_of}
+use Rattle.sqz_census.proofs.NameLemmas.{take-spelling_of}
+use Rattle.sqz_census.proofs.names.first_bytes.Goals as goal
+
+pub returns : goal.returns
+returns c =
+    let order = c.args.order in
+    let words = c.args.words.now in
+    let count = c.args.count in
+    c.truncate.ensures.items
+    ∙ ap (take count) c.in_ok-bytes.ensures
+    ∙ ap (λ (most : ℕ). take count (spelling_of order (take most words))) c.min.ensures
+    ∙ take-spelling_of order words count 10 c.requires.inside c.requires.few

@@ -1,0 +1,29 @@
+use Rattle.std.proofs.Common.{List, subst, ap, map, ◌∙◌}
+use Rattle.sqz_census.specs.declared.tallies.Tally.{Tally}
+use Rattle.sqz_census.specs.Shares.{AreSharesInOrder, row_at}
+use Rattle.sqz_census.specs.Rows.{shown}
+use Rattle.sqz_census.proofs.CensusLemmas.{keys_inside, IsCensus-rows}
+use Rattle.sqz_census.proofs.rows.census.Goals as goal
+
+pub rows_of-requires-clause-inside : goal.rows_of-requires-clause-inside
+rows_of-requires-clause-inside g c κs within =
+    let shares = c.in_ok-shares.shares.items in
+    let in_order =
+    subst (λ (tallies : List Tally). AreSharesInOrder tallies shares) c.deref-3.ensures.value c.in_ok-shares.ensures in
+    rw c.deref-4.ensures.value
+    (keys_inside c.args.heap.now c.args.marks.now c.in_ok-tallies.tallies.items shares c.in_ok-tallies.ensures.tallies
+    in_order)
+
+pub returns-clause-rows : goal.returns-clause-rows
+returns-clause-rows g c reach placed =
+    let memory = c.args.heap.now in
+    let marks = c.args.marks.now in
+    let places = c.args.forward.now in
+    let tallies = c.in_ok-tallies.tallies.items in
+    let shares = c.in_ok-shares.shares.items in
+    let in_order =
+    subst (λ (tallies : List Tally). AreSharesInOrder tallies shares) c.deref-3.ensures.value c.in_ok-shares.ensures in
+    let rows_are = c.in_ok-rows.ensures ∙ ap (map (row_at memory places)) c.deref-4.ensures.value in
+    IsCensus-rows memory marks places c.in_ok-entries.entries.items tallies shares
+    c.in_ok-entries.ensures c.in_ok-tallies.ensures.tallies in_order reach placed
+    (map shown c.in_ok-rows.rows.items) rows_are

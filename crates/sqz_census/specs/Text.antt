@@ -1,0 +1,27 @@
+-- The text of a census: a line for each row, and one for the sums.
+use Rattle.std.specs.Prelude.{ℕ, ◌-◌, List, ◌++◌, length, replicate, sum_by, codes, decimal, Option, Some, None, false}
+use Rattle.std.specs.Fmt.{digits}
+use Rattle.std.specs.List.{flat_map}
+use Rattle.sqz_census.specs.Census.{CensusRow}
+
+-- a number with spaces before it, so that it takes so many places; one that needs more takes them
+abbrev pub right_aligned : ℕ → ℕ → List ℕ
+right_aligned places number = replicate (places - length (decimal number)) 32 ++ decimal number
+
+-- a new place as eight lower case hexadecimal digits, and a dash for each of them where there is none
+abbrev pub place_text : Option ℕ → List ℕ
+place_text (Some place) = replicate (8 - length (digits 16 false place)) 48 ++ digits 16 false place
+place_text None = codes "--------"
+
+-- two numbers, each behind the spaces that it wants
+abbrev pub columns : ℕ → ℕ → List ℕ
+columns count bytes = right_aligned 10 count ++ codes " " ++ right_aligned 12 bytes ++ codes " "
+
+abbrev pub row_text : CensusRow → List ℕ
+row_text row = columns row.count row.bytes ++ place_text row.place ++ codes " " ++ row.name ++ codes "\n"
+
+abbrev pub total_text : List CensusRow → List ℕ
+total_text rows = columns (sum_by (λ row. row.count) rows) (sum_by (λ row. row.bytes) rows) ++ codes "total\n"
+
+abbrev pub census_text : List CensusRow → List ℕ
+census_text rows = flat_map row_text rows ++ total_text rows

@@ -1,0 +1,16 @@
+//! A census of the live objects of an image: a row for each class, and its text.
+#![tactic(auto)]
+
+mod classes;
+mod entries;
+pub mod laws;
+mod names;
+mod printing;
+mod row;
+mod rows;
+mod shares;
+mod tallies;
+
+pub use printing::print;
+pub use row::Row;
+pub use rows::census;

@@ -1,0 +1,131 @@
+//! The names of classes, as they are printed.
+
+ghost use Rattle.std.specs.Prelude.{◌≡◌, ◌++◌, ◌<◌, ◌*◌, ◌≤◌, codes, decimal, length, map, take, IfOk, option_and_then, option_map};
+ghost use Rattle.sqz_object.specs.Bytes.{spelling_of};
+ghost use Rattle.sqz_image.specs.declared.fault.Slot.TheVariants.{Field};
+ghost use Rattle.sqz_image.specs.Objects.{object_count};
+ghost use Rattle.sqz_trace.specs.Edges.{target};
+ghost use Rattle.sqz_census.specs.Names.{shown_byte, text_in, held_name, class_name};
+
+use sqz_image::{Heap, Object, Slot};
+use sqz_object::{Order, base_of, put_word};
+use sqz_trace::target;
+use std::alloc::{AllocError, Global};
+
+/// The field of a class that names its name.
+const NAME: u32 = 6;
+
+/// The field of a metaclass that names its one instance.
+const INSTANCE: u32 = 5;
+
+/// How many bytes of a name are printed at most, and how many words these are.
+const MOST_BYTES: usize = 40;
+
+const MOST_WORDS: usize = 10;
+
+/// The name of a class: its own, or that of its one instance followed by ` class`, or a question mark.
+pub(crate) fn class_name(alloc: Global, heap: &Heap, class: u32) -> Result<Vec<u8>, AllocError>
+    requires { class < object_count heap.now }
+    ensures { IfOk result (λ name. name.items ≡ class_name heap.now class) }
+{
+    if let Some(own) = held_name(alloc, heap, class)? {
+        return Ok(own);
+    }
+    match instance_name(alloc, heap, class)? {
+        Some(mut name) => {
+            name.extend_from_slice(b" class")?;
+            Ok(name)
+        }
+        None => Vec::from_slice(alloc, b"?"),
+    }
+}
+
+/// What stands for the name of a class in the row of objects without one.
+pub(crate) fn compact_name(alloc: Global, compact: u32) -> Result<Vec<u8>, AllocError>
+    ensures { IfOk result (λ name. name.items ≡ codes "compact " ++ decimal compact) }
+{
+    let name = format!(in alloc; "compact {compact}")?;
+    Ok(name.into_bytes())
+}
+
+/// The name of the instance of a metaclass.
+fn instance_name(alloc: Global, heap: &Heap, class: u32) -> Result<Option<Vec<u8>>, AllocError>
+    requires { class < object_count heap.now }
+    ensures { IfOk result (λ name.
+        option_map (λ text. text.items) name ≡ option_and_then (held_name heap.now) (target heap.now class (Field 5))) }
+{
+    match target(heap, class, Slot::Field(INSTANCE)) {
+        Some(instance) => held_name(alloc, heap, instance),
+        None => Ok(None),
+    }
+}
+
+/// The name that an object has: its field 6 names an object of bytes.
+fn held_name(alloc: Global, heap: &Heap, object: u32) -> Result<Option<Vec<u8>>, AllocError>
+    requires { object < object_count heap.now }
+    ensures { IfOk result (λ name. option_map (λ text. text.items) name ≡ held_name heap.now object) }
+{
+    match target(heap, object, Slot::Field(NAME)) {
+        Some(name) => text_in(alloc, heap.order(), &heap.object(name)),
+        None => Ok(None),
+    }
+}
+
+/// The first bytes of an object of bytes, as they are printed; none of other objects.
+fn text_in(alloc: Global, order: Order, object: &Object<'_>) -> Result<Option<Vec<u8>>, AllocError>
+    ensures { IfOk result (λ text. option_map (λ text. text.items) text ≡ text_in order object.now) }
+{
+    let format = base_of(object.header().base).format;
+    if format < 8 || format > 11 {
+        return Ok(None);
+    }
+    let fields = object.fields();
+    let count = (4 * fields.len()).saturating_sub(format as usize - 8);
+    let bytes = first_bytes(alloc, order, fields, count.min(MOST_BYTES))?;
+    Ok(Some(shown_bytes(alloc, &bytes)?))
+}
+
+/// The first bytes that spell words, so many of them.
+fn first_bytes(
+    alloc: Global,
+    order: Order,
+    words: &[u32],
+    count: usize,
+) -> Result<Vec<u8>, AllocError>
+    requires few { count ≤ MOST_BYTES }
+    requires inside { count ≤ 4 * length words.now }
+    ensures { IfOk result (λ bytes. bytes.items ≡ take count (spelling_of order words.now)) }
+{
+    let mut bytes = spelled(alloc, order, &words[..words.len().min(MOST_WORDS)])?;
+    bytes.truncate(count);
+    Ok(bytes)
+}
+
+/// The bytes that spell words.
+fn spelled(alloc: Global, order: Order, words: &[u32]) -> Result<Vec<u8>, AllocError>
+    ensures { IfOk result (λ bytes. bytes.items ≡ spelling_of order words.now) }
+{
+    let mut bytes = Vec::new(alloc);
+    for word in words {
+        bytes.extend_from_slice(&put_word(order, *word))?;
+    }
+    Ok(bytes)
+}
+
+/// Bytes as they are printed.
+fn shown_bytes(alloc: Global, bytes: &[u8]) -> Result<Vec<u8>, AllocError>
+    ensures { IfOk result (λ text. text.items ≡ map shown_byte bytes.now) }
+{
+    bytes.iter().map(|byte| shown_byte(*byte)).collect(alloc)
+}
+
+/// A byte as it is printed: a question mark stands for one that is no printable ASCII character.
+fn shown_byte(byte: u8) -> u8
+    ensures { result ≡ shown_byte byte }
+{
+    if byte >= 32 && byte <= 126 {
+        byte
+    } else {
+        b'?'
+    }
+}

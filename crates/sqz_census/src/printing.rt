@@ -1,0 +1,81 @@
+//! The text of a census.
+
+ghost use Rattle.std.specs.Prelude.{◌≡◌, ◌++◌, map, sum_by, string_bytes, IfOk, IfErr, OnOk};
+ghost use Rattle.sqz_image.specs.declared.fault.Fault.TheVariants.{OutOfMemory};
+ghost use Rattle.sqz_census.specs.Rows.{shown};
+ghost use Rattle.sqz_census.specs.Text.{census_text, columns, place_text, row_text, total_text};
+
+use crate::row::Row;
+use sqz_image::Fault;
+use std::alloc::{AllocError, Global};
+
+/// The text of a census: a line for each row, with the number of its objects right-aligned in 10 places, that of its bytes in 12, the
+/// new address of the class as eight lower case hexadecimal digits or dashes, and the name; and a last line with the sums.
+/// A number that needs more places takes them. Fails for want of memory alone.
+pub fn print(alloc: Global, rows: &[Row]) -> Result<Vec<u8>, Fault>
+    ensures text { IfOk result (λ text. text.items ≡ census_text (map shown rows.now)) }
+    ensures refused { IfErr result (λ fault. fault ≡ OutOfMemory) }
+{
+    let mut text = Vec::new(alloc);
+    for row in rows {
+        add_row(alloc, &mut text, row)?;
+    }
+    add_total(alloc, &mut text, rows)?;
+    Ok(text)
+}
+
+/// Adds the line of a row.
+fn add_row(alloc: Global, text: &mut Vec<u8>, row: &Row) -> Result<(), AllocError>
+    ensures { OnOk result (text.new.items ≡ text.old.items ++ row_text (shown row.now)) }
+{
+    let columns = columns(alloc, u128::from(row.count), u128::from(row.bytes))?;
+    let place = place_text(alloc, row.place)?;
+    text.extend_from_slice(columns.as_bytes())?;
+    text.extend_from_slice(place.as_bytes())?;
+    text.push(b' ')?;
+    text.extend_from_slice(&row.name)?;
+    text.push(b'\n')?;
+    Ok(())
+}
+
+/// Adds the line of the sums.
+fn add_total(alloc: Global, text: &mut Vec<u8>, rows: &[Row]) -> Result<(), AllocError>
+    ensures { OnOk result (text.new.items ≡ text.old.items ++ total_text (map shown rows.now)) }
+{
+    let (count, bytes) = sums(rows);
+    let columns = columns(alloc, count, bytes)?;
+    text.extend_from_slice(columns.as_bytes())?;
+    text.extend_from_slice(b"total\n")
+}
+
+/// How many objects and how many bytes all rows have.
+fn sums(rows: &[Row]) -> (u128, u128)
+    ensures count { result.0 ≡ sum_by (λ row. row.count) (map shown rows.now) }
+    ensures bytes { result.1 ≡ sum_by (λ row. row.bytes) (map shown rows.now) }
+{
+    let mut count = 0;
+    let mut bytes = 0;
+    for row in rows {
+        let (objects, size) = (row.count, row.bytes);
+        count += u128::from(objects);
+        bytes += u128::from(size);
+    }
+    (count, bytes)
+}
+
+/// Two numbers, right-aligned, each with a space behind it.
+fn columns(alloc: Global, count: u128, bytes: u128) -> Result<String, AllocError>
+    ensures { IfOk result (λ text. string_bytes text ≡ columns count bytes) }
+{
+    format!(in alloc; "{count:>10} {bytes:>12} ")
+}
+
+/// A new address as eight digits, or as many dashes where there is none.
+fn place_text(alloc: Global, place: Option<u32>) -> Result<String, AllocError>
+    ensures { IfOk result (λ text. string_bytes text ≡ place_text place) }
+{
+    match place {
+        Some(place) => format!(in alloc; "{place:08x}"),
+        None => String::from_str(alloc, "--------"),
+    }
+}

@@ -1,0 +1,49 @@
+//! The groups that have live objects, in the order of the census.
+
+ghost use Rattle.std.specs.Prelude.{◌≡◌, ◌-◌, length, IfOk};
+ghost use Rattle.sqz_census.specs.Tallies.{FitWords};
+ghost use Rattle.sqz_census.specs.Shares.{AreShares, AreSharesInOrder};
+
+use crate::tallies::Tally;
+use std::alloc::{AllocError, Global};
+
+/// What a group has of the live objects.
+#[derive(Clone, Copy)]
+pub(crate) struct Share {
+    pub(crate) key: u32,
+    pub(crate) count: u32,
+    pub(crate) words: u32,
+}
+
+/// The shares of the groups that have live objects: those with more words come first, of the others those with lower
+/// keys.
+pub(crate) fn shares_of(alloc: Global, tallies: &[Tally]) -> Result<Vec<Share>, AllocError>
+    requires { FitWords tallies.now }
+    ensures { IfOk result (λ shares. AreSharesInOrder tallies.now shares.items) }
+{
+    let mut shares = shares_by_key(alloc, tallies)?;
+    shares.sort_by_key(
+        |share: &Share| -> u32
+            ensures { result ≡ 4294967295 - share.now.words }
+        { u32::MAX - share.words },
+    )?;
+    Ok(shares)
+}
+
+/// The shares of the groups that have live objects, by key.
+fn shares_by_key(alloc: Global, tallies: &[Tally]) -> Result<Vec<Share>, AllocError>
+    requires { FitWords tallies.now }
+    ensures { IfOk result (λ shares. AreShares tallies.now (length tallies.now) shares.items) }
+{
+    let mut shares = Vec::new(alloc);
+    for (key, tally) in tallies.iter().enumerate() {
+        if tally.count > 0 {
+            shares.push(Share {
+                key: key as u32,
+                count: tally.count,
+                words: tally.words,
+            })?;
+        }
+    }
+    Ok(shares)
+}

@@ -1,0 +1,45 @@
+//! How many live objects each group has.
+
+ghost use Rattle.std.specs.Prelude.{◌≡◌, length, IfOk};
+ghost use Rattle.sqz_image.specs.Objects.{object_count};
+ghost use Rattle.sqz_census.specs.Keys.{AreEntries};
+ghost use Rattle.sqz_census.specs.Tallies.{AreTallies, FitWords};
+
+use crate::entries::{DEAD, Entry};
+use sqz_image::Heap;
+use sqz_trace::Marks;
+use std::alloc::{AllocError, Global};
+
+/// How many compact indexes there are.
+const COMPACT_INDEXES: usize = 32;
+
+/// How many live objects a group has, and how many words these have together.
+#[derive(Clone, Copy)]
+pub(crate) struct Tally {
+    pub(crate) count: u32,
+    pub(crate) words: u32,
+}
+
+/// The tally of each group, by key.
+pub(crate) fn tallies_of(
+    alloc: Global,
+    heap: &Heap,
+    marks: &Marks,
+    entries: &[Entry],
+) -> Result<Vec<Tally>, AllocError>
+    requires sized { length marks.now ≡ object_count heap.now }
+    requires entries { AreEntries heap.now marks.now entries.now }
+    ensures tallies { IfOk result (λ tallies. AreTallies heap.now marks.now tallies.items) }
+    ensures fit { IfOk result (λ tallies. FitWords tallies.items) }
+{
+    let none = Tally { count: 0, words: 0 };
+    let mut tallies = vec![in alloc; none; heap.len() as usize + COMPACT_INDEXES]?;
+    for entry in entries {
+        if entry.key != DEAD {
+            let tally = &mut tallies[entry.key as usize];
+            tally.count += 1;
+            tally.words += entry.words;
+        }
+    }
+    Ok(tallies)
+}
