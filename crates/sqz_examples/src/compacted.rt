@@ -9,35 +9,35 @@ ghost use Rattle.sqz_object.specs.declared.order.Order.TheVariants.{Little, Big}
 ghost use Rattle.sqz_examples.specs.Worked.{file_at, file_of, CompactsTo};
 
 /// A dead array is left out, and what stands behind it moves down.
-pub fn dead_array()
+fn dead_array()
     ensures { CompactsTo
         (file_of Little (0x1007 ∷ 0x320F ∷ 1 ∷ 1 ∷ 0x320B ∷ 0x1000 ∷ []) 0x1010)
         (file_of Little (0x1007 ∷ 0x320B ∷ 0x1000 ∷ []) 0x1004) }
 {}
 
 /// A big-endian file is compacted to a big-endian one.
-pub fn big_endian()
+fn big_endian()
     ensures { CompactsTo
         (file_of Big (0x1007 ∷ 0x320F ∷ 1 ∷ 1 ∷ 0x320B ∷ 0x1000 ∷ []) 0x1010)
         (file_of Big (0x1007 ∷ 0x320B ∷ 0x1000 ∷ []) 0x1004) }
 {}
 
 /// Bytes behind the data are left out.
-pub fn bytes_after_data()
+fn bytes_after_data()
     ensures { CompactsTo
         (file_of Little (0x1007 ∷ 0x320B ∷ 0x1000 ∷ []) 0x1004 ++ 1 ∷ 2 ∷ 3 ∷ 4 ∷ 5 ∷ [])
         (file_of Little (0x1007 ∷ 0x320B ∷ 0x1000 ∷ []) 0x1004) }
 {}
 
 /// A free chunk is left out.
-pub fn free_chunk()
+fn free_chunk()
     ensures { CompactsTo
         (file_of Little (0x1007 ∷ 0xE ∷ 1 ∷ 1 ∷ 0x320B ∷ 0x1000 ∷ []) 0x1010)
         (file_of Little (0x1007 ∷ 0x320B ∷ 0x1000 ∷ []) 0x1004) }
 {}
 
 /// The data may reach up to the last address, and their words may be the highest addresses.
-pub fn highest_base()
+fn highest_base()
     ensures { let file = file_at Little 0xFFFFFFE8
         (0x1007 ∷ 0x320F ∷ 1 ∷ 1 ∷ 0x320B ∷ 0xFFFFFFE8 ∷ [])
         0xFFFFFFF8 in
@@ -46,20 +46,20 @@ pub fn highest_base()
 {}
 
 /// A bad pointer in a dead array is no reason to refuse the image.
-pub fn dead_bad_pointer()
+fn dead_bad_pointer()
     ensures { CompactsTo
         (file_of Little (0x1007 ∷ 0x320F ∷ 0x1002 ∷ 1 ∷ 0x320B ∷ 0x1000 ∷ []) 0x1010)
         (file_of Little (0x1007 ∷ 0x320B ∷ 0x1000 ∷ []) 0x1004) }
 {}
 
 /// An image may be a special objects array without fields, and nothing else.
-pub fn special_array_alone()
+fn special_array_alone()
     ensures { let same = file_of Little (0x3207 ∷ []) 0x1000 in
         CompactsTo same same }
 {}
 
 /// Integers are kept as they are.
-pub fn integers()
+fn integers()
     ensures { let same = file_of Little
         (0x1007 ∷ 0x3217 ∷ 0x1000 ∷ 0x7FFFFFFF ∷ 0xFFFFFFFF ∷ 0x80000001 ∷ [])
         0x1004 in
@@ -67,7 +67,7 @@ pub fn integers()
 {}
 
 /// Two dead objects that name each other are left out; two live ones that do so are kept.
-pub fn dead_cycle()
+fn dead_cycle()
     ensures { let file = file_of Little
         (0x1007 ∷ 0x110B ∷ 0x1014 ∷ 0x110B ∷ 0x101C ∷ 0x110B ∷ 0x1004 ∷ 0x110B ∷ 0x100C ∷
         0x320F ∷ 0x1000 ∷ 0x1004 ∷ [])
@@ -80,7 +80,7 @@ pub fn dead_cycle()
 
 /// A header of three words states the size in its first word, and its third word has the
 /// address of the object.
-pub fn three_word_header()
+fn three_word_header()
     ensures { let file = file_of Little
         (0x1007 ∷ 0x320F ∷ 1 ∷ 1 ∷ 0x100 ∷ 0x1000 ∷ 0x200 ∷ (replicate 63 1 ++
         0x320F ∷ 0x1000 ∷ 0x1018 ∷ []))
@@ -92,7 +92,7 @@ pub fn three_word_header()
 {}
 
 /// The size field of a base header states up to 63 words.
-pub fn largest_short_object()
+fn largest_short_object()
     ensures { let same = file_of Little
         (0x1007 ∷ 0x12FF ∷ (replicate 62 1 ++ 0x320F ∷ 0x1000 ∷ 0x1004 ∷ []))
         0x1100 in
@@ -101,7 +101,7 @@ pub fn largest_short_object()
 
 /// A class word keeps the class alive. It is renewed as the class moves, and its header type
 /// stays.
-pub fn class_edge()
+fn class_edge()
     ensures { let file = file_of Little
         (0x1007 ∷ 0x320F ∷ 1 ∷ 1 ∷ 0x100B ∷ 1 ∷ 0x1011 ∷ 0x109 ∷ 1 ∷
         0x320F ∷ 0x1000 ∷ 0x101C ∷ [])
@@ -113,7 +113,7 @@ pub fn class_edge()
 {}
 
 /// The bytes of a name are no pointers, whatever words they make.
-pub fn class_name()
+fn class_name()
     ensures { let same = file_of Little
         (0x1007 ∷ 0x1123 ∷ 1 ∷ 1 ∷ 1 ∷ 1 ∷ 1 ∷ 1 ∷ 0x1024 ∷ 0x2A0F ∷ 0x656A624F ∷ 0x7463 ∷
         0x320B ∷ 0x1004 ∷ 0x327B ∷ 0x1000 ∷ (replicate 27 1 ++ 0x1030 ∷ []))
@@ -123,7 +123,7 @@ pub fn class_name()
 
 /// The fields of a context are traced up to the top of its stack. Those above it name nothing
 /// and are kept as they are.
-pub fn context_stack()
+fn context_stack()
     ensures { let file = file_of Little
         (0x1007 ∷ 0x100B ∷ 1 ∷ 0x100B ∷ 1 ∷ 0x100B ∷ 1 ∷
         0xD32F ∷ 0x1000 ∷ 1 ∷ 3 ∷ 0x1000 ∷ 0x1000 ∷ 0x1000 ∷ 0x100C ∷ 0x1014 ∷ 2 ∷ 0xFFFFFFFE ∷
@@ -139,7 +139,7 @@ pub fn context_stack()
 
 /// The literals of a method are traced. The words behind them name nothing and are kept as they
 /// are.
-pub fn method_literals()
+fn method_literals()
     ensures { let file = file_of Little
         (0x1007 ∷ 0x100B ∷ 1 ∷ 0x100B ∷ 1 ∷ 0x5C17 ∷ 0x801 ∷ 0x100C ∷ 0x1000 ∷ 0x100C ∷
         0x320F ∷ 0x1000 ∷ 0x1014 ∷ [])
@@ -152,7 +152,7 @@ pub fn method_literals()
 {}
 
 /// The fields of a weak object keep alive what they name.
-pub fn weak_fields()
+fn weak_fields()
     ensures { let same = file_of Little
         (0x1007 ∷ 0x1113 ∷ 1 ∷ 1 ∷ 0x405 ∷ 0x100B ∷ 1 ∷ 0x1005 ∷ 0x409 ∷ 0x1014 ∷
         0x320F ∷ 0x1000 ∷ 0x1020 ∷ [])
@@ -161,42 +161,42 @@ pub fn weak_fields()
 {}
 
 /// A free chunk may be one word.
-pub fn free_word()
+fn free_word()
     ensures { CompactsTo
         (file_of Little (0x1007 ∷ 6 ∷ 0x320B ∷ 0x1000 ∷ []) 0x1008)
         (file_of Little (0x1007 ∷ 0x320B ∷ 0x1000 ∷ []) 0x1004) }
 {}
 
 /// A free chunk may be the last.
-pub fn free_chunk_last()
+fn free_chunk_last()
     ensures { CompactsTo
         (file_of Little (0x1007 ∷ 0x320B ∷ 0x1000 ∷ 0xA ∷ 1 ∷ []) 0x1004)
         (file_of Little (0x1007 ∷ 0x320B ∷ 0x1000 ∷ []) 0x1004) }
 {}
 
 /// That a dead object has no class is no reason to refuse the image.
-pub fn dead_without_class()
+fn dead_without_class()
     ensures { CompactsTo
         (file_of Little (0x1007 ∷ 0x10B ∷ 1 ∷ 0x320B ∷ 0x1000 ∷ []) 0x100C)
         (file_of Little (0x1007 ∷ 0x320B ∷ 0x1000 ∷ []) 0x1004) }
 {}
 
 /// A dead method may be bad.
-pub fn dead_bad_method()
+fn dead_bad_method()
     ensures { CompactsTo
         (file_of Little (0x1007 ∷ 0x5C0B ∷ 0x1000 ∷ 0x320B ∷ 0x1000 ∷ []) 0x100C)
         (file_of Little (0x1007 ∷ 0x320B ∷ 0x1000 ∷ []) 0x1004) }
 {}
 
 /// A dead context may be bad.
-pub fn dead_bad_context()
+fn dead_bad_context()
     ensures { CompactsTo
         (file_of Little (0x1007 ∷ 0xD30B ∷ 1 ∷ 0x320B ∷ 0x1000 ∷ []) 0x100C)
         (file_of Little (0x1007 ∷ 0x320B ∷ 0x1000 ∷ []) 0x1004) }
 {}
 
 /// The bits of a base header above the compact index are kept as they are.
-pub fn upper_header_bits()
+fn upper_header_bits()
     ensures { let same = file_of Little
         (0x1007 ∷ 0xFFFE110B ∷ 1 ∷ 0x320F ∷ 0x1000 ∷ 0x1004 ∷ [])
         0x100C in
@@ -205,7 +205,7 @@ pub fn upper_header_bits()
 
 /// The class word in a header of three words is renewed, too. The size in its base header, here 63,
 /// is not looked at.
-pub fn class_edge_of_three_words()
+fn class_edge_of_three_words()
     ensures { let file = file_of Little
         (0x1007 ∷ 0x320F ∷ 1 ∷ 1 ∷ 0x100B ∷ 1 ∷ 8 ∷ 0x1010 ∷ 0x3FC ∷ 1 ∷ 0x320F ∷ 0x1000 ∷ 0x1020 ∷
         [])
@@ -217,7 +217,7 @@ pub fn class_edge_of_three_words()
 {}
 
 /// The words of a byte object are kept in a big-endian file, too, and so are its bytes.
-pub fn big_endian_bytes()
+fn big_endian_bytes()
     ensures { let file = file_of Big
         (0x1007 ∷ 0x320F ∷ 1 ∷ 1 ∷ 0x100B ∷ 1 ∷ 0x1011 ∷ 0xA0D ∷ 0x53717565 ∷ 0x616B0000 ∷ 0x320F ∷
         0x1000 ∷ 0x101C ∷ [])
@@ -230,7 +230,7 @@ pub fn big_endian_bytes()
 {}
 
 /// All fields of the formats 0 to 4 are traced.
-pub fn traced_formats()
+fn traced_formats()
     ensures { let file = file_of Little
         (0x1007 ∷ 0x320F ∷ 1 ∷ 1 ∷ 0x100B ∷ 0x1018 ∷ 0x110B ∷ 0x1020 ∷ 0x120B ∷ 0x1028 ∷ 0x130B ∷
         0x1030 ∷ 0x140B ∷ 0x1000 ∷ 0x320B ∷ 0x1010 ∷ [])
@@ -244,7 +244,7 @@ pub fn traced_formats()
 
 /// The fields of the formats 5 to 11 are kept as they are, here an address from which an object
 /// moves away.
-pub fn untraced_formats()
+fn untraced_formats()
     ensures { let file = file_of Little
         (0x1007 ∷ 0x320F ∷ 1 ∷ 1 ∷ 0x150B ∷ 0x1010 ∷ 0x160B ∷ 0x1010 ∷ 0x170B ∷ 0x1010 ∷ 0x180B ∷
         0x1010 ∷ 0x190B ∷ 0x1010 ∷ 0x1A0B ∷ 0x1010 ∷ 0x1B0B ∷ 0x1010 ∷ 0x3227 ∷ 0x1000 ∷ 0x1010 ∷
@@ -259,7 +259,7 @@ pub fn untraced_formats()
 {}
 
 /// The formats 12 to 15 are methods. Of one without literals the header alone is traced.
-pub fn methods_without_literals()
+fn methods_without_literals()
     ensures { let same = file_of Little
         (0x1007 ∷ 0x5C0F ∷ 1 ∷ 0x1002 ∷ 0x5D0F ∷ 1 ∷ 0x1002 ∷ 0x5E0F ∷ 1 ∷ 0x1002 ∷ 0x5F0F ∷ 1 ∷
         0x1002 ∷ 0x321B ∷ 0x1000 ∷ 0x1004 ∷ 0x1010 ∷ 0x101C ∷ 0x1028 ∷ [])
@@ -268,7 +268,7 @@ pub fn methods_without_literals()
 {}
 
 /// The literals of a method may end with its last field.
-pub fn literals_to_end()
+fn literals_to_end()
     ensures { let file = file_of Little
         (0x1007 ∷ 0x100B ∷ 1 ∷ 0x100B ∷ 1 ∷ 0x5C13 ∷ 0x801 ∷ 0x100C ∷ 0x1000 ∷ 0x320F ∷ 0x1000 ∷
         0x1014 ∷ [])
@@ -280,7 +280,7 @@ pub fn literals_to_end()
 {}
 
 /// Eight bits of a method's header count its literals, here one; the others are set, too.
-pub fn method_header_bits()
+fn method_header_bits()
     ensures { let same = file_of Little
         (0x1007 ∷ 0x5C13 ∷ 0xFFFC07FF ∷ 0x1000 ∷ 0x1002 ∷ 0x320F ∷ 0x1000 ∷ 0x1004 ∷ [])
         0x1014 in
@@ -288,7 +288,7 @@ pub fn method_header_bits()
 {}
 
 /// A context may have a class word, and each of two compact indexes.
-pub fn context_with_class_word()
+fn context_with_class_word()
     ensures { let file = file_of Little
         (0x1007 ∷ 0x320F ∷ 1 ∷ 1 ∷ 0x100B ∷ 1 ∷ 0x1011 ∷ 0xE325 ∷ 0x1000 ∷ 1 ∷ 3 ∷ 0x1000 ∷ 0x1000 ∷
         0x1000 ∷ 0x1010 ∷ 0x1002 ∷ 0x320F ∷ 0x1000 ∷ 0x101C ∷ [])
@@ -301,7 +301,7 @@ pub fn context_with_class_word()
 {}
 
 /// The stack of a context is empty where its stack pointer is no integer, here nil.
-pub fn context_without_stack_pointer()
+fn context_without_stack_pointer()
     ensures { let same = file_of Little
         (0x1007 ∷ 0xD323 ∷ 0x1000 ∷ 1 ∷ 0x1000 ∷ 0x1000 ∷ 0x1000 ∷ 0x1000 ∷ 0x1002 ∷ 0x320F ∷
         0x1000 ∷ 0x1004 ∷ [])
@@ -310,7 +310,7 @@ pub fn context_without_stack_pointer()
 {}
 
 /// Only format 3 with compact index 13 or 14 is a context, and not these four.
-pub fn like_contexts()
+fn like_contexts()
     ensures { let same = file_of Little
         (0x1007 ∷ 0x4313 ∷ 1 ∷ 1 ∷ 0xFFFFFFFF ∷ 0xC313 ∷ 1 ∷ 1 ∷ 0xFFFFFFFF ∷ 0xF313 ∷ 1 ∷ 1 ∷
         0xFFFFFFFF ∷ 0xD213 ∷ 1 ∷ 1 ∷ 0xFFFFFFFF ∷ 0x321B ∷ 0x1000 ∷ 0x1004 ∷ 0x1014 ∷ 0x1024 ∷

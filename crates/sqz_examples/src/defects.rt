@@ -11,77 +11,77 @@ ghost use Rattle.sqz_tool.specs.Verdict.{IsRefused};
 ghost use Rattle.sqz_examples.specs.Worked.{file_of};
 
 /// An object with a header of one word has a compact class.
-pub fn no_class()
+fn no_class()
     ensures { IsRefused
         (file_of Little (0x1007 ∷ 0x320B ∷ 0x100C ∷ 0x10B ∷ 1 ∷ []) 0x1004)
         (NoClass 0x100C) }
 {}
 
 /// That an object has no class counts before a bad field.
-pub fn no_class_before_field()
+fn no_class_before_field()
     ensures { IsRefused
         (file_of Little (0x1007 ∷ 0x20B ∷ 0x1002 ∷ 0x320F ∷ 0x1000 ∷ 0x1004 ∷ []) 0x100C)
         (NoClass 0x1004) }
 {}
 
 /// That an object has no class counts before its being a bad method.
-pub fn method_without_class()
+fn method_without_class()
     ensures { IsRefused
         (file_of Little (0x1007 ∷ 0xC0B ∷ 0x1000 ∷ 0x320F ∷ 0x1000 ∷ 0x1004 ∷ []) 0x100C)
         (NoClass 0x1004) }
 {}
 
 /// A method has a header field.
-pub fn method_without_fields()
+fn method_without_fields()
     ensures { IsRefused
         (file_of Little (0x1007 ∷ 0x5C07 ∷ 0x320F ∷ 0x1000 ∷ 0x1004 ∷ []) 0x1008)
         (BadMethod 0x1004) }
 {}
 
 /// The first field of a method is an integer.
-pub fn method_header()
+fn method_header()
     ensures { IsRefused
         (file_of Little (0x1007 ∷ 0x5C0B ∷ 0x1000 ∷ 0x320F ∷ 0x1000 ∷ 0x1004 ∷ []) 0x100C)
         (BadMethod 0x1004) }
 {}
 
 /// The first field of a method is an integer, and no word that is neither that nor an address.
-pub fn odd_method_header()
+fn odd_method_header()
     ensures { IsRefused
         (file_of Little (0x1007 ∷ 0x5C0B ∷ 0x1002 ∷ 0x320F ∷ 0x1000 ∷ 0x1004 ∷ []) 0x100C)
         (BadMethod 0x1004) }
 {}
 
 /// A method has the literals that it states.
-pub fn too_many_literals()
+fn too_many_literals()
     ensures { IsRefused
         (file_of Little (0x1007 ∷ 0x5C0B ∷ 0x801 ∷ 0x320F ∷ 0x1000 ∷ 0x1004 ∷ []) 0x100C)
         (BadMethod 0x1004) }
 {}
 
 /// The highest format is a method, too.
-pub fn bad_method_of_highest_format()
+fn bad_method_of_highest_format()
     ensures { IsRefused
         (file_of Little (0x1007 ∷ 0x5F0B ∷ 0x1000 ∷ 0x320F ∷ 0x1000 ∷ 0x1004 ∷ []) 0x100C)
         (BadMethod 0x1004) }
 {}
 
 /// Words of ones are a method of 62 fields that states 255 literals.
-pub fn all_ones()
+fn all_ones()
     ensures { IsRefused
         (file_of Little (replicate 63 0xFFFFFFFF) 0x1000)
         (BadMethod 0x1000) }
 {}
 
 /// That a method is bad counts before its class word.
-pub fn method_before_class_word()
+fn method_before_class_word()
     ensures { IsRefused
         (file_of Little (0x1007 ∷ 0x2001 ∷ 0x5C09 ∷ 0x1000 ∷ 0x320F ∷ 0x1000 ∷ 0x1008 ∷ []) 0x1010)
         (BadMethod 0x1008) }
 {}
 
 /// All fields of a method that states too many literals lead on, here to an object without class.
-pub fn through_bad_method()
+fn through_bad_method()
     ensures { let file = file_of Little
         (0x1007 ∷ 0x10B ∷ 1 ∷ 0x5C0F ∷ 0xFC01 ∷ 0x1004 ∷ 0x320F ∷ 0x1000 ∷ 0x100C ∷ [])
         0x1018 in
@@ -89,7 +89,7 @@ pub fn through_bad_method()
 {}
 
 /// No field of a method leads on where the first is no integer.
-pub fn not_through_method_header()
+fn not_through_method_header()
     ensures { let file = file_of Little
         (0x1007 ∷ 0x10B ∷ 1 ∷ 0x5C0B ∷ 0x1004 ∷ 0x320F ∷ 0x1000 ∷ 0x100C ∷ [])
         0x1014 in
@@ -97,28 +97,28 @@ pub fn not_through_method_header()
 {}
 
 /// A context has fields.
-pub fn context_without_fields()
+fn context_without_fields()
     ensures { IsRefused
         (file_of Little (0x1007 ∷ 0xD307 ∷ 0x320F ∷ 0x1000 ∷ 0x1004 ∷ []) 0x1008)
         (BadContext 0x1004) }
 {}
 
 /// A context has a stack pointer, which is its third field.
-pub fn short_context()
+fn short_context()
     ensures { IsRefused
         (file_of Little (0x1007 ∷ 0xD30B ∷ 1 ∷ 0x320F ∷ 0x1000 ∷ 0x1004 ∷ []) 0x100C)
         (BadContext 0x1004) }
 {}
 
 /// Two fields are no context, for the stack pointer is the third.
-pub fn context_of_two_fields()
+fn context_of_two_fields()
     ensures { IsRefused
         (file_of Little (0x1007 ∷ 0xD30F ∷ 1 ∷ 1 ∷ 0x320F ∷ 0x1000 ∷ 0x1004 ∷ []) 0x1010)
         (BadContext 0x1004) }
 {}
 
 /// A context has six fields below its stack, be that empty.
-pub fn context_of_five_fields()
+fn context_of_five_fields()
     ensures { let file = file_of Little
         (0x1007 ∷ 0xD31B ∷ 0x1000 ∷ 1 ∷ 1 ∷ 0x1000 ∷ 0x1000 ∷ 0x320F ∷ 0x1000 ∷ 0x1004 ∷ [])
         0x101C in
@@ -126,7 +126,7 @@ pub fn context_of_five_fields()
 {}
 
 /// A context has these six where its stack pointer is no integer, too.
-pub fn five_fields_without_stack_pointer()
+fn five_fields_without_stack_pointer()
     ensures { let file = file_of Little
         (0x1007 ∷ 0xD31B ∷ 0x1000 ∷ 1 ∷ 0x1000 ∷ 0x1000 ∷ 0x1000 ∷ 0x320F ∷ 0x1000 ∷ 0x1004 ∷ [])
         0x101C in
@@ -134,7 +134,7 @@ pub fn five_fields_without_stack_pointer()
 {}
 
 /// The stack of a context ends within the context.
-pub fn stack_past_end()
+fn stack_past_end()
     ensures { let file = file_of Little
         (0x1007 ∷ 0x100B ∷ 1 ∷ 0x100B ∷ 1 ∷ 0x100B ∷ 1 ∷
         0xD32F ∷ 0x1000 ∷ 1 ∷ 0xB ∷ 0x1000 ∷ 0x1000 ∷ 0x1000 ∷ 0x100C ∷ 0x1014 ∷ 2 ∷
@@ -144,7 +144,7 @@ pub fn stack_past_end()
 {}
 
 /// The stack of a context may end with its last field; then each field is traced.
-pub fn stack_to_end()
+fn stack_to_end()
     ensures { let file = file_of Little
         (0x1007 ∷ 0x100B ∷ 1 ∷ 0x100B ∷ 1 ∷ 0x100B ∷ 1 ∷
         0xD32F ∷ 0x1000 ∷ 1 ∷ 9 ∷ 0x1000 ∷ 0x1000 ∷ 0x1000 ∷ 0x100C ∷ 0x1014 ∷ 2 ∷ 0xFFFFFFFE ∷
@@ -154,7 +154,7 @@ pub fn stack_to_end()
 {}
 
 /// The stack pointer of a context is not negative.
-pub fn negative_stack()
+fn negative_stack()
     ensures { let file = file_of Little
         (0x1007 ∷ 0x100B ∷ 1 ∷ 0x100B ∷ 1 ∷ 0x100B ∷ 1 ∷
         0xD32F ∷ 0x1000 ∷ 1 ∷ 0xFFFFFFFF ∷ 0x1000 ∷ 0x1000 ∷ 0x1000 ∷ 0x100C ∷ 0x1014 ∷ 2 ∷
@@ -164,7 +164,7 @@ pub fn negative_stack()
 {}
 
 /// A bad context may have a class word, and the other compact index.
-pub fn bad_context_with_class_word()
+fn bad_context_with_class_word()
     ensures { let file = file_of Little
         (0x1007 ∷ 0x1001 ∷ 0xE311 ∷ 1 ∷ 1 ∷ 0xFFFFFFFF ∷ 0x320F ∷ 0x1000 ∷ 0x1008 ∷ [])
         0x1018 in
@@ -172,14 +172,14 @@ pub fn bad_context_with_class_word()
 {}
 
 /// That a context is bad counts before its class word.
-pub fn context_before_class_word()
+fn context_before_class_word()
     ensures { IsRefused
         (file_of Little (0x1007 ∷ 0x2001 ∷ 0xD309 ∷ 1 ∷ 0x320F ∷ 0x1000 ∷ 0x1008 ∷ []) 0x1010)
         (BadContext 0x1008) }
 {}
 
 /// All fields of a context whose stack does not end within it lead on.
-pub fn through_bad_context()
+fn through_bad_context()
     ensures { let file = file_of Little
         (0x1007 ∷ 0x10B ∷ 1 ∷ 0xD31F ∷ 0x1004 ∷ 1 ∷ 3 ∷ 1 ∷ 1 ∷ 1 ∷ 0x320F ∷ 0x1000 ∷ 0x100C ∷ [])
         0x1028 in
@@ -187,7 +187,7 @@ pub fn through_bad_context()
 {}
 
 /// No field of a context leads on where the stack pointer is negative.
-pub fn not_through_negative_stack()
+fn not_through_negative_stack()
     ensures { let file = file_of Little
         (0x1007 ∷ 0x10B ∷ 1 ∷ 0xD31F ∷ 0x1004 ∷ 1 ∷ 0xFFFFFFFF ∷ 1 ∷ 1 ∷ 1 ∷ 0x320F ∷ 0x1000 ∷
         0x100C ∷ [])
@@ -196,14 +196,14 @@ pub fn not_through_negative_stack()
 {}
 
 /// A traced field that is no integer names an object; this word is not the address of any word.
-pub fn odd_field()
+fn odd_field()
     ensures { IsRefused
         (file_of Little (0x1007 ∷ 0x320B ∷ 0x1002 ∷ []) 0x1004)
         (BadPointer 0x1004 (Field 0)) }
 {}
 
 /// The address of an object is that of its base header, and not that of its class word.
-pub fn field_names_class_word()
+fn field_names_class_word()
     ensures { let file = file_of Little
         (0x1007 ∷ 0x320F ∷ 1 ∷ 1 ∷ 0x100B ∷ 1 ∷ 0x1011 ∷ 0x109 ∷ 1 ∷
         0x320F ∷ 0x1000 ∷ 0x1018 ∷ [])
@@ -212,42 +212,42 @@ pub fn field_names_class_word()
 {}
 
 /// At the address of a field there is no object.
-pub fn field_names_field()
+fn field_names_field()
     ensures { IsRefused
         (file_of Little (0x1007 ∷ 0x320B ∷ 0x1008 ∷ []) 0x1004)
         (BadPointer 0x1004 (Field 0)) }
 {}
 
 /// A free chunk is no object that a field could name.
-pub fn field_names_free_chunk()
+fn field_names_free_chunk()
     ensures { IsRefused
         (file_of Little (0x1007 ∷ 0xE ∷ 1 ∷ 1 ∷ 0x320B ∷ 0x1004 ∷ []) 0x1010)
         (BadPointer 0x1010 (Field 0)) }
 {}
 
 /// Behind the last word there is no object.
-pub fn field_names_end()
+fn field_names_end()
     ensures { IsRefused
         (file_of Little (0x1007 ∷ 0x320B ∷ 0x100C ∷ []) 0x1004)
         (BadPointer 0x1004 (Field 0)) }
 {}
 
 /// Below the first word there is no object.
-pub fn field_below_base()
+fn field_below_base()
     ensures { IsRefused
         (file_of Little (0x1007 ∷ 0x320B ∷ 0 ∷ []) 0x1004)
         (BadPointer 0x1004 (Field 0)) }
 {}
 
 /// A literal of a method names an object.
-pub fn bad_literal()
+fn bad_literal()
     ensures { IsRefused
         (file_of Little (0x1007 ∷ 0x5C0F ∷ 0x401 ∷ 0x1002 ∷ 0x320F ∷ 0x1000 ∷ 0x1004 ∷ []) 0x1010)
         (BadPointer 0x1004 (Field 1)) }
 {}
 
 /// A stack pointer that is no integer names an object.
-pub fn odd_stack_pointer()
+fn odd_stack_pointer()
     ensures { let file = file_of Little
         (0x1007 ∷ 0xD31F ∷ 0x1000 ∷ 1 ∷ 0x1002 ∷ 0x1000 ∷ 0x1000 ∷ 0x1000 ∷ 0x320F ∷ 0x1000 ∷
         0x1004 ∷ [])
@@ -256,14 +256,14 @@ pub fn odd_stack_pointer()
 {}
 
 /// Of two bad fields the first counts.
-pub fn first_bad_field()
+fn first_bad_field()
     ensures { IsRefused
         (file_of Little (0x1007 ∷ 0x3213 ∷ 0x1000 ∷ 0x1002 ∷ 0x1006 ∷ []) 0x1004)
         (BadPointer 0x1004 (Field 1)) }
 {}
 
 /// A class word names an object; at the address in this one there is none.
-pub fn bad_class_word()
+fn bad_class_word()
     ensures { let file = file_of Little
         (0x1007 ∷ 0x320F ∷ 1 ∷ 1 ∷ 0x100B ∷ 1 ∷ 0x1015 ∷ 0x109 ∷ 1 ∷
         0x320F ∷ 0x1000 ∷ 0x101C ∷ [])
@@ -272,28 +272,28 @@ pub fn bad_class_word()
 {}
 
 /// The class word in a header of three words names an object, too.
-pub fn bad_class_of_three_words()
+fn bad_class_of_three_words()
     ensures { IsRefused
         (file_of Little (0x1007 ∷ 8 ∷ 0x1004 ∷ 0x200 ∷ 1 ∷ 0x320F ∷ 0x1000 ∷ 0x100C ∷ []) 0x1014)
         (BadPointer 0x100C ClassWord) }
 {}
 
 /// A bad class word counts before a bad field.
-pub fn class_word_before_field()
+fn class_word_before_field()
     ensures { IsRefused
         (file_of Little (0x1007 ∷ 0x2001 ∷ 0x109 ∷ 0x1002 ∷ 0x320F ∷ 0x1000 ∷ 0x1008 ∷ []) 0x1010)
         (BadPointer 0x1008 ClassWord) }
 {}
 
 /// Of two reachable objects with a defect the lower one counts.
-pub fn lower_of_two()
+fn lower_of_two()
     ensures { IsRefused
         (file_of Little (0x1007 ∷ 0x320F ∷ 0x1002 ∷ 0x1010 ∷ 0x10B ∷ 1 ∷ []) 0x1004)
         (BadPointer 0x1004 (Field 0)) }
 {}
 
 /// The lower one counts also where it is the higher one that names it.
-pub fn lower_is_named()
+fn lower_is_named()
     ensures { IsRefused
         (file_of Little (0x1007 ∷ 0x10B ∷ 1 ∷ 0x320F ∷ 0x1002 ∷ 0x1004 ∷ []) 0x100C)
         (NoClass 0x1004) }

@@ -2,9 +2,9 @@
 //! Each is the contract of a function that does nothing.
 #![tactic(auto)]
 
-pub mod compacted;
-pub mod defects;
+mod compacted;
+mod defects;
 #[cfg(test)]
 mod tests;
-pub mod unreadable;
-pub mod words;
+mod unreadable;
+mod words;

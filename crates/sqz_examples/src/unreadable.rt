@@ -12,237 +12,237 @@ ghost use Rattle.sqz_tool.specs.Verdict.{IsRefused};
 ghost use Rattle.sqz_examples.specs.Worked.{words_at, file_at, file_of};
 
 /// A file that ends within its header is too short.
-pub fn cut_in_header()
+fn cut_in_header()
     ensures { IsRefused
         (take 63 (file_of Little (0x1007 ∷ 0x320F ∷ 1 ∷ 1 ∷ 0x320B ∷ 0x1000 ∷ []) 0x1010))
         TooShort }
 {}
 
 /// Another version is not read.
-pub fn other_version()
+fn other_version()
     ensures { let words = words_at 0x1000 (0x1007 ∷ 0x320F ∷ 1 ∷ 1 ∷ 0x320B ∷ 0x1000 ∷ []) 0x1010 in
         IsRefused (spelling_of Little (slice_set words 0 6504)) BadVersion }
 {}
 
 /// The header is at the front of the file, and nowhere else.
-pub fn behind_512_bytes()
+fn behind_512_bytes()
     ensures { IsRefused
         (repeat 512 (0x23 ∷ []) ++ file_of Little (0x1007 ∷ 0x320F ∷ 1 ∷ 1 ∷ 0x320B ∷ 0x1000 ∷ []) 0x1010)
         BadVersion }
 {}
 
 /// Another size of the header is not read.
-pub fn other_header_size()
+fn other_header_size()
     ensures { let words = words_at 0x1000 (0x1007 ∷ 0x320F ∷ 1 ∷ 1 ∷ 0x320B ∷ 0x1000 ∷ []) 0x1010 in
         IsRefused (spelling_of Little (slice_set words 1 68)) BadHeaderSize }
 {}
 
 /// The size of the data is a number of whole words.
-pub fn uneven_data_size()
+fn uneven_data_size()
     ensures { let words = words_at 0x1000 (0x1007 ∷ 0x320F ∷ 1 ∷ 1 ∷ 0x320B ∷ 0x1000 ∷ []) 0x1010 in
         IsRefused (spelling_of Little (slice_set words 2 22)) BadDataSize }
 {}
 
 /// The address of the first data word is a multiple of four.
-pub fn uneven_base()
+fn uneven_base()
     ensures { IsRefused
         (file_at Little 0x1002 (0x1007 ∷ 0x320F ∷ 1 ∷ 1 ∷ 0x320B ∷ 0x1002 ∷ []) 0x1012)
         BadBase }
 {}
 
 /// The data do not reach past the last address.
-pub fn base_too_high()
+fn base_too_high()
     ensures { IsRefused
         (file_at Little 0xFFFFFFEC (0x1007 ∷ 0x320F ∷ 1 ∷ 1 ∷ 0x320B ∷ 0xFFFFFFEC ∷ []) 0xFFFFFFFC)
         BadBase }
 {}
 
 /// A file that ends within its data is truncated.
-pub fn cut_in_data()
+fn cut_in_data()
     ensures { IsRefused
         (take 87 (file_of Little (0x1007 ∷ 0x320F ∷ 1 ∷ 1 ∷ 0x320B ∷ 0x1000 ∷ []) 0x1010))
         Truncated }
 {}
 
 /// A file that ends within its header is too short, whatever its version.
-pub fn short_of_another_version()
+fn short_of_another_version()
     ensures { let words = words_at 0x1000 (0x1007 ∷ 0x320F ∷ 1 ∷ 1 ∷ 0x320B ∷ 0x1000 ∷ []) 0x1010 in
         IsRefused (take 63 (spelling_of Little (slice_set words 0 6504))) TooShort }
 {}
 
 /// Of two faults the version is the first.
-pub fn other_version_and_header_size()
+fn other_version_and_header_size()
     ensures { let words = words_at 0x1000 (0x1007 ∷ 0x320F ∷ 1 ∷ 1 ∷ 0x320B ∷ 0x1000 ∷ []) 0x1010 in
         IsRefused (spelling_of Little (slice_set (slice_set words 0 6504) 1 68)) BadVersion }
 {}
 
 /// The size of the header comes before that of the data.
-pub fn other_header_size_and_uneven_data_size()
+fn other_header_size_and_uneven_data_size()
     ensures { let words = words_at 0x1000 (0x1007 ∷ 0x320F ∷ 1 ∷ 1 ∷ 0x320B ∷ 0x1000 ∷ []) 0x1010 in
         IsRefused (spelling_of Little (slice_set (slice_set words 1 68) 2 22)) BadHeaderSize }
 {}
 
 /// The size of the data comes before their address.
-pub fn uneven_data_size_and_base()
+fn uneven_data_size_and_base()
     ensures { let words = words_at 0x1000 (0x1007 ∷ 0x320F ∷ 1 ∷ 1 ∷ 0x320B ∷ 0x1000 ∷ []) 0x1010 in
         IsRefused (spelling_of Little (slice_set (slice_set words 2 22) 3 0x1002)) BadDataSize }
 {}
 
 /// The address of the data comes before their end.
-pub fn uneven_base_of_truncated_data()
+fn uneven_base_of_truncated_data()
     ensures { let words = words_at 0x1000 (0x1007 ∷ 0x320F ∷ 1 ∷ 1 ∷ 0x320B ∷ 0x1000 ∷ []) 0x1010 in
         IsRefused (take 87 (spelling_of Little (slice_set words 3 0x1002))) BadBase }
 {}
 
 /// A chunk that states no words is not read.
-pub fn zero_size()
+fn zero_size()
     ensures { IsRefused
         (file_of Little (0x1007 ∷ 0x3203 ∷ []) 0x1000)
         (ZeroSize 1) }
 {}
 
 /// A base header behind a class word may not state a size of no words.
-pub fn zero_size_of_two()
+fn zero_size_of_two()
     ensures { IsRefused
         (file_of Little (0x1007 ∷ 0x1001 ∷ 0x101 ∷ []) 0x1000)
         (ZeroSize 1) }
 {}
 
 /// A size word may not state a size of no words.
-pub fn zero_size_of_three()
+fn zero_size_of_three()
     ensures { IsRefused
         (file_of Little (0x1007 ∷ 0 ∷ 0x1000 ∷ 0x200 ∷ []) 0x1000)
         (ZeroSize 1) }
 {}
 
 /// A free chunk that states no words is not read.
-pub fn free_zero_size()
+fn free_zero_size()
     ensures { IsRefused
         (file_of Little (0x1007 ∷ 2 ∷ []) 0x1000)
         (ZeroSize 1) }
 {}
 
 /// The header words of a chunk have one type; here the third has type 3 in place of 0.
-pub fn mixed_header()
+fn mixed_header()
     ensures { IsRefused
         (file_of Little (0x1007 ∷ 8 ∷ 0x1000 ∷ 0x20B ∷ 1 ∷ []) 0x1000)
         (HeaderMismatch 1) }
 {}
 
 /// The header words of a chunk have one type; here the second has type 1 in place of 0.
-pub fn mixed_second_header()
+fn mixed_second_header()
     ensures { IsRefused
         (file_of Little (0x1007 ∷ 8 ∷ 0x1001 ∷ 0x200 ∷ 1 ∷ []) 0x1000)
         (HeaderMismatch 1) }
 {}
 
 /// The header words of a chunk have one type; here the second has type 0 in place of 1.
-pub fn mixed_class_header()
+fn mixed_class_header()
     ensures { IsRefused
         (file_of Little (0x1007 ∷ 0x11 ∷ 0x1000 ∷ 0x109 ∷ 1 ∷ []) 0x1000)
         (HeaderMismatch 1) }
 {}
 
 /// A chunk whose header words are not all there is not read.
-pub fn header_overrun()
+fn header_overrun()
     ensures { IsRefused
         (file_of Little (0x1007 ∷ 8 ∷ 0x1000 ∷ []) 0x1000)
         (Overrun 1) }
 {}
 
 /// A chunk is not read where two of its three header words are missing.
-pub fn lone_size_word()
+fn lone_size_word()
     ensures { IsRefused
         (file_of Little (0x1007 ∷ 8 ∷ []) 0x1000)
         (Overrun 1) }
 {}
 
 /// A chunk is not read where the second of its two header words is missing.
-pub fn lone_class_word()
+fn lone_class_word()
     ensures { IsRefused
         (file_of Little (0x1007 ∷ 0x1001 ∷ []) 0x1000)
         (Overrun 1) }
 {}
 
 /// A chunk that states more words than there are is not read.
-pub fn overrun()
+fn overrun()
     ensures { IsRefused
         (file_of Little (0x1007 ∷ 0x320F ∷ 1 ∷ []) 0x1000)
         (Overrun 1) }
 {}
 
 /// A base header behind a class word may not state more words than there are.
-pub fn overrun_of_two()
+fn overrun_of_two()
     ensures { IsRefused
         (file_of Little (0x1007 ∷ 0x1001 ∷ 0x10D ∷ 1 ∷ []) 0x1000)
         (Overrun 1) }
 {}
 
 /// A size word may not state more words than there are.
-pub fn overrun_of_three()
+fn overrun_of_three()
     ensures { IsRefused
         (file_of Little (0x1007 ∷ 0xC ∷ 0x1000 ∷ 0x200 ∷ 1 ∷ []) 0x1000)
         (Overrun 1) }
 {}
 
 /// A free chunk that states more words than there are is not read.
-pub fn free_overrun()
+fn free_overrun()
     ensures { IsRefused
         (file_of Little (0x1007 ∷ 0x12 ∷ 1 ∷ []) 0x1000)
         (Overrun 1) }
 {}
 
 /// That a header word is missing counts before others that disagree.
-pub fn missing_before_mixed()
+fn missing_before_mixed()
     ensures { IsRefused
         (file_of Little (0x1007 ∷ 8 ∷ 0x1001 ∷ []) 0x1000)
         (Overrun 1) }
 {}
 
 /// That the header words disagree counts before a size of no words.
-pub fn mixed_before_size()
+fn mixed_before_size()
     ensures { IsRefused
         (file_of Little (0x1007 ∷ 0 ∷ 0x1000 ∷ 0x203 ∷ []) 0x1000)
         (HeaderMismatch 1) }
 {}
 
 /// That the header words disagree counts before words that are missing behind them.
-pub fn mixed_before_overrun()
+fn mixed_before_overrun()
     ensures { IsRefused
         (file_of Little (0x1007 ∷ 0xC ∷ 0x1000 ∷ 0x20B ∷ 1 ∷ []) 0x1000)
         (HeaderMismatch 1) }
 {}
 
 /// Of two chunks that cannot be read the first counts.
-pub fn first_unreadable_chunk()
+fn first_unreadable_chunk()
     ensures { IsRefused
         (file_of Little (0x1007 ∷ 0x320F ∷ 1 ∷ 1 ∷ 0x3203 ∷ 0x320F ∷ []) 0x1000)
         (ZeroSize 4) }
 {}
 
 /// An image with no data has no special objects array.
-pub fn no_data()
+fn no_data()
     ensures { IsRefused
         (file_of Little [] 0x1000)
         BadSpecialObjects }
 {}
 
 /// At the address of the special objects array there is an object.
-pub fn no_object_at_special()
+fn no_object_at_special()
     ensures { IsRefused
         (file_of Little (0x3207 ∷ []) 0x1004)
         BadSpecialObjects }
 {}
 
 /// A free chunk is no special objects array.
-pub fn free_chunk_at_special()
+fn free_chunk_at_special()
     ensures { IsRefused
         (file_of Little (0x1007 ∷ 0xE ∷ 1 ∷ 1 ∷ 0x320B ∷ 0x1000 ∷ []) 0x1004)
         BadSpecialObjects }
 {}
 
 /// The special objects array is found at its base header, and not at a class word.
-pub fn class_word_at_special()
+fn class_word_at_special()
     ensures { let file = file_of Little
         (0x1007 ∷ 0x320F ∷ 1 ∷ 1 ∷ 0x100B ∷ 1 ∷ 0x1011 ∷ 0x109 ∷ 1 ∷ 0x320F ∷ 0x1000 ∷ 0x101C ∷ [])
         0x1018 in
@@ -250,21 +250,21 @@ pub fn class_word_at_special()
 {}
 
 /// The special objects array is not found at a field.
-pub fn field_at_special()
+fn field_at_special()
     ensures { IsRefused
         (file_of Little (0x1007 ∷ 0x320B ∷ 0x1000 ∷ []) 0x1008)
         BadSpecialObjects }
 {}
 
 /// The address of the special objects array is that of a word.
-pub fn odd_special()
+fn odd_special()
     ensures { IsRefused
         (file_of Little (0x1007 ∷ 0x320B ∷ 0x1000 ∷ []) 0x1005)
         BadSpecialObjects }
 {}
 
 /// A chunk that cannot be read counts before a missing special objects array.
-pub fn unreadable_before_special()
+fn unreadable_before_special()
     ensures { IsRefused
         (file_of Little (0x1007 ∷ 0x3203 ∷ []) 0x1004)
         (ZeroSize 1) }

@@ -8,7 +8,7 @@ ghost use Rattle.sqz_examples.specs.Worked.{file_of};
 
 /// A little-endian file has the lowest byte of each word first: the first five header words, and the
 /// data words behind all sixteen.
-pub fn little_endian()
+fn little_endian()
     ensures header { take 20 (file_of Little (0x1007 ∷ 0x320F ∷ 1 ∷ 1 ∷ 0x320B ∷ 0x1000 ∷ []) 0x1010)
         ≡ 0x66 ∷ 0x19 ∷ 0 ∷ 0 ∷ 0x40 ∷ 0 ∷ 0 ∷ 0 ∷
         0x18 ∷ 0 ∷ 0 ∷ 0 ∷ 0 ∷ 0x10 ∷ 0 ∷ 0 ∷
@@ -20,7 +20,7 @@ pub fn little_endian()
 {}
 
 /// A big-endian file has the highest byte of each word first: the same words as above.
-pub fn big_endian()
+fn big_endian()
     ensures header { take 20 (file_of Big (0x1007 ∷ 0x320F ∷ 1 ∷ 1 ∷ 0x320B ∷ 0x1000 ∷ []) 0x1010)
         ≡ 0 ∷ 0 ∷ 0x19 ∷ 0x66 ∷ 0 ∷ 0 ∷ 0 ∷ 0x40 ∷
         0 ∷ 0 ∷ 0 ∷ 0x18 ∷ 0 ∷ 0 ∷ 0x10 ∷ 0 ∷
@@ -33,7 +33,7 @@ pub fn big_endian()
 
 /// An integer is the word's upper 31 bits in two's complement; a word that is neither an integer nor
 /// a multiple of four is odd.
-pub fn values()
+fn values()
     ensures lowest { value_of 0x80000001 ≡ Int (negsuc 1073741823) }
     ensures minus_one { value_of 0xFFFFFFFF ≡ Int (negsuc 0) }
     ensures zero { value_of 1 ≡ Int (pos 0) }
