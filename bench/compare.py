@@ -1,9 +1,10 @@
 #!/usr/bin/env python3
 """Runs the program over made images of 1, 16 and 64 MiB, and `cp` over the same files.
 
-Usage: bench/compare.py [--beside CHECKOUT] [--runs N] [MIB ...]
+Usage: bench/compare.py [--beside CHECKOUT | --census] [--runs N] [MIB ...]
 
-Of the objects in each image a third is dead. The table has three parts, named in its first column.
+Of the objects in each image a third is dead. The table has three parts, named in its first column, and
+with `--census` two more.
 
 Each image of the first two parts has arrays of 1 to 20 words, with integers and with pointers to
 objects near and far. In the first part far is up to a MiB away, at each size, so that its lines
@@ -27,6 +28,19 @@ but its seconds. Behind the table stands for each image the median of the differ
 time less the other's, and in how many of the runs this one was slower. The script ends with an error
 where the two write different bytes.
 
+With `--census` each line has also a run of the same program that prints a census, into a file, in
+turns as above. Behind the table stands for each image the median of the differences, the time with a
+census less that without, and how much that is in percent of the median without. The script ends with
+an error where the image that is written is not the same, or where the last line of the census is not
+the sum of the others, or not the objects and bytes of that image.
+
+The two parts for the census are mixed too, and have an array of 31 compact classes. Each second class
+names a byte object, as its name, and the others are metaclasses of these. In the part `1 class` all
+class words and all compact indexes name one class. In the part `many`, in which two objects of ten have
+a class word, there are 100,000 classes, each named by the class word of a live object. Where fewer live
+objects have class words, as in an image of 16 MiB and less, there are as many classes as these: some
+thousands in an image of a MiB.
+
 The peak is read from /proc each millisecond, so it is the least that it can have been; `-` stands
 where a command ended before it was read. Of a run of a few milliseconds most is the start of a
 process.
@@ -34,6 +48,7 @@ process.
 
 import argparse
 import array
+import bisect
 import collections
 import itertools
 import os
@@ -49,6 +64,8 @@ ROOT = os.path.dirname(os.path.dirname(os.path.realpath(__file__)))
 # What builds the program of a checkout, and the program, in the checkout's folder.
 LAUNCHER = "sqzcompact"
 PROGRAM = os.path.join("crates", "sqzcompact", "out", "sqzcompact")
+# The option with which the program prints a census.
+CENSUS = "--census"
 MIB = 1 << 20
 BASE = 0x1000
 HEADER_WORDS = 16
@@ -78,6 +95,18 @@ LARGEST_METHOD = 40
 # The header type of an object by the number of words before its base header.
 TYPES = (3, 1, 0)
 LARGEST_SHORT = 63
+# The words of the first objects of any image, which are live: nil and the special objects array.
+FIRSTS = (1, LARGEST)
+# How many of the small objects of a mixed image have a class word.
+WORDED = 0.1
+
+# The words of the first objects of an image with classes: the special objects array is so large that its
+# last field is the one that names the array of compact classes, which is the third object.
+CLASSED_FIRSTS = (1, 30, 32)
+# The fields of a class that name the instance of a metaclass, and the name of any other class.
+INSTANCE = 5
+NAME = 6
+MANY = 100_000
 
 
 def below(generator, count):
@@ -125,12 +154,15 @@ def fill_fields(generator, data, fields, addresses, live, reach):
                 data[field] = random_field(generator, among, place, reach)
 
 
-def connect(generator, data, fields, addresses, reach):
-    """Fills the fields of each object, and answers which objects are live: all but a third."""
-    live = [index < 2 or generator.random() < 2 / 3 for index in range(len(fields))]
+def choose_live(generator, count, firsts):
+    """Which of so many objects are live: the first ones, and of the others all but a third."""
+    return [index < len(firsts) or generator.random() < 2 / 3 for index in range(count)]
+
+
+def connect(generator, data, fields, addresses, live, reach):
+    """Fills the fields of each object that are empty, so that these are live."""
     name_live_objects(generator, data, fields, addresses, live, reach.far)
     fill_fields(generator, data, fields, addresses, live, reach)
-    return live
 
 
 def array_header(words):
@@ -140,7 +172,7 @@ def array_header(words):
 
 def sizes_of_arrays(generator, words):
     """The sizes of objects that fill so many words: nil, the special objects array, and others."""
-    sizes = [1, LARGEST]
+    sizes = list(FIRSTS)
     left = words - sum(sizes)
     while left > 0:
         size = min(1 + below(generator, LARGEST), left)
@@ -158,7 +190,8 @@ def words_of_arrays(words, far):
     for first, size in zip(firsts, sizes):
         data[first] = array_header(size)
     fields = [range(first + 1, first + size) for first, size in zip(firsts, sizes)]
-    connect(generator, data, fields, [BASE + 4 * first for first in firsts], Reach(0.5, far))
+    live = choose_live(generator, len(fields), FIRSTS)
+    connect(generator, data, fields, [BASE + 4 * first for first in firsts], live, Reach(0.5, far))
     return data
 
 
@@ -176,21 +209,22 @@ def random_size(generator, kind):
     return 1 + below(generator, LARGEST)
 
 
-def random_chunk(generator):
-    """A chunk of any kind."""
+def random_chunk(generator, worded):
+    """A chunk of any kind. Of the small objects this share has a class word."""
     kind = generator.choices(list(SHARES), SHARES.values())[0]
     size = random_size(generator, kind)
     if size > LARGEST_SHORT:
         return Chunk(kind, 2, size)
-    return Chunk(kind, 1 if kind != FREE and generator.random() < 0.1 else 0, size)
+    return Chunk(kind, 1 if kind != FREE and generator.random() < worded else 0, size)
 
 
-def random_chunks(generator, words):
-    """Chunks that fill so many words: nil, the special objects array, and others."""
-    chunks = [Chunk(POINTERS, 0, 1), Chunk(POINTERS, 0, LARGEST)]
-    left = words - 1 - LARGEST
+def random_chunks(generator, words, firsts, worded):
+    """Chunks that fill so many words: first objects of these sizes, and others. Of the small ones of the
+    others this share has a class word."""
+    chunks = [Chunk(POINTERS, 0, size) for size in firsts]
+    left = words - sum(firsts)
     while left > 0:
-        chunk = random_chunk(generator)
+        chunk = random_chunk(generator, worded)
         if chunk.before + chunk.size > left:
             chunk = Chunk(FREE, 0, min(left, LARGEST))
         chunks.append(chunk)
@@ -250,21 +284,92 @@ def put_class_words(generator, data, objects, addresses, live):
             data[base - 1] = generator.choice(classes) | TYPES[chunk.before]
 
 
-def mixed_words(words):
-    """So many data words, of objects of all kinds and of free chunks."""
-    generator = random.Random(words)
-    chunks = random_chunks(generator, words)
+def put_chunks(generator, data, chunks):
+    """Puts chunks, one after the other, but for class words and pointers. Answers the objects, each with
+    the data word of its base header, and where the pointers of each go."""
     ends = itertools.accumulate(chunk.before + chunk.size for chunk in chunks)
     placed = [(chunk, end - chunk.size) for chunk, end in zip(chunks, ends)]
     objects = [(chunk, base) for chunk, base in placed if chunk.kind != FREE]
-    data = array.array("I", bytes(4 * words))
     for chunk, base in placed:
         if chunk.kind == FREE:
             data[base] = 4 * chunk.size + 2
-    fields = [put_object(generator, data, chunk, base) for chunk, base in objects]
+    return objects, [put_object(generator, data, chunk, base) for chunk, base in objects]
+
+
+def mixed_words(words):
+    """So many data words, of objects of all kinds and of free chunks."""
+    generator = random.Random(words)
+    data = array.array("I", bytes(4 * words))
+    chunks = random_chunks(generator, words, FIRSTS, WORDED)
+    objects, fields = put_chunks(generator, data, chunks)
     addresses = [BASE + 4 * base for _, base in objects]
-    live = connect(generator, data, fields, addresses, Reach(0.9, FAR))
+    live = choose_live(generator, len(objects), FIRSTS)
+    connect(generator, data, fields, addresses, live, Reach(0.9, FAR))
     put_class_words(generator, data, objects, addresses, live)
+    return data
+
+
+def can_be_class(chunk):
+    """Whether an object has the fields of a class."""
+    return chunk.kind == POINTERS and chunk.size > NAME + 1
+
+
+def choose_classes(generator, objects, live, most):
+    """Which live objects are classes, in their order: so many, or as many as there are live objects with
+    class words, if these are fewer."""
+    others = range(len(CLASSED_FIRSTS), len(objects))
+    able = [index for index in others if live[index] and can_be_class(objects[index][0])]
+    worded = sum(alive and chunk.before > 0 for (chunk, _), alive in zip(objects, live))
+    return sorted(generator.sample(able, min(most, worded, len(able))))
+
+
+def put_compact_classes(data, fields, addresses, classes):
+    """Puts the array of compact classes, which are the first classes, and into the special objects array
+    its address."""
+    special, compact = fields[1], fields[2]
+    data[special[-1]] = addresses[2]
+    for number, field in enumerate(compact):
+        data[field] = addresses[classes[number % len(classes)]]
+    fields[1], fields[2] = special[:-1], range(0)
+
+
+def put_names(data, objects, fields, addresses, live, classes):
+    """Puts what tells the names of classes: into one a near live byte object, and into the next, which
+    is a metaclass, the one before. Of these fields the one that tells no name has nil."""
+    texts = [index for index, (chunk, _) in enumerate(objects) if live[index] and chunk.kind == BYTES]
+    for number, index in enumerate(classes):
+        own = fields[index]
+        text = addresses[texts[bisect.bisect(texts, index) % len(texts)]]
+        is_metaclass = number % 2 == 1
+        data[own[INSTANCE]] = addresses[classes[number - 1]] if is_metaclass else BASE
+        data[own[NAME]] = BASE if is_metaclass else text
+        fields[index] = [*own[:INSTANCE], *own[NAME + 1 :]]
+
+
+def put_words_of_classes(generator, data, objects, addresses, live, classes):
+    """Puts the class words, which name one class after the other, those of live objects first."""
+    worded = [index for index, (chunk, _) in enumerate(objects) if chunk.before > 0]
+    worded.sort(key=lambda index: not live[index])
+    named = itertools.cycle(generator.sample(classes, len(classes)))
+    for index in worded:
+        chunk, base = objects[index]
+        data[base - 1] = addresses[next(named)] | TYPES[chunk.before]
+
+
+def classed_words(words, worded, most):
+    """So many data words as mixed ones are, of which so many objects at most are classes. Of the small
+    objects this share has a class word."""
+    generator = random.Random(words)
+    data = array.array("I", bytes(4 * words))
+    chunks = random_chunks(generator, words, CLASSED_FIRSTS, worded)
+    objects, fields = put_chunks(generator, data, chunks)
+    addresses = [BASE + 4 * base for _, base in objects]
+    live = choose_live(generator, len(objects), CLASSED_FIRSTS)
+    classes = choose_classes(generator, objects, live, most)
+    put_compact_classes(data, fields, addresses, classes)
+    put_names(data, objects, fields, addresses, live, classes)
+    connect(generator, data, fields, addresses, live, Reach(0.9, FAR))
+    put_words_of_classes(generator, data, objects, addresses, live, classes)
     return data
 
 
@@ -278,8 +383,30 @@ def far_words(words):
     return words_of_arrays(words, ANYWHERE)
 
 
+def one_class_words(words):
+    """So many data words, of objects of one class."""
+    return classed_words(words, WORDED, 1)
+
+
+def many_classes_words(words):
+    """So many data words, of objects of as many classes as there can be, and `MANY` at most."""
+    return classed_words(words, 2 * WORDED, MANY)
+
+
 # The parts of the table: what makes the data words of so many words, by the part's name.
 PARTS = {"1 MiB": near_words, "anywhere": far_words, "mixed": mixed_words}
+# Those of a table with a census.
+CENSUS_PARTS = {**PARTS, "1 class": one_class_words, "many": many_classes_words}
+
+
+def read_words(path):
+    """The words of a file, of which there is a whole number."""
+    words = array.array("I")
+    with open(path, "rb") as file:
+        words.frombytes(file.read())
+    if sys.byteorder == "big":
+        words.byteswap()
+    return words
 
 
 def make_image(path, size, data_words):
@@ -316,14 +443,16 @@ class PeakMemory(threading.Thread):
                     self.bytes = int(line.split()[1]) * 1024
 
 
-def measure(command):
-    """The seconds that a command takes, and its peak memory in bytes."""
-    begun = time.perf_counter()
-    process = subprocess.Popen(command)
-    memory = PeakMemory(process.pid)
-    memory.start()
-    os.waitid(os.P_PID, process.pid, os.WEXITED | os.WNOWAIT)
-    seconds = time.perf_counter() - begun
+def measure(command, printed=os.devnull):
+    """The seconds that a command takes, and its peak memory in bytes. What it prints goes into the file
+    `printed`."""
+    with open(printed, "wb") as out:
+        begun = time.perf_counter()
+        process = subprocess.Popen(command, stdout=out)
+        memory = PeakMemory(process.pid)
+        memory.start()
+        os.waitid(os.P_PID, process.pid, os.WEXITED | os.WNOWAIT)
+        seconds = time.perf_counter() - begun
     memory.ended.set()
     memory.join()
     if process.wait() != 0:
@@ -331,10 +460,11 @@ def measure(command):
     return seconds, memory.bytes
 
 
-def measure_in_turn(commands, run):
-    """What `measure` answers for each command; in each second run the last of them is run first."""
+def measure_in_turn(commands, printed, run):
+    """What `measure` answers for each command and the file for what it prints; in each second run the
+    last of them is run first."""
     step = 1 if run % 2 == 0 else -1
-    return [measure(command) for command in commands[::step]][::step]
+    return [measure(*each) for each in list(zip(commands, printed))[::step]][::step]
 
 
 def are_same(one, other):
@@ -346,6 +476,27 @@ def are_same(one, other):
                 return False
             if not piece:
                 return True
+
+
+def objects_and_bytes(path):
+    """How many objects the image in a file has, and how many bytes its data; it has no free chunks."""
+    words = read_words(path)
+    count, place = 0, HEADER_WORDS
+    while place < len(words):
+        before = TYPES.index(words[place] & 3)
+        size = words[place] // 4 if before == 2 else words[place + before] >> 2 & LARGEST_SHORT
+        count, place = count + 1, place + before + size
+    return count, words[2]
+
+
+def check_census(printed, answer):
+    """Ends the script where the last line of a census is not the sum of the others, or does not have the
+    objects and bytes of the image that was answered."""
+    with open(printed, "rb") as lines:
+        *rows, total = [tuple(int(word) for word in line.split(None, 2)[:2]) for line in lines]
+    sums = tuple(sum(column) for column in zip(*rows))
+    if not total == sums == objects_and_bytes(answer):
+        sys.exit(f"the census says {total}, its lines {sums}, the image {objects_and_bytes(answer)}")
 
 
 def memory_columns(size, peak):
@@ -360,16 +511,16 @@ def columns(size, measured):
 
 
 def columns_beside(size, measured):
-    """The same for a line with two programs, which has no room for MiB a second."""
+    """The same for a line with two commands, which has no room for MiB a second."""
     seconds, peak = measured
     return f"{seconds:9.3f} {memory_columns(size, peak)}"
 
 
-def sides(size, programs, copied):
-    """What was measured of one program or two, and of `cp`, over a file of so many bytes."""
-    if len(programs) == 1:
-        return f"{columns(size, programs[0])}  {columns(size, copied)}"
-    each = "  ".join(columns_beside(size, measured) for measured in programs)
+def sides(size, compacted, copied):
+    """What was measured of one command or two, and of `cp`, over a file of so many bytes."""
+    if len(compacted) == 1:
+        return f"{columns(size, compacted[0])}  {columns(size, copied)}"
+    each = "  ".join(columns_beside(size, measured) for measured in compacted)
     return f"{each}  {copied[0]:9.3f}"
 
 
@@ -380,28 +531,31 @@ def print_titles():
     print(f"{'far':>8} {'image':>5} {'MiB out':>9} {titles}  {titles}")
 
 
-def print_titles_beside():
-    """Prints the two lines over a table with two programs."""
+def print_titles_beside(second):
+    """Prints the two lines over a table with two commands, of which the second is called so."""
     titles = f"{'seconds':>9} {'peak MiB':>9} {'of file':>8}"
-    print(f"{'':>24} {'sqzcompact':<28}    {'beside':<28}  cp")
+    print(f"{'':>24} {'sqzcompact':<28}    {second:<28}  cp")
     print(f"{'far':>8} {'image':>5} {'MiB out':>9} {titles}  {titles}  {'seconds':>9}")
 
 
 def compare(mib, part, folder, programs, runs):
-    """Makes an image of so many MiB in the folder, and prints a line for each run over it. Answers for
-    each run the seconds of each program."""
+    """Makes an image of so many MiB in the folder, and prints a line for each run over it, with each of
+    the programs and their options. Answers for each run the seconds of each."""
     image, copy = (os.path.join(folder, name) for name in ("image", "copy"))
     answers = [os.path.join(folder, f"answer{number}") for number in range(len(programs))]
-    commands = [[program, image, answer] for program, answer in zip(programs, answers)]
-    make_image(image, mib * MIB, PARTS[part])
+    printed = [os.path.join(folder, f"printed{number}") for number in range(len(programs))]
+    commands = [[*program, image, answer] for program, answer in zip(programs, answers)]
+    make_image(image, mib * MIB, CENSUS_PARTS[part])
     seconds = []
     for run in range(runs):
-        compacted = measure_in_turn(commands, run)
+        compacted = measure_in_turn(commands, printed, run)
         copied = measure(["cp", image, copy])
         out = os.path.getsize(answers[0]) / MIB
         if not all(are_same(answers[0], answer) for answer in answers[1:]):
             sys.exit(f"the programs differ in what they write for {part}, {mib} MiB")
-        for made in (*answers, copy):
+        if CENSUS in programs[-1]:
+            check_census(printed[-1], answers[-1])
+        for made in (*answers, *printed, copy):
             os.remove(made)
         print(f"{part:>8} {mib:5} {out:9.2f} {sides(mib * MIB, compacted, copied)}", flush=True)
         seconds.append([measured[0] for measured in compacted])
@@ -422,6 +576,22 @@ def print_differences(compared):
     print(f"{'far':>8} {'image':>5} {'ms':>9} {'slower':>8}")
     for mib, part, seconds in compared:
         print_difference(mib, part, seconds)
+
+
+def print_added(mib, part, seconds):
+    """Prints how much a census added, by the seconds without and with one in each run."""
+    added = statistics.median(counted - plain for plain, counted in seconds)
+    percent = 100 * added / statistics.median(plain for plain, _ in seconds)
+    print(f"{part:>8} {mib:5} {1000 * added:+9.2f} {percent:+8.1f}")
+
+
+def print_all_added(compared):
+    """Prints a line for each image, by its size and part and by what `compare` answered."""
+    print()
+    print("with a census less without, the median in milliseconds, and in percent of that without")
+    print(f"{'far':>8} {'image':>5} {'ms':>9} {'percent':>8}")
+    for mib, part, seconds in compared:
+        print_added(mib, part, seconds)
 
 
 def build(checkout):
@@ -445,10 +615,12 @@ def positive(word):
 def read_options():
     """What the command line asks for."""
     parser = argparse.ArgumentParser(
-        usage="bench/compare.py [--beside CHECKOUT] [--runs N] [MIB ...]",
+        usage="bench/compare.py [--beside CHECKOUT | --census] [--runs N] [MIB ...]",
         description="Runs the program over made images, and `cp` over the same files.",
     )
-    parser.add_argument("--beside", metavar="CHECKOUT", help="run the program of this checkout too")
+    second = parser.add_mutually_exclusive_group()
+    second.add_argument("--beside", metavar="CHECKOUT", help="run the program of this checkout too")
+    second.add_argument(CENSUS, action="store_true", help="run the program with a census too")
     parser.add_argument("--runs", metavar="N", type=positive, default=RUNS, help="runs over each image")
     parser.add_argument(
         "sizes", metavar="MIB", type=positive, nargs="*", default=SIZES, help="how large images are"
@@ -456,23 +628,32 @@ def read_options():
     return parser.parse_args()
 
 
+def programs_to_run(options):
+    """The programs that are asked for, each with its options; they are built where that is needed."""
+    program = build(ROOT)
+    if options.beside:
+        return [[program], [build(options.beside)]]
+    return [[program], [program, CENSUS]] if options.census else [[program]]
+
+
 def main():
     """Builds the programs where that is needed, and compares them on images of each size."""
     options = read_options()
-    checkouts = [ROOT, options.beside] if options.beside else [ROOT]
-    programs = [build(checkout) for checkout in checkouts]
-    if options.beside:
-        print_titles_beside()
-    else:
+    programs = programs_to_run(options)
+    if len(programs) == 1:
         print_titles()
+    else:
+        print_titles_beside("beside" if options.beside else "with a census")
     compared = []
     with tempfile.TemporaryDirectory() as folder:
-        for part in PARTS:
+        for part in CENSUS_PARTS if options.census else PARTS:
             for mib in options.sizes:
                 seconds = compare(mib, part, folder, programs, options.runs)
                 compared.append((mib, part, seconds))
     if options.beside:
         print_differences(compared)
+    if options.census:
+        print_all_added(compared)
 
 
 if __name__ == "__main__":

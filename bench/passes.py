@@ -1,9 +1,10 @@
 #!/usr/bin/env python3
 """Prints the milliseconds that the program spends in each of its passes, over images of 64 MiB.
 
-Usage: bench/passes.py [--runs N] [MIB ...]
+Usage: bench/passes.py [--census] [--runs N] [MIB ...]
 
-The images are those of bench/compare.py, and the parts of the table too. A line has the medians of
+The images are those of bench/compare.py, and the parts of the table too. With `--census` the program
+prints a census, and the table has the parts for it. A line has the medians of
 three runs over one image, or of as many as `--runs` says. The time of a pass is that on the clock from
 its first sample to its last, so it is not summed over threads, and what else the machine does is in
 it. `rest` is what lies between the passes: the start of the process, the freeing of memory, copying at
@@ -43,10 +44,12 @@ PASSES = {
     "sums": r"sqz_regions::(sums|region_bases)::|sqz_regions::regions::Regions::of",
     "places": r"sqz_regions::forward::(Forward::build|range_places|places_between|joined)",
     "slide": r"sqz_slide::",
+    "census": r"sqz_census::|sqz_tool::compaction::census_text\b",
     "write": r"(__GI_)?(__)?(libc_)?write$|sqz_image::(write_words|writing|write_whole)::",
 }
-# The passes that may have threads, in their order, and the functions that run in the threads.
-THREADED = ("mark", "defects", "places", "slide")
+# The passes that may have threads, in their order, and the functions that run in the threads. The census
+# has them twice: for the objects, and for the lines.
+THREADED = ("mark", "defects", "places", "slide", "census", "census")
 IN_THREADS = r"rayon::.*::fold_into\b|std::thread::fork::calls_from\b"
 # The functions that call passes. A pass without a function of its own is a loop in one of them.
 CALLERS = (
@@ -79,10 +82,11 @@ def run(command, **options):
 
 
 def record(program, image, folder):
-    """What `perf` tells of the samples of a run over the image, as text."""
+    """What `perf` tells of the samples of a run of the program, with its options, over the image, as text."""
     answer, data = (os.path.join(folder, name) for name in ("answer", "samples"))
     sampling = ["-e", "cpu-clock", "-F", str(FREQUENCY), "-g", "--user-callchains"]
-    run(["perf", "record", "-q", "-N", "-o", data, *sampling, "--", program, image, answer])
+    run(["perf", "record", "-q", "-N", "-o", data, *sampling, "--", *program, image, answer],
+        stdout=subprocess.DEVNULL)
     fields = ["--ns", "-F", "time,ip,sym,symoff,dso"]
     told = run(["perf", "script", "-i", data, *fields], stdout=subprocess.PIPE)
     os.remove(answer)
@@ -223,7 +227,7 @@ def column(runs, name):
 def print_line(mib, part, program, runs, folder):
     """Makes an image of so many MiB in the folder, and prints the times of so many runs over it."""
     image = os.path.join(folder, "image")
-    compare.make_image(image, mib * compare.MIB, compare.PARTS[part])
+    compare.make_image(image, mib * compare.MIB, compare.CENSUS_PARTS[part])
     measured = []
     for _ in range(runs):
         samples = read_samples(record(program, image, folder))
@@ -235,9 +239,10 @@ def print_line(mib, part, program, runs, folder):
 def read_options():
     """What the command line asks for."""
     parser = argparse.ArgumentParser(
-        usage="bench/passes.py [--runs N] [MIB ...]",
+        usage="bench/passes.py [--census] [--runs N] [MIB ...]",
         description="Prints the milliseconds of each pass of the program over made images.",
     )
+    parser.add_argument(compare.CENSUS, action="store_true", help="let the program print a census")
     parser.add_argument(
         "--runs", metavar="N", type=compare.positive, default=compare.RUNS, help="runs over each image"
     )
@@ -253,11 +258,11 @@ def main():
     options = read_options()
     if shutil.which("perf") is None:
         sys.exit("perf is needed")
-    program = compare.build(compare.ROOT)
+    program = [compare.build(compare.ROOT), *([compare.CENSUS] if options.census else [])]
     titles = " ".join(f"{name:>8}" for name in (*PASSES, "rest", "all"))
     print(f"{'far':>8} {'image':>5} {titles}")
     with tempfile.TemporaryDirectory() as folder:
-        for part in compare.PARTS:
+        for part in compare.CENSUS_PARTS if options.census else compare.PARTS:
             for mib in options.sizes:
                 print_line(mib, part, program, options.runs, folder)
 

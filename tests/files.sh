@@ -1,7 +1,8 @@
 #!/usr/bin/env bash
 # Runs the program on the files of images/, and looks at what it writes, what it prints and how it
-# ends. NAME.image is to become NAME.compacted.image, or is refused with the line of NAME.fault. The
-# last line is 'N passed, M failed'.
+# ends. NAME.image is to become NAME.compacted.image, or is refused with the line of NAME.fault, and
+# NAME.census is what is printed of it where a census is asked for. The last line is
+# 'N passed, M failed'.
 set -u
 shopt -s nullglob
 
@@ -29,6 +30,13 @@ run_after() {
   status=$?
 }
 
+# Runs the program with these words, where standard output is a device that takes nothing.
+run_to_full_device() {
+  "$root/sqzcompact" "$@" >/dev/full 2>said
+  status=$?
+  : >printed
+}
+
 # Whether the last run ended so, and printed nothing but this one line on standard error.
 faulted() {
   [ "$status" -eq "$1" ] && [ ! -s printed ] && printf '%s\n' "$2" | cmp -s - said
@@ -37,6 +45,18 @@ faulted() {
 # Whether the last run succeeded, printed nothing, and wrote to this file the same as is in that one.
 wrote() {
   [ "$status" -eq 0 ] && [ ! -s printed ] && [ ! -s said ] && cmp -s "$1" "$2"
+}
+
+# Whether the last run succeeded, printed this census and nothing on standard error, and wrote to the first
+# file the same as is in the second.
+counted() {
+  [ "$status" -eq 0 ] && cmp -s "$3" printed && [ ! -s said ] && cmp -s "$1" "$2"
+}
+
+# Whether the last run did not take its words, and said why on standard error in words that are no line of
+# a fault.
+explained() {
+  [ "$status" -eq 2 ] && [ ! -s printed ] && [ -s said ] && ! grep -q '^fault' said
 }
 
 # Puts an old file where the answer is to go.
@@ -61,10 +81,33 @@ case_of() {
   fi
 }
 
+# The words behind the two files are options, here and below.
 compacts() {
+  local image=$1 answer=$2
+  shift 2
   rm -f out
-  run "$1" out
-  wrote out "$2"
+  run "$@" "$image" out
+  wrote out "$answer"
+}
+
+counts() {
+  local image=$1 answer=$2 census=$3
+  shift 3
+  rm -f out
+  run --census "$@" "$image" out
+  counted out "$answer" "$census"
+}
+
+counts_with_options_last() {
+  rm -f out
+  run "$1" out --region-words=1 --workers=2 --census
+  counted out "$2" "$3"
+}
+
+counts_in_place() {
+  cp "$1" both
+  run --census both both
+  counted both "$2" "$3"
 }
 
 compacts_in_place() {
@@ -80,9 +123,11 @@ empties_old_file() {
 }
 
 refuses() {
+  local image=$1 fault=$2
+  shift 2
   put_old_output
-  run "$1" out
-  faulted 1 "$(cat "$2")" && has_old_output
+  run "$@" "$image" out
+  faulted 1 "$(cat "$fault")" && has_old_output
 }
 
 refuses_and_makes_nothing() {
@@ -117,6 +162,13 @@ reports_output_in_missing_folder() {
 reports_full_device() {
   run "$1" /dev/full
   faulted 3 'fault 17: cannot write the output'
+}
+
+# The image is written before the census is printed.
+reports_full_device_for_census() {
+  rm -f out
+  run_to_full_device --census "$1" out
+  faulted 3 'fault 17: cannot write the output' && cmp -s out "$2"
 }
 
 # No file may be of more than 64 KiB, and the signal that says so is ignored: of a write past that only the
@@ -225,18 +277,41 @@ refuses_words() {
 
 wants_output() {
   run "$1"
-  [ "$status" -eq 2 ] && [ ! -s printed ] && [ -s said ]
+  explained
 }
 
 wants_no_third_word() {
   rm -f out
   run "$1" out more
-  [ "$status" -eq 2 ] && [ ! -s printed ] && [ -s said ] && [ ! -e out ]
+  explained && [ ! -e out ]
 }
 
+# Runs the program with options of which one is not taken as it is written.
+refuses_option() {
+  local image=$1
+  shift
+  rm -f out
+  run "$image" out "$@"
+  explained && [ ! -e out ]
+}
+
+# Runs the program with options of which a number is not taken, and looks for this line. Where there is no
+# image, the line is the same.
+refuses_number() {
+  local image=$1 line=$2
+  shift 2
+  rm -f out
+  run "$@" missing out
+  faulted 2 "$line" || return
+  run "$@" "$image" out
+  faulted 2 "$line" && [ ! -e out ]
+}
+
+# The help has a line for each option, with the number that is taken where none is given.
 helps() {
   run --help
-  [ "$status" -eq 0 ] && [ -s printed ] && [ ! -s said ]
+  [ "$status" -eq 0 ] && [ ! -s said ] && grep -q '^ *--workers <N> .*\[default: 4\]$' printed \
+    && grep -q '^ *--region-words <N> .*\[default: 65536\]$' printed && grep -q '^ *--census ' printed
 }
 
 if ! "$root/sqzcompact" --help >printed; then
@@ -248,14 +323,25 @@ for answer in "$images"/*.compacted.image; do
   name=$(basename "$answer" .compacted.image)
   case_of "compacts $name" compacts "$images/$name.image" "$answer"
 done
+for census in "$images"/*.census; do
+  name=$(basename "$census" .census)
+  image=$images/$name.image
+  answer=$images/$name.compacted.image
+  case_of "counts $name" counts "$image" "$answer" "$census"
+  case_of "counts $name by one worker" counts "$image" "$answer" "$census" --workers 1
+  case_of "counts $name by 64 workers" counts "$image" "$answer" "$census" --workers 64
+  case_of "counts $name in regions of a word" counts "$image" "$answer" "$census" --region-words 1
+done
 for fault in "$images"/*.fault; do
   name=$(basename "$fault" .fault)
   case_of "refuses $name" refuses "$images/$name.image" "$fault"
   case_of "refuses $name and makes nothing" refuses_and_makes_nothing "$images/$name.image" "$fault"
+  case_of "refuses $name and prints no census" refuses "$images/$name.image" "$fault" --census
 done
 
 image=$images/dead_array.image
 answer=$images/dead_array.compacted.image
+census=$images/dead_array.census
 case_of 'compacts in place' compacts_in_place "$image" "$answer"
 case_of 'empties an old file' empties_old_file "$image" "$answer"
 case_of 'reports a missing input' reports_missing_input
@@ -263,11 +349,29 @@ case_of 'reports a folder as input' reports_folder_as_input
 case_of 'leaves an old file where the input is a folder' leaves_old_file_where_input_is_folder
 case_of 'reports an output in a missing folder' reports_output_in_missing_folder "$image"
 case_of 'reports a full device' reports_full_device "$image"
+case_of 'reports a full device for a census' reports_full_device_for_census "$image" "$answer"
+case_of 'counts where options come last' counts_with_options_last "$image" "$answer" "$census"
+case_of 'counts in place' counts_in_place "$image" "$answer" "$census"
 case_of 'wants an output' wants_output "$image"
 case_of 'wants no third word' wants_no_third_word "$image"
 case_of 'refuses an input that is no text' refuses_words $'in\xff' out
 case_of 'refuses an output that is no text' refuses_words "$image" $'out\xff'
 case_of 'refuses a third word that is no text' refuses_words "$image" out $'\xff'
+case_of 'refuses workers that are no number' refuses_option "$image" --workers x
+case_of 'refuses workers above 32 bits' refuses_option "$image" --workers 4294967296
+case_of 'wants a number of workers' refuses_option "$image" --workers
+case_of "refuses a region's words that are no number" refuses_option "$image" --region-words x
+case_of "wants a number of a region's words" refuses_option "$image" --region-words
+case_of 'refuses an option that it does not know' refuses_option "$image" --count
+workers='fault 18: workers must be from 1 to 64'
+case_of 'refuses to have no worker' refuses_number "$image" "$workers" --workers 0
+case_of 'refuses 65 workers' refuses_number "$image" "$workers" --workers 65 --census
+case_of 'refuses no worker before regions of no words' refuses_number "$image" "$workers" \
+  --region-words 0 --workers 0
+cut='fault 19: region cut is not valid'
+case_of 'refuses regions of no words' refuses_number "$image" "$cut" --region-words 0
+case_of 'refuses regions of more than 2^30 words' refuses_number "$image" "$cut" --region-words 1073741825 --census
+case_of 'takes the largest numbers' compacts "$image" "$answer" --workers 64 --region-words 1073741824
 case_of 'helps' helps
 case_of 'compacts from a pipe' compacts_from_pipe "$image" "$answer"
 if [ "$(id -u)" -ne 0 ]; then

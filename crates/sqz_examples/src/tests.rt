@@ -3,6 +3,7 @@
 mod all_headers;
 mod answers;
 mod bad_objects;
+mod censuses;
 mod contexts_and_methods;
 mod devices;
 mod fault_lines;

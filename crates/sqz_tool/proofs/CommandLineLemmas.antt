@@ -1,18 +1,24 @@
--- What holds of a command with two words that have to be there.
-use Rattle.std.proofs.Common.{◌≡◌, ◌<◌, ◌∙◌, ap, refl, sym, arith, inl, inr, zero, suc, true, false, List, [], ◌∷◌, slice_index, codes, is_some}
-use Rattle.std.specs.List.{All}
+-- What holds of the program's command, and of what a parse of it gives.
+use Rattle.std.proofs.Common.{◌≡◌, ◌⊎◌, ◌<◌, ◌∙◌, ℕ, ap, refl, sym, arith, inl, inr, zero, suc, Bool, true, false, ◌==◌, ◌&&◌, ◌||◌, not, length, Option, Some, None, IsTrue, ◌↔◌, ap₂, subst, List, [], ◌∷◌, slice_index, slice_index_or, codes, is_some}
+use Rattle.std.specs.List.{All, position_or_len}
+use Rattle.std.specs.Prelude.{Result}
 use Rattle.std.specs.Str.{bytes_eq}
+use Rattle.std.specs.Str.Parse.{ExplainsUnsignedError, HasUnsignedDigitsIfOk, IsNumeral, ParsesUnsigned, digits_value, without_leading_plus}
+use Rattle.std.specs.declared.num.ParseIntError.{ParseIntError}
 use Rattle.std.proofs.lemmas.Slice.Eq.{bytes_eq-Decides}
-use Rattle.clap.specs.Words.{AddsArg, App, HasMatchesOf, IsParsedFrom, Text, app_of, args_of, fault_of, first_of, first_value, found_of, groups_of, is_simple, is_simple_and_free, matches_of}
+use Rattle.clap.specs.Words.{AddsArg, App, HasMatchesOf, IsParsedFrom, Text, app_of, args_of, fault_of, first_of, first_value, found_of, groups_of, is_simple, is_simple_and_free, matches_of, ReadsOne, new_app, one_of, one_text, with_rule, without_minus, IsPlainArg}
 use Rattle.clap.specs.Built.{AddsInTurn, FitsChain, HasDistinctIds}
 use Rattle.clap.specs.declared.builder.arg.Arg.{Arg}
 use Rattle.clap.specs.declared.builder.command.Command.{Command}
 use Rattle.clap.specs.declared.builder.command.Command.TheViews.{out-Command}
 use Rattle.clap.specs.declared.parser.matches.ArgMatches.{ArgMatches}
 use Rattle.clap.proofs.CallerLemmas.{required_in_chain}
-use Rattle.clap.proofs.WalkLemmas.{first_value-rows}
+use Rattle.clap.proofs.CallerReads.{signed_reads}
+use Rattle.clap.proofs.WalkLemmas.{first_value-rows, one_text-rows}
 use Rattle.clap.proofs.OnLiterals.{clap_on_literals}
-use Rattle.sqz_tool.specs.CommandLine.{IsRequired, command_line}
+use Rattle.sqz_tool.specs.CommandLine.{GivesAll, HasNumber, IsFlag, IsNumber, IsRequired, command_line, number_parser}
+use Rattle.clap.specs.declared.builder.value_parser.ValueParser.TheVariants as vp
+use Rattle.sqz_tool.proofs.ArgumentLemmas.{default_in_chain, distinct_by_names, read_in_chain}
 
 -- the matches of the command line can be computed
 pub command_line_simple : is_simple command_line ≡ true
@@ -31,61 +37,163 @@ first_is command words m id shape holds =
     let rows = (holds (ap is_simple shape ∙ command_line_simple)).0 in
     ap (λ (a : App). first_of id (matches_of a words)) (sym shape) ∙ (ap (first_of id) (sym rows) ∙ sym (first_value-rows (found_of m) id))
 
+-- and what the typed getters read
+pub one_is : (command : Command) (words : List Text) (m : ArgMatches) (id : Text) → app_of command ≡ command_line
+    → HasMatchesOf (app_of command) words m → one_of id (matches_of command_line words) ≡ one_text (found_of m) id
+one_is command words m id shape holds =
+    let rows = (holds (ap is_simple shape ∙ command_line_simple)).0 in
+    ap (λ (a : App). one_of id (matches_of a words)) (sym shape) ∙ (ap (one_of id) (sym rows) ∙ sym (one_text-rows (found_of m) id))
+
 -- where words were taken, there was nothing to refuse
 pub none_refused : (command : Command) (words : List Text) (m : ArgMatches) → app_of command ≡ command_line
     → (is_simple_and_free (app_of command) ≡ true → fault_of (app_of command) words ≡ []) → fault_of command_line words ≡ []
-none_refused command words m shape holds = ap (λ (a : App). fault_of a words) (sym shape) ∙ holds (ap is_simple_and_free shape ∙ command_line_free)
+none_refused command words m shape holds =
+    ap (λ (a : App). fault_of a words) (sym shape) ∙ holds (ap is_simple_and_free shape ∙ command_line_free)
 
--- each text that is the id of such an argument begins as its name does
-id_begins : (name : Text) (a : Arg) → IsRequired name a → (other : Text) → a.id.now ≡ other → slice_index other 0 ≡ slice_index name 0
-id_begins name a w other e = rw (← e, w.id) refl
+-- the names that building adds begin with an h and a v
+abbrev is_free_letter : ℕ → Bool
+is_free_letter letter = not (letter == 0) && (not (letter == 104) && not (letter == 118))
 
--- such an argument fits into a chain, where its name begins with a capital letter
-required_fits : (name : Text) (a : Arg) → IsRequired name a → 0 < slice_index name 0 → slice_index name 0 < 97 → FitsChain a
-required_fits name a w above below = (
-  w.simple,
-  w.local,
-  (λ e. let bad : 0 ≡ slice_index name 0 = id_begins name a w [] e in absurd (omega arith)),
-  (λ auto. elim auto [
-    | inl h ↦ let bad : 104 ≡ slice_index name 0 = id_begins name a w (codes "help") h in absurd (omega arith)
-    | inr h ↦ let bad : 118 ≡ slice_index name 0 = id_begins name a w (codes "version") h in absurd (omega arith)
-  ]),
+begins_otherwise : (name other : Text) → is_free_letter (slice_index name 0) ≡ true → is_free_letter (slice_index other 0) ≡ false
+    → name ≡ other → ⊥
+begins_otherwise name other free taken same = let begin = ap (λ (text : Text). is_free_letter (slice_index text 0)) same in cc
+
+-- an argument whose id is another name fits into a chain
+fits_by_name : (name : Text) (a : Arg) → is_free_letter (slice_index name 0) ≡ true → a.id.now ≡ name → IsPlainArg a → a.global ≡ false
+    → FitsChain a
+fits_by_name name a free id simple local = (
+  simple,
+  local,
+  λ empty. begins_otherwise name [] free refl (sym id ∙ empty),
+  λ auto. elim auto [
+    | inl h ↦ begins_otherwise name (codes "help") free refl (sym id ∙ h)
+    | inr v ↦ begins_otherwise name (codes "version") free refl (sym id ∙ v)
+  ],
 )
 
--- two such arguments with one id have names that begin alike
-same_begin : (name other : Text) (a b : Arg) → IsRequired name a → IsRequired other b → bytes_eq a.id.now b.id.now ≡ true
-    → slice_index name 0 ≡ slice_index other 0
-same_begin name other a b v w same =
-    sym (id_begins name a v b.id.now ((bytes_eq-Decides a.id.now b.id.now).0 same)) ∙ id_begins other b w b.id.now refl
+abbrev names : List Text
+names = codes "IN" ∷ codes "OUT" ∷ codes "workers" ∷ codes "region-words" ∷ codes "census" ∷ []
 
--- two such arguments whose names begin otherwise have two ids
-distinct_ids : (name other : Text) (a b : Arg) → IsRequired name a → IsRequired other b → slice_index name 0 < slice_index other 0
-    → HasDistinctIds (a ∷ b ∷ [])
-distinct_ids name other a b v w lt zero zero d e lj lk same = refl
-distinct_ids name other a b v w lt zero (suc zero) d e lj lk same =
-    let bad = same_begin name other a b v w same in absurd (omega arith)
-distinct_ids name other a b v w lt (suc zero) zero d e lj lk same =
-    let bad = same_begin other name b a w v same in absurd (omega arith)
-distinct_ids name other a b v w lt (suc zero) (suc zero) d e lj lk same = refl
-distinct_ids name other a b v w lt (suc (suc j)) k d e lj lk same = absurd (omega arith)
-distinct_ids name other a b v w lt j (suc (suc k)) d e lj lk same = absurd (omega arith)
+-- each name stands at one place
+place_is : (i : ℕ) → i < length names → position_or_len (bytes_eq (slice_index_or names i [])) names ≡ i
+place_is zero inside = refl
+place_is (suc zero) inside = refl
+place_is (suc (suc zero)) inside = refl
+place_is (suc (suc (suc zero))) inside = refl
+place_is (suc (suc (suc (suc zero)))) inside = refl
+place_is (suc (suc (suc (suc (suc i))))) inside = absurd (omega arith)
 
--- two arguments that fit are a list of those that do
-both_fit : (a b : Arg) → FitsChain a → FitsChain b → All FitsChain (a ∷ b ∷ [])
-both_fit a b f g zero d l = f
-both_fit a b f g (suc zero) d l = g
-both_fit a b f g (suc (suc k)) d l = absurd (omega arith)
+names_apart : (i j : ℕ) → i < length names → j < length names → slice_index_or names i [] ≡ slice_index_or names j [] → i ≡ j
+names_apart i j inside within same =
+    sym (place_is i inside) ∙ ap (λ (name : Text). position_or_len (bytes_eq name) names) same ∙ place_is j within
 
--- a parse of a command of two such arguments gives each its value
-pub both_given : (start middle cmd : Command) (name other : Text) (a b : Arg) (m : ArgMatches) → AddsArg start a middle → AddsArg middle b cmd
-    → args_of start ≡ [] → groups_of start ≡ [] → (out-Command start).has_globals ≡ false → (out-Command start).subcommand_negates_reqs ≡ false
-    → IsRequired name a → IsRequired other b → 0 < slice_index name 0 → slice_index name 0 < slice_index other 0 → slice_index other 0 < 97
-    → IsParsedFrom cmd m
-    → (is_some (first_value (found_of m) name) ≡ true) × (is_some (first_value (found_of m) other) ≡ true)
-both_given start middle cmd name other a b m one two args groups globals negates v w above lt below parsed =
-    let chain : AddsInTurn AddsArg start (a ∷ b ∷ []) cmd = (middle, one, (cmd, two, refl)) in
-    let fits = both_fit a b (required_fits name a v above (omega arith)) (required_fits other b w (omega arith) below) in
-    let distinct = distinct_ids name other a b v w lt in
-    let first = required_in_chain start cmd (a ∷ b ∷ []) 0 a m chain args groups globals negates fits distinct (omega arith) v.value parsed in
-    let second = required_in_chain start cmd (a ∷ b ∷ []) 1 b m chain args groups globals negates fits distinct (omega arith) w.value parsed in
-    (rw (← v.id) first, rw (← w.id) second)
+-- a text that is one of two
+one_of_two : (text one other : Text) → (bytes_eq text one || bytes_eq text other) ≡ true → (text ≡ one) ⊎ (text ≡ other)
+one_of_two text one other test = at (bytes_eq text one) refl
+  where
+    at : (b : Bool) → bytes_eq text one ≡ b → (text ≡ one) ⊎ (text ≡ other)
+    at true same = inl ((bytes_eq-Decides text one).0 same)
+    at false apart = inr ((bytes_eq-Decides text other).0 (rw apart at test))
+
+module _ (start one two three four cmd : Command) (input output workers region_words census : Arg)
+    (first : AddsArg start input one) (second : AddsArg one output two) (third : AddsArg two workers three)
+    (fourth : AddsArg three region_words four) (fifth : AddsArg four census cmd)
+    (for_input : IsRequired (codes "IN") input) (for_output : IsRequired (codes "OUT") output)
+    (for_workers : IsNumber (codes "workers") (codes "4") workers)
+    (for_regions : IsNumber (codes "region-words") (codes "65536") region_words) (for_census : IsFlag (codes "census") census) where
+  -- the command's arguments are those of the command line
+  pub shape_is : app_of start ≡ new_app (codes "sqzcompact") → app_of cmd ≡ command_line
+  shape_is new =
+      fifth.shape for_census.local
+      ∙ ap₂ with_rule (fourth.shape for_regions.local
+      ∙ ap₂ with_rule (third.shape for_workers.local
+      ∙ ap₂ with_rule (second.shape for_output.local
+      ∙ ap₂ with_rule (first.shape for_input.local
+      ∙ ap₂ with_rule new for_input.rule) for_output.rule) for_workers.rule) for_regions.rule) for_census.rule
+
+  abbrev arguments : List Arg
+  arguments = input ∷ output ∷ workers ∷ region_words ∷ census ∷ []
+
+  chain : AddsInTurn AddsArg start arguments cmd
+  chain = (one, first, (two, second, (three, third, (four, fourth, (cmd, fifth, refl)))))
+
+  fits : All FitsChain arguments
+  fits zero d inside = fits_by_name (codes "IN") input refl for_input.id for_input.simple for_input.local
+  fits (suc zero) d inside = fits_by_name (codes "OUT") output refl for_output.id for_output.simple for_output.local
+  fits (suc (suc zero)) d inside = fits_by_name (codes "workers") workers refl for_workers.id for_workers.simple for_workers.local
+  fits (suc (suc (suc zero))) d inside =
+      fits_by_name (codes "region-words") region_words refl for_regions.id for_regions.simple for_regions.local
+  fits (suc (suc (suc (suc zero)))) d inside = fits_by_name (codes "census") census refl for_census.id for_census.simple for_census.local
+  fits (suc (suc (suc (suc (suc k))))) d inside = absurd (omega arith)
+
+  distinct : HasDistinctIds arguments
+  distinct =
+      distinct_by_names arguments names (rw (for_input.id, for_output.id, for_workers.id, for_regions.id, for_census.id)) names_apart
+
+  module _ (args : args_of start ≡ []) (groups : groups_of start ≡ []) (globals : (out-Command start).has_globals ≡ false)
+      (negates : (out-Command start).subcommand_negates_reqs ≡ false) (m : ArgMatches) (parsed : IsParsedFrom cmd m) where
+    -- a word that has to be there is there
+    word_at : (k : ℕ) (name : Text) (a : Arg) → k < length arguments → slice_index_or arguments k a ≡ a → IsRequired name a
+        → is_some (first_value (found_of m) name) ≡ true
+    word_at k name a inside is word =
+        let at = subst (IsRequired name) (sym is) word in
+        let got = required_in_chain start cmd arguments k a m chain args groups globals negates fits distinct inside at.value parsed in
+        subst (λ (id : Text). is_some (first_value (found_of m) id) ≡ true) at.id got
+
+    -- an option with a number has one
+    number_at : (k : ℕ) (name initial : Text) (a : Arg) → k < length arguments → slice_index_or arguments k a ≡ a → IsNumber name initial a
+        → HasNumber m name
+    number_at k name initial a inside is option =
+        let at = subst (IsNumber name initial) (sym is) option in
+        let got =
+        default_in_chain start cmd arguments m chain args groups globals fits distinct parsed k a inside
+        number_parser at.parser at.default at.action at.whole at.least
+        in
+        (got.0, subst (λ (id : Text). one_text (found_of m) id ≡ Some (without_minus got.0)) at.id got.1, got.2)
+
+    -- a parse gives each argument what its reader counts on
+    pub all_given : GivesAll m
+    all_given = record {
+      input = word_at 0 (codes "IN") input (omega arith) refl for_input;
+      output = word_at 1 (codes "OUT") output (omega arith) refl for_output;
+      workers = number_at 2 (codes "workers") (codes "4") workers (omega arith) refl for_workers;
+      region_words = number_at 3 (codes "region-words") (codes "65536") region_words (omega arith) refl for_regions;
+      census = λ text is.
+          let got =
+          read_in_chain start cmd arguments m chain args groups globals fits distinct parsed 4 census (omega arith)
+          vp.Bool for_census.parser text (rw for_census.id is)
+          in
+          let word = one_of_two got.0 (codes "true") (codes "false") got.2 in
+          elim word [ inl on ↦ inl (got.1 ∙ on) | inr off ↦ inr (got.1 ∙ off) ];
+    }
+
+-- how `u32` reads a text
+abbrev pub ReadsText : Text → Result ℕ ParseIntError → Type 0
+ReadsText text r = ParsesUnsigned 32 10 text r × ExplainsUnsignedError 10 text r × HasUnsignedDigitsIfOk text r
+
+-- so `get_one` makes a number of such an option, and its text has that
+pub number_read : (m : ArgMatches) (name : Text) (r : Option ℕ) → HasNumber m name
+    → ((t : Text) → one_text (found_of m) name ≡ Some t → ReadsOne ReadsText t r)
+    → (number : ℕ) × (r ≡ Some number) × ((text : Text) × (one_text (found_of m) name ≡ Some text)
+    × IsNumeral 10 (without_leading_plus text) × (digits_value 10 (without_leading_plus text) ≡ number))
+number_read m name r has reads =
+    let text = without_minus has.0 in
+    let read = reads text has.1 in
+    let got = signed_reads ParseIntError ReadsText 32 0 4294967295 has.0 r read (λ u x reads. reads.0) (omega arith) has.2 in
+    let parsed = subst (ReadsOne ReadsText text) got.1 read in
+    (got.0, got.1, (text, has.1, parsed.0.0.0, sym parsed.0.1))
+
+-- a flag is on where its text says so
+pub flag_read : (m : ArgMatches) (name : Text) (flag : Bool)
+    → ((text : Text) → one_text (found_of m) name ≡ Some text → (text ≡ codes "true") ⊎ (text ≡ codes "false"))
+    → (one_text (found_of m) name ≡ None → flag ≡ false) → (one_text (found_of m) name ≡ Some (codes "true") → flag ≡ true)
+    → (one_text (found_of m) name ≡ Some (codes "false") → flag ≡ false)
+    → IsTrue flag ↔ (one_text (found_of m) name ≡ Some (codes "true"))
+flag_read m name flag words none on off = (λ set. text_of (one_text (found_of m) name) refl set, on)
+  where
+    text_of : (o : Option Text) → one_text (found_of m) name ≡ o → flag ≡ true → one_text (found_of m) name ≡ Some (codes "true")
+    text_of None is set = let unset = none is in cc
+    text_of (Some text) is set = elim (words text is) [
+      | inl yes_text ↦ is ∙ ap (λ (t : Text). Some t) yes_text
+      | inr no_text ↦ let unset = off (is ∙ ap (λ (t : Text). Some t) no_text) in cc
+    ]

@@ -1,4 +1,5 @@
 pub mod CompactionLemmas
 pub mod RunLemmas
 pub mod Uniqueness
+mod ArgumentLemmas
 mod CommandLineLemmas

@@ -1,5 +1,5 @@
 -- From what a run did, and what stopped it, to the run's contract.
-use Rattle.std.proofs.Common.{◌≡◌, ◌≢◌, ℕ, ◌≤◌, ◌⊎◌, List, None, refl, sym, subst, arith, inl, inr}
+use Rattle.std.proofs.Common.{◌≡◌, ◌≢◌, ℕ, ◌≤◌, ◌⊎◌, Bool, true, false, List, None, refl, sym, subst, arith, inl, inr}
 use Rattle.sqz_object.specs.declared.chunk.ChunkFault.{ChunkFault}
 use Rattle.sqz_object.specs.declared.chunk.ChunkFault.TheVariants.{ZeroSize, HeaderMismatch, Overrun}
 use Rattle.sqz_image.specs.declared.fault.Fault.{Fault}
@@ -8,14 +8,14 @@ use Rattle.sqz_image.specs.File.{file_with}
 use Rattle.sqz_image.specs.Objects.{SavedImage, file_bytes}
 use Rattle.sqz_image.specs.Numbers.{number_of_fault}
 use Rattle.sqz_image.specs.Refusals.{file_fault, Holds, IsUnreadable, refusal_of}
-use Rattle.sqz_image.specs.Devices.{SourceState, SinkState, ReadsWhole, ReadStops, WritesWhole, WriteStops}
+use Rattle.sqz_image.specs.Devices.{SourceState, ReadsWhole, ReadStops, WritesWhole, WriteStops}
 use Rattle.sqz_image.proofs.ReadingLemmas.{file_fault_low}
 use Rattle.sqz_trace.proofs.DefectLemmas.{first_defect-number}
 use Rattle.sqz_tool.specs.declared.summary.Summary.{Summary}
 use Rattle.sqz_tool.specs.Compacted.{compacted}
 use Rattle.sqz_tool.specs.Verdict.{IsAccepted, HasDefect, IsRefused}
 use Rattle.sqz_tool.specs.Exits.{exit_of}
-use Rattle.sqz_tool.specs.Headline.{IsCompaction, HasDefectIn, Compacts, RefusesFile, Refuses}
+use Rattle.sqz_tool.specs.Headline.{IsCompaction, HasDefectIn, Sinks, Reports, Compacts, RefusesFile, Refuses}
 
 -- ---- the refusals of a file
 
@@ -37,54 +37,54 @@ IsRefused-number file fault (inr defect) = first_defect-number defect.image.memo
 
 -- ---- the refusals of a run
 
-module _ (from to : SourceState) (old new : SinkState) where
+module _ (census : Bool) (from to : SourceState) (old new : Sinks) where
   -- those of a file are none of memory or of a device
-  file_refuses : (fault : Fault) → number_of_fault fault ≤ 14 → RefusesFile fault from to old new → Refuses from to old new fault
+  file_refuses : (fault : Fault) → number_of_fault fault ≤ 14 → RefusesFile fault from to old new → Refuses census from to old new fault
   file_refuses OutOfMemory le r = absurd (omega (arith, le))
   file_refuses ReadFailed le r = absurd (omega (arith, le))
   file_refuses WriteFailed le r = absurd (omega (arith, le))
   file_refuses _ le r = r
 
   -- no refusal of a run is one of the command line's words
-  pub Refuses-exit : (fault : Fault) → Refuses from to old new fault → exit_of fault ≢ 2
+  pub Refuses-exit : (fault : Fault) → Refuses census from to old new fault → exit_of fault ≢ 2
   Refuses-exit BadWorkers r = absurd (let le = IsRefused-number r.file BadWorkers r.refused in omega arith)
   Refuses-exit BadCut r = absurd (let le = IsRefused-number r.file BadCut r.refused in omega arith)
   Refuses-exit _ r = λ e. absurd (omega (arith, e))
 
   module _ (fault : Fault) where
     -- the source stopped before the end, or memory was refused
-    pub refuses_reading : new ≡ old → ReadStops from to fault → Refuses from to old new fault
+    pub refuses_reading : new ≡ old → ReadStops from to fault → Refuses census from to old new fault
     refuses_reading untouched stops =
         elim stops.1 [
           | inl (memory, unfinished) ↦
-              subst (Refuses from to old new) (sym memory)
+              subst (Refuses census from to old new) (sym memory)
               (record { front = stops.0.0; taken = stops.0.1; cause = inl unfinished; untouched = untouched })
           | inr (named, cause) ↦
-              subst (Refuses from to old new) (sym named) (record { stops = (stops.0, inr (refl, cause)); untouched = untouched })
+              subst (Refuses census from to old new) (sym named) (record { stops = (stops.0, inr (refl, cause)); untouched = untouched })
         ]
 
     module _ (file : List ℕ) where
       -- memory was refused once a file with a sound header was read
-      refuses_memory : new ≡ old → ReadsWhole from to file → fault ≡ OutOfMemory → file_fault file ≡ None → Refuses from to old new fault
+      refuses_memory : new ≡ old → ReadsWhole from to file → fault ≡ OutOfMemory → file_fault file ≡ None → Refuses census from to old new fault
       refuses_memory untouched read memory sound =
-          subst (Refuses from to old new) (sym memory)
+          subst (Refuses census from to old new) (sym memory)
           (record { front = file; taken = read.bytes; cause = inr (read, sound); untouched = untouched })
 
       -- the file is refused
-      refuses_for : new ≡ old → ReadsWhole from to file → IsRefused file fault → Refuses from to old new fault
+      refuses_for : new ≡ old → ReadsWhole from to file → IsRefused file fault → Refuses census from to old new fault
       refuses_for untouched read refused =
           file_refuses fault (IsRefused-number file fault refused)
           (record { file = file; read = read; refused = refused; untouched = untouched })
 
       -- no image was read of the file
       pub refuses_file : new ≡ old → ReadsWhole from to file
-          → ((fault ≡ OutOfMemory) × (file_fault file ≡ None)) ⊎ IsUnreadable file fault → Refuses from to old new fault
+          → ((fault ≡ OutOfMemory) × (file_fault file ≡ None)) ⊎ IsUnreadable file fault → Refuses census from to old new fault
       refuses_file untouched read (inl (memory, sound)) = refuses_memory untouched read memory sound
       refuses_file untouched read (inr unreadable) = refuses_for untouched read (inl unreadable)
 
       -- the image that was read was not compacted
       pub refuses_image : (image : SavedImage) → new ≡ old → ReadsWhole from to file → Holds file image
-          → (fault ≡ OutOfMemory) ⊎ HasDefectIn image fault → Refuses from to old new fault
+          → (fault ≡ OutOfMemory) ⊎ HasDefectIn image fault → Refuses census from to old new fault
       refuses_image image untouched read holds (inl memory) = refuses_memory untouched read memory holds.parts.sound
       refuses_image image untouched read holds (inr defect) =
           let has : HasDefect file fault = record { image = image; marks = defect.marks; holds = holds; reachable = defect.reachable; defect = defect.defect } in
@@ -92,29 +92,72 @@ module _ (from to : SourceState) (old new : SinkState) where
 
 -- ---- an image that was compacted
 
-module _ (from to : SourceState) (old new : SinkState) (file : List ℕ) (image : SavedImage) (special : ℕ) (pieces : List (List ℕ))
-    (summary : Summary) (read : ReadsWhole from to file) (holds : Holds file image) (is : IsCompaction image special pieces summary) where
+module _ (census : Bool) (from to : SourceState) (old new : Sinks) (file : List ℕ) (image : SavedImage) (special : ℕ)
+    (pieces : List (List ℕ)) (summary : Summary) (text : List ℕ) (read : ReadsWhole from to file) (holds : Holds file image)
+    (is : IsCompaction census image special pieces summary text) where
   accepted : IsAccepted file image is.marks
   accepted = record { holds = holds; reachable = is.reachable; sound = is.sound }
 
-  -- and not wholly written
-  pub refuses_writing : (fault : Fault) → WriteStops old new (file_with image.memory.order image.header special pieces) fault
-      → Refuses from to old new fault
-  refuses_writing fault stops =
-      let bytes = subst (λ (b : List ℕ). WriteStops old new b fault) is.bytes stops in
-      let named = subst (WriteStops old new (file_bytes (compacted image is.marks))) stops.named bytes in
-      subst (Refuses from to old new) (sym stops.named)
-      (record { file = file; read = read; image = image; marks = is.marks; accepted = accepted; stops = named })
+  -- what is to be written
+  abbrev bytes : List ℕ
+  bytes = file_with image.memory.order image.header special pieces
 
-  -- and written
-  pub compacts : WritesWhole old new (file_with image.memory.order image.header special pieces) → Compacts from to old new summary
-  compacts written =
-      record {
+  -- and not wholly written
+  pub refuses_writing : (fault : Fault) → new.census ≡ old.census → WriteStops old.image new.image bytes fault
+      → Refuses census from to old new fault
+  refuses_writing fault untouched stops =
+      let moved = subst (λ (b : List ℕ). WriteStops old.image new.image b fault) is.bytes stops in
+      let named = subst (WriteStops old.image new.image (file_bytes (compacted image is.marks))) stops.named moved in
+      subst (Refuses census from to old new) (sym stops.named)
+      (record {
         file = file;
         read = read;
         image = image;
         marks = is.marks;
         accepted = accepted;
-        written = subst (WritesWhole old new) is.bytes written;
-        counted = is.counted;
-      }
+        stops = inl (record { stops = named; untouched = untouched });
+      })
+
+  module _ (written : WritesWhole old.image new.image bytes) where
+    moved_written : WritesWhole old.image new.image (file_bytes (compacted image is.marks))
+    moved_written = subst (WritesWhole old.image new.image) is.bytes written
+
+    -- written, but the census is not
+    pub refuses_report : (fault : Fault) → census ≡ true → WriteStops old.census new.census text fault
+        → Refuses census from to old new fault
+    refuses_report fault asked stops =
+        let named = subst (WriteStops old.census new.census text) stops.named stops in
+        subst (Refuses census from to old new) (sym stops.named)
+        (record {
+          file = file;
+          read = read;
+          image = image;
+          marks = is.marks;
+          accepted = accepted;
+          stops = inr (asked, record { written = moved_written; text = text; report = is.reported asked; stops = named });
+        })
+
+    -- and written, with what there is to report
+    pub compacts : Reports census image.memory is.marks old.census new.census → Compacts census from to old new summary
+    compacts reported =
+        record {
+          file = file;
+          read = read;
+          image = image;
+          marks = is.marks;
+          accepted = accepted;
+          written = moved_written;
+          reported = reported;
+          counted = is.counted;
+        }
+
+    -- no census is asked for
+    pub compacts_alone : census ≡ false → new.census ≡ old.census → Compacts census from to old new summary
+    compacts_alone unasked untouched =
+        compacts (subst (λ (c : Bool). Reports c image.memory is.marks old.census new.census) (sym unasked) untouched)
+
+    -- one is, and its text was written
+    pub compacts_and_reports : census ≡ true → WritesWhole old.census new.census text → Compacts census from to old new summary
+    compacts_and_reports asked whole =
+        compacts (subst (λ (c : Bool). Reports c image.memory is.marks old.census new.census) (sym asked)
+        (text, is.reported asked, whole))

@@ -1,17 +1,19 @@
 -- What a run does: it writes exactly the compaction of what it read, or says why not.
-use Rattle.std.specs.Prelude.{◌≡◌, ◌⊎◌, ℕ, ◌*◌, ◌^◌, ◌<◌, Bool, List, length, Some, None}
+use Rattle.std.specs.Prelude.{◌≡◌, ◌⊎◌, ℕ, ◌*◌, ◌^◌, ◌<◌, Bool, true, false, List, length, Some, None}
 use Rattle.std.specs.List.{concat}
 use Rattle.std.specs.Io.KnownBytes.{Consumes}
 use Rattle.sqz_image.specs.declared.fault.Fault.{Fault}
 use Rattle.sqz_image.specs.declared.fault.Fault.TheVariants.{OutOfMemory, ReadFailed, WriteFailed}
 use Rattle.sqz_image.specs.File.{data_size, file_with}
-use Rattle.sqz_image.specs.Objects.{SavedImage, object_count, file_bytes}
+use Rattle.sqz_image.specs.Objects.{Memory, SavedImage, object_count, file_bytes}
 use Rattle.sqz_image.specs.Refusals.{file_fault}
 use Rattle.sqz_image.specs.Devices.{SourceState, SinkState, ReadsWhole, IsUnfinished, ReadStops, WritesWhole, WriteStops}
 use Rattle.sqz_trace.specs.Reachability.{IsReachability}
 use Rattle.sqz_trace.specs.Live.{live}
 use Rattle.sqz_trace.specs.Defects.{first_defect}
 use Rattle.sqz_regions.specs.Places.{live_words}
+use Rattle.sqz_census.specs.Census.{CensusRow, IsCensus}
+use Rattle.sqz_census.specs.Text.{census_text}
 use Rattle.sqz_tool.specs.declared.summary.Summary.{Summary}
 use Rattle.sqz_tool.specs.Compacted.{compacted}
 use Rattle.sqz_tool.specs.Verdict.{IsAccepted, IsRefused}
@@ -26,14 +28,23 @@ summary_of image marks =
       data_after = 4 * live_words image.memory marks;
     }
 
--- the address and the pieces are those of the image's compaction, and these are the numbers
-pub record IsCompaction (image : SavedImage) (special : ℕ) (pieces : List (List ℕ)) (summary : Summary) : Type 0 where
+-- the text of the census of the marked objects
+pub record IsReport (memory : Memory) (marks : List Bool) (text : List ℕ) : Type 0 where
+  pub rows : List CensusRow
+  pub census : IsCensus memory marks rows
+  pub text_is : text ≡ census_text rows
+
+-- the address and the pieces are those of the image's compaction, these are the numbers, and the text is that of its
+-- census where one is asked for
+pub record IsCompaction (census : Bool) (image : SavedImage) (special : ℕ) (pieces : List (List ℕ)) (summary : Summary) (text : List ℕ)
+    : Type 0 where
   pub marks : List Bool
   pub reachable : IsReachability image.memory marks
   pub sound : first_defect image.memory marks ≡ None
   pub bytes : file_with image.memory.order image.header special pieces ≡ file_bytes (compacted image marks)
   pub few : length (concat pieces) < 2 ^ 30
   pub counted : summary ≡ summary_of image marks
+  pub reported : census ≡ true → IsReport image.memory marks text
 
 -- this is the defect of the lowest reachable object that has one
 pub record HasDefectIn (image : SavedImage) (fault : Fault) : Type 0 where
@@ -41,49 +52,77 @@ pub record HasDefectIn (image : SavedImage) (fault : Fault) : Type 0 where
   pub reachable : IsReachability image.memory marks
   pub defect : first_defect image.memory marks ≡ Some fault
 
--- the source gave a file that is accepted, the sink took its compaction and nothing else, and these are
+-- what is seen of the two sinks of a run: that of the image, and that of its census
+pub record Sinks : Type 0 where
+  pub image : SinkState
+  pub census : SinkState
+
+abbrev pub sinks : SinkState → SinkState → Sinks
+sinks image census = record { image = image; census = census }
+
+-- the sink of the census took its text and nothing else, or nothing where no census is asked for
+abbrev pub Reports : Bool → Memory → List Bool → SinkState → SinkState → Type 0
+Reports true memory marks old new = (text : List ℕ) × IsReport memory marks text × WritesWhole old new text
+Reports false memory marks old new = new ≡ old
+
+-- the source gave a file that is accepted, the sink of the image took its compaction and nothing else, and these are
 -- the numbers
-pub record Compacts (from to : SourceState) (old new : SinkState) (summary : Summary) : Type 0 where
+pub record Compacts (census : Bool) (from to : SourceState) (old new : Sinks) (summary : Summary) : Type 0 where
   pub file : List ℕ
   pub read : ReadsWhole from to file
   pub image : SavedImage
   pub marks : List Bool
   pub accepted : IsAccepted file image marks
-  pub written : WritesWhole old new (file_bytes (compacted image marks))
+  pub written : WritesWhole old.image new.image (file_bytes (compacted image marks))
+  pub reported : Reports census image.memory marks old.census new.census
   pub counted : summary ≡ summary_of image marks
 
--- the source gave a file that is refused for this reason, and the sink is as it was
-pub record RefusesFile (fault : Fault) (from to : SourceState) (old new : SinkState) : Type 0 where
+-- the source gave a file that is refused for this reason, and the sinks are as they were
+pub record RefusesFile (fault : Fault) (from to : SourceState) (old new : Sinks) : Type 0 where
   pub file : List ℕ
   pub read : ReadsWhole from to file
   pub refused : IsRefused file fault
   pub untouched : new ≡ old
 
 -- memory was refused while the source was read, which has not failed and was not yet at its end, or once it had
--- given a file with a sound header; bytes from the front of what was left may be gone, and the sink is as it was
-pub record IsOutOfMemory (from to : SourceState) (old new : SinkState) : Type 0 where
+-- given a file with a sound header; bytes from the front of what was left may be gone, and the sinks are as they were
+pub record IsOutOfMemory (from to : SourceState) (old new : Sinks) : Type 0 where
   pub front : List ℕ
   pub taken : Consumes from.left to.left front
   pub cause : IsUnfinished from to ⊎ (ReadsWhole from to front × (file_fault front ≡ None))
   pub untouched : new ≡ old
 
--- the source stopped before the end, and the sink is as it was
-pub record StopsReading (from to : SourceState) (old new : SinkState) : Type 0 where
+-- the source stopped before the end, and the sinks are as they were
+pub record StopsReading (from to : SourceState) (old new : Sinks) : Type 0 where
   pub stops : ReadStops from to ReadFailed
   pub untouched : new ≡ old
 
--- the source gave a file that is accepted, and the sink took a front of its compaction before it stopped
-pub record StopsWriting (from to : SourceState) (old new : SinkState) : Type 0 where
+-- the sink of the image took a front of what was to be written before it stopped, and that of the census nothing
+pub record StopsAtImage (bytes : List ℕ) (old new : Sinks) : Type 0 where
+  pub stops : WriteStops old.image new.image bytes WriteFailed
+  pub untouched : new.census ≡ old.census
+
+-- the sink of the image took all, and that of the census a front of its text before it stopped
+pub record StopsAtCensus (memory : Memory) (marks : List Bool) (bytes : List ℕ) (old new : Sinks) : Type 0 where
+  pub written : WritesWhole old.image new.image bytes
+  pub text : List ℕ
+  pub report : IsReport memory marks text
+  pub stops : WriteStops old.census new.census text WriteFailed
+
+-- the source gave a file that is accepted, and its compaction, or the census where one is asked for, was not wholly
+-- written
+pub record StopsWriting (census : Bool) (from to : SourceState) (old new : Sinks) : Type 0 where
   pub file : List ℕ
   pub read : ReadsWhole from to file
   pub image : SavedImage
   pub marks : List Bool
   pub accepted : IsAccepted file image marks
-  pub stops : WriteStops old new (file_bytes (compacted image marks)) WriteFailed
+  pub stops : StopsAtImage (file_bytes (compacted image marks)) old new
+      ⊎ ((census ≡ true) × StopsAtCensus image.memory marks (file_bytes (compacted image marks)) old new)
 
 -- what was done where the run was refused, by the refusal: all others are the first that applies to the file
-abbrev pub Refuses : SourceState → SourceState → SinkState → SinkState → Fault → Type 0
-Refuses from to old new OutOfMemory = IsOutOfMemory from to old new
-Refuses from to old new ReadFailed = StopsReading from to old new
-Refuses from to old new WriteFailed = StopsWriting from to old new
-Refuses from to old new fault = RefusesFile fault from to old new
+abbrev pub Refuses : Bool → SourceState → SourceState → Sinks → Sinks → Fault → Type 0
+Refuses census from to old new OutOfMemory = IsOutOfMemory from to old new
+Refuses census from to old new ReadFailed = StopsReading from to old new
+Refuses census from to old new WriteFailed = StopsWriting census from to old new
+Refuses census from to old new fault = RefusesFile fault from to old new

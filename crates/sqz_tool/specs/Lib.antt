@@ -4,3 +4,4 @@ pub mod Headline
 pub mod CommandLine
 pub mod Exits
 pub mod OutputFiles
+pub mod Plans

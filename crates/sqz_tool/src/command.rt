@@ -1,14 +1,14 @@
 //! The program.
 
-ghost use Rattle.std.specs.Prelude.{◌≡◌, ◌≢◌, ◌<◌, ◌≤◌, [], map, string_bytes, IsOk, MatchResult};
-ghost use Rattle.clap.specs.Words.{fault_of, kind_of};
+ghost use Rattle.std.specs.Prelude.{◌≡◌, ◌≢◌, ◌⊎◌, ◌<◌, ◌≤◌, [], map, string_bytes, IsOk, MatchResult};
+ghost use Rattle.clap.specs.Words.{fault_of, kind_of, matches_of};
 ghost use Rattle.sqz_tool.specs.CommandLine.{command_line};
 ghost use Rattle.sqz_tool.specs.Exits.{IsExitBy, exit_of, exit_of_kind};
+ghost use Rattle.sqz_tool.specs.Plans.{AsksForCensus, AsksForPlan};
 
 use crate::arguments::read_arguments;
 use crate::compact_files::compact;
 use crate::exits::{BAD_ARGUMENTS, DONE, exit_of};
-use crate::plan::Plan;
 use crate::printing::print;
 use crate::summary::Summary;
 use clap::Error;
@@ -24,8 +24,10 @@ use std::thread::Threads;
 /// be read or written, and 4 where memory was refused. The first word is the program's name; `out`
 /// and `err` stand for standard output and standard error.
 ///
-/// A file is made, or emptied, only when the first bytes of the answer are there. A fault is printed
-/// as one line on `err`, and the help on `out`. Where one of the two fails, the answer is the same.
+/// The words are read first, then the number of workers is looked at and then that of a region's words, and then
+/// the image is read. A file is made, or emptied, only when the first bytes of the answer are there. The census is
+/// printed on `out` once the image is written. A fault is printed as one line on `err`, and the help on `out`. Where `err`
+/// fails, or `out` at the help, the answer is the same.
 pub fn program<T: Files + Threads + Wait + Sync, C: Sink, E: Sink>(
     rt: &T,
     alloc: Global,
@@ -36,16 +38,17 @@ pub fn program<T: Files + Threads + Wait + Sync, C: Sink, E: Sink>(
     ensures exits { result ≤ 4 }
     ensures refused { let kinds = fault_of command_line (map string_bytes words.now) in
         kinds ≢ [] → IsExitBy kinds result }
-    ensures taken { fault_of command_line (map string_bytes words.now) ≡ [] → result ≢ 2 }
-    ensures unused { fault_of command_line (map string_bytes words.now) ≡ [] → out.new ≡ out.old }
+    ensures taken { fault_of command_line (map string_bytes words.now) ≡ []
+        → AsksForPlan (matches_of command_line (map string_bytes words.now)) → result ≢ 2 }
+    ensures wrong { fault_of command_line (map string_bytes words.now) ≡ []
+        → (AsksForPlan (matches_of command_line (map string_bytes words.now)) → ⊥) → (result ≡ 2) ⊎ (result ≡ 4) }
+    ensures unused { fault_of command_line (map string_bytes words.now) ≡ []
+        → (AsksForCensus (matches_of command_line (map string_bytes words.now)) → ⊥) → C.state out.new ≡ C.state out.old }
     ensures silent { result ≡ 0 → err.new ≡ err.old }
-    ensures quiet { 0 < result → out.new ≡ out.old }
+    ensures quiet { 0 < result → result ≢ 3 → C.state out.new ≡ C.state out.old }
 {
     match read_arguments(alloc, words) {
-        Ok(arguments) => {
-            let plan = Plan::of_program();
-            finish(compact(rt, alloc, &plan, arguments), err)
-        }
+        Ok(arguments) => finish(compact(rt, alloc, &arguments, out), err),
         Err(error) => explain(&error, out, err),
     }
 }

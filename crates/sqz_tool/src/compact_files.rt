@@ -1,9 +1,10 @@
-//! A run from one file to another.
+//! A run from one file to another, and its census to a sink.
 
-ghost use Rattle.std.specs.Prelude.{◌≢◌, IfOk, IfErr};
+ghost use Rattle.std.specs.Prelude.{◌≡◌, ◌≢◌, ◌↔◌, false, IfOk, IfErr};
+ghost use Rattle.sqz_image.specs.declared.fault.Fault.TheVariants.{WriteFailed, BadWorkers, BadCut};
 ghost use Rattle.sqz_image.specs.Devices.{SourceState, new_source};
-ghost use Rattle.sqz_tool.specs.Exits.{exit_of};
-ghost use Rattle.sqz_tool.specs.Headline.{Compacts, Refuses};
+ghost use Rattle.sqz_tool.specs.Headline.{Compacts, Refuses, sinks};
+ghost use Rattle.sqz_tool.specs.Plans.{IsWorkers, IsRegion};
 
 use crate::arguments::Arguments;
 use crate::output_file::OutputFile;
@@ -19,39 +20,48 @@ use std::rt::Files;
 use std::sync::Wait;
 use std::thread::Threads;
 
-/// Compacts the image in one file into another.
+/// Compacts the image in one file into another, by the plan that a command line asks for. Where it asks for a census,
+/// the text goes to `out`, which else takes nothing.
 ///
-/// Fails as `run` does, with `ReadFailed` also where the image cannot be opened, and with
-/// `WriteFailed` also where the other file cannot be made. Unless it fails with `WriteFailed`, that
-/// file is then as it was.
-pub(crate) fn compact<T: Files + Threads + Wait + Sync>(
+/// Fails with `BadWorkers` or `BadCut` where there is no such plan, else as `run` does, with `ReadFailed` also where the
+/// image cannot be opened, and with `WriteFailed` also where the other file cannot be made. Unless it fails with
+/// `WriteFailed`, that file and `out` are then as they were.
+pub(crate) fn compact<T: Files + Threads + Wait + Sync, C: Sink>(
     rt: &T,
     alloc: Global,
-    plan: &Plan,
-    arguments: Arguments<'_>,
+    arguments: &Arguments<'_>,
+    out: &mut C,
 ) -> Result<Summary, Fault>
-    ensures { IfErr result (λ fault. exit_of fault ≢ 2) }
+    ensures planned { IfOk result (λ _. IsWorkers arguments.now.workers × IsRegion arguments.now.region_words) }
+    ensures workers { IfErr result (λ fault. (fault ≡ BadWorkers) ↔ (IsWorkers arguments.now.workers → ⊥)) }
+    ensures cut { IfErr result (λ fault. (fault ≡ BadCut) ↔ (IsWorkers arguments.now.workers × (IsRegion arguments.now.region_words → ⊥))) }
+    ensures unused { arguments.now.census ≡ false → C.state out.new ≡ C.state out.old }
+    ensures quiet { IfErr result (λ fault. fault ≢ WriteFailed → C.state out.new ≡ C.state out.old) }
 {
+    let plan = Plan::of(arguments)?;
     let Ok(file) = File::open(rt, arguments.input) else {
         return Err(Fault::ReadFailed);
     };
     let mut sink = OutputFile::new(rt, arguments.output);
-    compact_from(rt, alloc, plan, file, &mut sink)
+    compact_from(rt, alloc, &plan, file, &mut sink, out)
 }
 
 /// A run over all that a reader has left. Fails as `run` does.
-fn compact_from<T: Threads + Wait + Sync, R: Read + Drop, W: Sink>(
+fn compact_from<T: Threads + Wait + Sync, R: Read + Drop, W: Sink, C: Sink>(
     rt: &T,
     alloc: Global,
     plan: &Plan,
     reader: R,
     sink: &mut W,
+    out: &mut C,
 ) -> Result<Summary, Fault>
     ensures compacts { IfOk result (λ summary. (to : SourceState)
-        × Compacts (new_source (R.remaining reader)) to (W.state sink.old) (W.state sink.new) summary) }
+        × Compacts plan.now.census (new_source (R.remaining reader)) to
+        (sinks (W.state sink.old) (C.state out.old)) (sinks (W.state sink.new) (C.state out.new)) summary) }
     ensures refuses { IfErr result (λ fault. (to : SourceState)
-        × Refuses (new_source (R.remaining reader)) to (W.state sink.old) (W.state sink.new) fault) }
+        × Refuses plan.now.census (new_source (R.remaining reader)) to
+        (sinks (W.state sink.old) (C.state out.old)) (sinks (W.state sink.new) (C.state out.new)) fault) }
 {
     let mut source = ReadSource::new(reader);
-    run(rt, alloc, plan, &mut source, sink, &OpenGate)
+    run(rt, alloc, plan, &mut source, sink, out, &OpenGate)
 }

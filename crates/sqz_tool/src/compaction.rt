@@ -1,17 +1,21 @@
 //! What is written of an image: its live objects in their new places.
 
-ghost use Rattle.std.specs.Prelude.{◌≡◌, ◌⊎◌, ◌^◌, ◌<◌, sum, IfOk, IfErr};
+ghost use Rattle.std.specs.Prelude.{◌≡◌, ◌⊎◌, ◌^◌, ◌<◌, true, length, sum, IfOk, IfErr};
 ghost use Rattle.std.specs.List.{AllByRecursion};
 ghost use Rattle.sqz_object.specs.Chunk.{IsChunk};
 ghost use Rattle.sqz_image.specs.declared.fault.Fault.TheVariants.{OutOfMemory};
-ghost use Rattle.sqz_tool.specs.Headline.{IsCompaction, HasDefectIn};
+ghost use Rattle.sqz_image.specs.Objects.{object_count};
+ghost use Rattle.sqz_trace.specs.Reachability.{IsReachability};
+ghost use Rattle.sqz_regions.specs.Bases.{ArePlacesOf};
+ghost use Rattle.sqz_tool.specs.Headline.{IsCompaction, IsReport, HasDefectIn};
 
 use crate::plan::Plan;
 use crate::summary::Summary;
-use sqz_image::{Fault, Image};
+use sqz_census::{census, print};
+use sqz_image::{Fault, Heap, Image};
 use sqz_regions::{Forward, Regions, bases, live_words};
 use sqz_slide::{Pieces, slide};
-use sqz_trace::first_defect;
+use sqz_trace::{Marks, first_defect};
 use sqz_workers::{Gate, mark_locked};
 use std::alloc::Global;
 use std::sync::Wait;
@@ -25,6 +29,8 @@ pub(crate) struct Compaction {
     /// The words of the live objects, in their order.
     pub pieces: Pieces,
     pub summary: Summary,
+    /// The text of the census; empty where the plan asks for none.
+    pub census: Vec<u8>,
 }
 
 /// The compaction of an image. Refused with the defect of the lowest reachable object that has one,
@@ -37,7 +43,7 @@ pub(crate) fn compaction_of<T: Threads + Wait + Sync, G: Gate>(
     gate: &G,
 ) -> Result<Compaction, Fault>
     requires { AllByRecursion IsChunk image.now.memory.chunks }
-    ensures compaction { IfOk result (λ c. IsCompaction image.now c.special c.pieces c.summary) }
+    ensures compaction { IfOk result (λ c. IsCompaction plan.now.census image.now c.special c.pieces c.summary c.census.items) }
     ensures refused { IfErr result (λ fault. (fault ≡ OutOfMemory) ⊎ HasDefectIn image.now fault) }
 {
     let heap = image.heap();
@@ -50,6 +56,7 @@ pub(crate) fn compaction_of<T: Threads + Wait + Sync, G: Gate>(
     let bases = bases(alloc, heap.base(), &sums)?;
     let forward = Forward::build(rt, alloc, heap, &regions, &marks, &bases)?;
     let pieces = slide(rt, alloc, heap, &regions, &forward, plan.workers, gate)?;
+    let census = census_text(rt, alloc, plan.census, heap, &marks, &forward)?;
     let special = forward.place(heap.special()).unwrap();
     let summary = Summary {
         objects: heap.len(),
@@ -61,7 +68,32 @@ pub(crate) fn compaction_of<T: Threads + Wait + Sync, G: Gate>(
         special,
         pieces,
         summary,
+        census,
     })
+}
+
+/// The text of the census, where it is wanted.
+fn census_text(
+    rt: &(impl Threads + Sync),
+    alloc: Global,
+    wanted: bool,
+    heap: &Heap,
+    marks: &Marks,
+    forward: &Forward,
+) -> Result<Vec<u8>, Fault>
+    requires sized { length marks.now ≡ object_count heap.now }
+    requires one_each { length forward.now ≡ object_count heap.now }
+    ensures text { IfOk result (λ text. IsReachability heap.now marks.now
+        → ArePlacesOf heap.now marks.now forward.now
+        → wanted ≡ true
+        → IsReport heap.now marks.now text.items) }
+    ensures refused { IfErr result (λ fault. fault ≡ OutOfMemory) }
+{
+    if !wanted {
+        return Ok(Vec::new(alloc));
+    }
+    let rows = census(rt, alloc, heap, marks, forward)?;
+    print(alloc, &rows)
 }
 
 /// The sum of numbers.

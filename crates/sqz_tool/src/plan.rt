@@ -1,29 +1,43 @@
 //! How a run does its work.
 
+ghost use Rattle.std.specs.Prelude.{◌≡◌, ◌⊎◌, IfOk, IfErr};
+ghost use Rattle.sqz_image.specs.declared.fault.Fault.TheVariants.{BadWorkers, BadCut};
+ghost use Rattle.sqz_regions.specs.Regions.{Every};
+ghost use Rattle.sqz_tool.specs.Plans.{IsWorkers, IsRegion};
+
+use crate::arguments::Arguments;
+use sqz_image::Fault;
 use sqz_marks::Workers;
 use sqz_regions::Cut;
 
-/// How many workers the program's own plan has.
-const WORKERS: u32 = 4;
-
-/// How many data words a region of the program's own plan has.
-const REGION_WORDS: u32 = 65_536;
-
-/// How a run does its work. The answer is the same for every plan.
+/// How a run does its work, and whether it takes a census. The image that is written is the same for every plan, and
+/// so is the census.
 #[derive(Drop)]
 pub struct Plan {
     /// How many workers share the work.
     pub workers: Workers,
     /// Where the data words are cut into regions.
     pub cut: Cut,
+    /// Whether the census is wanted.
+    pub census: bool,
 }
 
 impl Plan {
-    /// The plan of the program.
-    pub(crate) fn of_program() -> Plan {
-        let (Ok(workers), Ok(cut)) = (Workers::new(WORKERS), Cut::every(REGION_WORDS)) else {
-            unreachable!();
-        };
-        Plan { workers, cut }
+    /// The plan that a command line asks for. Refused with `BadWorkers` unless the workers are from 1 to 64, else with
+    /// `BadCut` unless the words of a region are from 1 to 2^30.
+    pub(crate) fn of(arguments: &Arguments<'_>) -> Result<Plan, Fault>
+        ensures census { IfOk result (λ plan. plan.census ≡ arguments.now.census) }
+        ensures workers { IfOk result (λ plan. plan.workers ≡ arguments.now.workers) }
+        ensures cut { IfOk result (λ plan. plan.cut ≡ Every arguments.now.region_words) }
+        ensures taken { IfOk result (λ _. IsWorkers arguments.now.workers × IsRegion arguments.now.region_words) }
+        ensures refused { IfErr result (λ fault.
+            ((fault ≡ BadWorkers) × (IsWorkers arguments.now.workers → ⊥))
+            ⊎ ((fault ≡ BadCut) × IsWorkers arguments.now.workers × (IsRegion arguments.now.region_words → ⊥))) }
+    {
+        Ok(Plan {
+            workers: Workers::new(arguments.workers)?,
+            cut: Cut::every(arguments.region_words)?,
+            census: arguments.census,
+        })
     }
 }

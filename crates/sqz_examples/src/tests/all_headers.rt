@@ -1,8 +1,7 @@
 //! Images with headers of two and of three words, and what they are compacted to.
 
-use super::files::{assert_compacts, assert_file_compacts, file_of};
+use super::files::{assert_compacts, assert_file_compacts, file_of, numbers};
 use sqz_object::Order;
-use sqz_tool::Summary;
 use std::test::Fail;
 
 const BASE: u32 = 0x1000;
@@ -23,13 +22,7 @@ fn three_word_header(rt: HostRuntime) -> Result<(), Fail> {
     answer.extend_from_slice(&[0x320F, 0x1000, 0x100C])?;
     assert!(rt; words.len() < 1000 && answer.len() < 1000);
     let summary = assert_compacts(&rt, BASE, &words, 0x1118, &answer, 0x110C)?;
-    let wanted = Summary {
-        objects: 4,
-        kept: 3,
-        data_before: 292,
-        data_after: 280,
-    };
-    assert_eq!(rt; summary, wanted);
+    assert_eq!(rt; summary, numbers([4, 3], [292, 280]));
     Ok(())
 }
 
@@ -40,13 +33,7 @@ fn class_edge(rt: HostRuntime) -> Result<(), Fail> {
     ];
     let answer = [0x1007, 0x100B, 1, 0x1005, 0x109, 1, 0x320F, 0x1000, 0x1010];
     let summary = assert_compacts(&rt, BASE, &words, 0x1024, &answer, 0x1018)?;
-    let wanted = Summary {
-        objects: 5,
-        kept: 4,
-        data_before: 48,
-        data_after: 36,
-    };
-    assert_eq!(rt; summary, wanted);
+    assert_eq!(rt; summary, numbers([5, 4], [48, 36]));
     Ok(())
 }
 

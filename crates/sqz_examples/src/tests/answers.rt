@@ -1,8 +1,7 @@
 //! Images whose headers have one word each, and what they are compacted to.
 
-use super::files::{assert_compacts, assert_file_compacts, file_of};
+use super::files::{assert_compacts, assert_file_compacts, class_names_words, file_of, numbers};
 use sqz_object::Order;
-use sqz_tool::Summary;
 use std::test::Fail;
 
 const BASE: u32 = 0x1000;
@@ -11,13 +10,7 @@ const BASE: u32 = 0x1000;
 fn dead_array(rt: HostRuntime) -> Result<(), Fail> {
     let words = [0x1007, 0x320F, 1, 1, 0x320B, 0x1000];
     let summary = assert_compacts(&rt, BASE, &words, 0x1010, &[0x1007, 0x320B, 0x1000], 0x1004)?;
-    let wanted = Summary {
-        objects: 3,
-        kept: 2,
-        data_before: 24,
-        data_after: 12,
-    };
-    assert_eq!(rt; summary, wanted);
+    assert_eq!(rt; summary, numbers([3, 2], [24, 12]));
     Ok(())
 }
 
@@ -28,13 +21,7 @@ fn big_endian(rt: HostRuntime) -> Result<(), Fail> {
     let answer = [0x1007, 0x320B, 0x1000];
     let wanted = file_of(rt.alloc(), Order::Big, BASE, &answer, 0x1004)?;
     let summary = assert_file_compacts(&rt, file, &wanted)?;
-    let numbers = Summary {
-        objects: 3,
-        kept: 2,
-        data_before: 24,
-        data_after: 12,
-    };
-    assert_eq!(rt; summary, numbers);
+    assert_eq!(rt; summary, numbers([3, 2], [24, 12]));
     Ok(())
 }
 
@@ -45,13 +32,7 @@ fn bytes_after_data(rt: HostRuntime) -> Result<(), Fail> {
     let mut file = wanted.clone()?;
     file.extend_from_slice(&[1, 2, 3, 4, 5])?;
     let summary = assert_file_compacts(&rt, file, &wanted)?;
-    let numbers = Summary {
-        objects: 2,
-        kept: 2,
-        data_before: 12,
-        data_after: 12,
-    };
-    assert_eq!(rt; summary, numbers);
+    assert_eq!(rt; summary, numbers([2, 2], [12, 12]));
     Ok(())
 }
 
@@ -130,12 +111,7 @@ fn dead_bad_pointer(rt: HostRuntime) -> Result<(), Fail> {
 
 #[test]
 fn class_names(rt: HostRuntime) -> Result<(), Fail> {
-    let mut words = Vec::from_slice(rt.alloc(), &[0x1007, 0x1123])?;
-    words.extend_from_slice(&[1, 1, 1, 1, 1, 1, 0x1024])?;
-    words.extend_from_slice(&[0x2A0F, 0x656A_624F, 0x7463, 0x320B, 0x1004, 0x327B, 0x1000])?;
-    words.extend_from_slice(&[1; 27])?;
-    words.push(0x1030)?;
-    assert!(rt; words.len() < 1000);
+    let words = class_names_words(rt.alloc())?;
     let summary = assert_compacts(&rt, BASE, &words, 0x1038, &words, 0x1038)?;
     assert_eq!(rt; summary.data_after, 176);
     Ok(())

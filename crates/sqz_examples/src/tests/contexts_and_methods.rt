@@ -1,7 +1,6 @@
 //! Images with contexts, methods and weak objects, and what they are compacted to.
 
-use super::files::assert_compacts;
-use sqz_tool::Summary;
+use super::files::{assert_compacts, numbers};
 use std::test::Fail;
 
 const BASE: u32 = 0x1000;
@@ -23,13 +22,7 @@ fn context_stack(rt: HostRuntime) -> Result<(), Fail> {
         0x320F, 0x1000, 0x100C,
     ];
     let summary = assert_compacts(&rt, BASE, &words, 0x1048, &answer, 0x1038)?;
-    let wanted = Summary {
-        objects: 6,
-        kept: 4,
-        data_before: 84,
-        data_after: 68,
-    };
-    assert_eq!(rt; summary, wanted);
+    assert_eq!(rt; summary, numbers([6, 4], [84, 68]));
     Ok(())
 }
 
@@ -74,13 +67,7 @@ fn method_literals(rt: HostRuntime) -> Result<(), Fail> {
         0x1007, 0x100B, 1, 0x5C17, 0x801, 0x1004, 0x1000, 0x100C, 0x320F, 0x1000, 0x100C,
     ];
     let summary = assert_compacts(&rt, BASE, &words, 0x1028, &answer, 0x1020)?;
-    let wanted = Summary {
-        objects: 5,
-        kept: 4,
-        data_before: 52,
-        data_after: 44,
-    };
-    assert_eq!(rt; summary, wanted);
+    assert_eq!(rt; summary, numbers([5, 4], [52, 44]));
     Ok(())
 }
 
@@ -113,13 +100,7 @@ fn weak_fields(rt: HostRuntime) -> Result<(), Fail> {
         0x1007, 0x1113, 1, 1, 0x405, 0x100B, 1, 0x1005, 0x409, 0x1014, 0x320F, 0x1000, 0x1020,
     ];
     let summary = assert_compacts(&rt, BASE, &words, 0x1028, &words, 0x1028)?;
-    let wanted = Summary {
-        objects: 5,
-        kept: 5,
-        data_before: 52,
-        data_after: 52,
-    };
-    assert_eq!(rt; summary, wanted);
+    assert_eq!(rt; summary, numbers([5, 5], [52, 52]));
     Ok(())
 }
 

@@ -1,6 +1,6 @@
 //! Files of given data words, and a run over one.
 
-ghost use Rattle.std.specs.Prelude.{◌<◌, length};
+ghost use Rattle.std.specs.Prelude.{◌<◌, length, IfOk};
 
 use sqz_image::{Fault, Image, MemorySink, MemorySource, read_image};
 use sqz_marks::Workers;
@@ -19,6 +19,19 @@ use std::thread::Threads;
 pub const DEAD_CYCLE: [u32; 12] = [
     0x1007, 0x110B, 0x1014, 0x110B, 0x101C, 0x110B, 0x1004, 0x110B, 0x100C, 0x320F, 0x1000, 0x1004,
 ];
+
+/// The words of an image with a class, which is named `Object`, an array of compact classes with it, and the special
+/// objects array, which is at 0x1038 where the words begin at 0x1000.
+pub fn class_names_words(alloc: Global) -> Result<Vec<u32>, AllocError>
+    ensures { IfOk result (λ words. length words.items < 1000) }
+{
+    let mut words = Vec::from_slice(alloc, &[0x1007, 0x1123])?;
+    words.extend_from_slice(&[1, 1, 1, 1, 1, 1, 0x1024])?;
+    words.extend_from_slice(&[0x2A0F, 0x656A_624F, 0x7463, 0x320B, 0x1004, 0x327B, 0x1000])?;
+    words.extend_from_slice(&[1; 27])?;
+    words.push(0x1030)?;
+    Ok(words)
+}
 
 /// The bytes of a file with these data words.
 pub fn file_of(
@@ -44,18 +57,46 @@ pub fn file_of(
     Ok(file)
 }
 
-/// What a run over a file answers, and what it wrote.
+/// The numbers of a run: objects read and kept, and bytes of data before and after.
+pub fn numbers(objects: [u32; 2], data: [u32; 2]) -> Summary {
+    let [objects, kept] = objects;
+    let [data_before, data_after] = data;
+    Summary {
+        objects,
+        kept,
+        data_before,
+        data_after,
+    }
+}
+
+/// What a run over a file answers, and what it wrote: the image, and the text of its census.
 #[derive(Drop)]
 pub struct Outcome {
     pub answer: Result<Summary, Fault>,
     pub sink: MemorySink,
+    pub report: MemorySink,
 }
 
-/// A plan with two workers and a region every so many words.
+/// A plan with two workers and a region every so many words, without a census.
 pub fn plan_of(words: u32) -> Result<Plan, Fault> {
-    let workers = Workers::new(2)?;
-    let cut = Cut::every(words)?;
-    Ok(Plan { workers, cut })
+    Ok(Plan {
+        workers: Workers::new(2)?,
+        cut: Cut::every(words)?,
+        census: false,
+    })
+}
+
+/// A run between devices with regions of 64 Ki words and a census.
+pub fn run_between<R: Threads + Wait + Sync>(
+    rt: &R,
+    alloc: Global,
+    source: &mut MemorySource,
+    sink: &mut MemorySink,
+    report: &mut MemorySink,
+) -> Result<Summary, Fault> {
+    let mut plan = plan_of(65_536)?;
+    plan.census = true;
+    run(rt, alloc, &plan, source, sink, report, &OpenGate)
 }
 
 /// A run over a file by a plan, with room for all it may write.
@@ -67,8 +108,21 @@ pub fn run_by_plan<R: Threads + Wait + Sync>(
 ) -> Result<Outcome, Fail> {
     let mut source = MemorySource::new(file, 100, None);
     let mut sink = MemorySink::new(alloc, 4096, None)?;
-    let answer = run(rt, alloc, plan, &mut source, &mut sink, &OpenGate);
-    Ok(Outcome { answer, sink })
+    let mut report = MemorySink::new(alloc, 4096, None)?;
+    let answer = run(
+        rt,
+        alloc,
+        plan,
+        &mut source,
+        &mut sink,
+        &mut report,
+        &OpenGate,
+    );
+    Ok(Outcome {
+        answer,
+        sink,
+        report,
+    })
 }
 
 /// A run over a file with regions of 64 Ki words.
@@ -97,6 +151,7 @@ pub fn assert_file_compacts<R: Threads + Wait + Sync + Abort + AllocGlobal>(
     let outcome = run_over(rt, rt.alloc(), file)?;
     let summary = outcome.answer?;
     assert_eq!(rt; outcome.sink.contents(), wanted);
+    assert!(rt; outcome.report.contents().is_empty());
     Ok(summary)
 }
 
@@ -125,7 +180,7 @@ pub fn assert_refused<R: Threads + Wait + Sync + Abort + AllocGlobal>(
 ) -> Result<(), Fail> {
     let outcome = run_over(rt, rt.alloc(), file)?;
     assert_eq!(rt; outcome.answer, Err(fault));
-    assert!(rt; outcome.sink.contents().is_empty());
+    assert!(rt; outcome.sink.contents().is_empty() && outcome.report.contents().is_empty());
     Ok(())
 }
 

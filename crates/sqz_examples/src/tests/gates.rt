@@ -131,11 +131,21 @@ fn run_through<R: Threads + Wait + Sync + Abort + AllocGlobal, G: Gate>(
     let plan = Plan {
         workers: Workers::new(workers)?,
         cut,
+        census: false,
     };
     let file = file_of(rt.alloc(), Order::Little, 0x1000, &DEAD_CYCLE, 0x1024)?;
     let mut source = MemorySource::new(file, 100, None);
     let mut sink = MemorySink::new(rt.alloc(), 4096, None)?;
-    let summary = run(rt, rt.alloc(), &plan, &mut source, &mut sink, gate)?;
+    let mut report = MemorySink::new(rt.alloc(), 0, None)?;
+    let summary = run(
+        rt,
+        rt.alloc(),
+        &plan,
+        &mut source,
+        &mut sink,
+        &mut report,
+        gate,
+    )?;
     Ok(summary.kept)
 }
 

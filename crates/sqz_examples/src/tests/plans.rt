@@ -14,6 +14,11 @@ fn same_answer_for_each_plan(rt: HostRuntime) -> Result<(), Fail> {
         0x1007, 0x110B, 0x100C, 0x110B, 0x1004, 0x320F, 0x1000, 0x1004,
     ];
     let wanted = file_of(rt.alloc(), Order::Little, 0x1000, &answer, 0x1014)?;
+    let census = concat!(
+        "         3           20 -------- compact 1\n",
+        "         1           12 -------- compact 3\n",
+        "         4           32 total\n",
+    );
     let cuts = [
         Cut::every(1)?,
         Cut::every(65_536)?,
@@ -24,6 +29,7 @@ fn same_answer_for_each_plan(rt: HostRuntime) -> Result<(), Fail> {
         let mut plan = Plan {
             workers: Workers::new(1)?,
             cut,
+            census: true,
         };
         for number in [1, 2, 64] {
             plan.workers = Workers::new(number)?;
@@ -34,6 +40,11 @@ fn same_answer_for_each_plan(rt: HostRuntime) -> Result<(), Fail> {
             assert_eq!(rt;
                 outcome.sink.contents(),
                 wanted.as_slice(),
+                "with {number} workers"
+            );
+            assert_eq!(rt;
+                outcome.report.contents(),
+                census.as_bytes(),
                 "with {number} workers"
             );
         }

@@ -155,6 +155,39 @@ fn wants_two_paths(rt: HostRuntime) -> Result<(), Fail> {
 }
 
 #[test]
+fn refuses_numbers(rt: HostRuntime) -> Result<(), Fail> {
+    let workers = "fault 18: workers must be from 1 to 64\n";
+    let cut = "fault 19: region cut is not valid\n";
+    let some: [(&[&str], &str); 5] = [
+        (&["--workers", "0", "missing.image", "never.image"], workers),
+        (&["--workers", "65", "missing.image", "never.image"], workers),
+        (&["--region-words", "0", "missing.image", "never.image"], cut),
+        (&["--region-words", "1073741825", "missing.image", "never.image"], cut),
+        (&["--region-words", "0", "--workers", "0", "a", "b"], workers),
+    ];
+    for (words, line) in some {
+        assert_faults(&rt, words, 2, line)?;
+    }
+    Ok(())
+}
+
+#[test]
+fn prints_a_census(rt: HostRuntime) -> Result<(), Fail> {
+    make_image(&rt, "counted.image")?;
+    let words = ["--census", "--workers", "1", "--region-words=1", "counted.image", "kept.image"];
+    let ended = run_program(&rt, rt.alloc(), &words)?;
+    assert_eq!(rt; ended.exit, 0);
+    let text = concat!(
+        "         1            8 -------- compact 3\n",
+        "         1            4 -------- compact 1\n",
+        "         2           12 total\n",
+    );
+    assert_eq!(rt; ended.out.contents(), text.as_bytes());
+    assert!(rt; ended.err.contents().is_empty());
+    assert_compacted(&rt, "kept.image")
+}
+
+#[test]
 fn helps(rt: HostRuntime) -> Result<(), Fail> {
     let ended = run_program(&rt, rt.alloc(), &["--help"])?;
     assert_eq!(rt; ended.exit, 0);

@@ -1,7 +1,22 @@
-use Rattle.std.proofs.Common.{◌∙◌, ap, sym}
+use Rattle.std.proofs.Common.{◌≡◌, ◌∙◌, ap, rules, sym}
 use Rattle.std.specs.Prelude.{codes, option_map}
-use Rattle.sqz_tool.proofs.CommandLineLemmas.{first_is, none_refused}
+use Rattle.std.proofs.lemmas.Option.{same_Some}
+use Rattle.sqz_tool.proofs.CommandLineLemmas.{first_is, flag_read, none_refused, number_read, one_is}
 use Rattle.sqz_tool.proofs.arguments.read_arguments.Goals as goal
+
+pub unwrap-requires-3 : goal.unwrap-requires-3
+unwrap-requires-3 c =
+    let m = c.in_ok-matches.matches in
+    let given = c.in_ok-command.ensures.given m c.in_ok-matches.ensures.parsed in
+    let got = number_read m (codes "workers") c.get_one.result given.workers c.get_one.ensures.value in
+    rw got.1 (search rules)
+
+pub unwrap-requires-4 : goal.unwrap-requires-4
+unwrap-requires-4 c =
+    let m = c.in_ok-matches.matches in
+    let given = c.in_ok-command.ensures.given m c.in_ok-matches.ensures.parsed in
+    let got = number_read m (codes "region-words") c.get_one-2.result given.region_words c.get_one-2.ensures.value in
+    rw got.1 (search rules)
 
 pub returns-clause-input : goal.returns-clause-input
 returns-clause-input c =
@@ -13,5 +28,33 @@ returns-clause-output c =
     first_is c.in_ok-command.field-0 _ c.in_ok-matches.matches (codes "OUT") c.in_ok-command.ensures.shape c.in_ok-matches.ensures.matches
     ∙ (sym c.get_str-2.ensures ∙ ap (option_map (λ s. s.now)) c.unwrap-2.ensures)
 
+pub returns-clause-workers : goal.returns-clause-workers
+returns-clause-workers c =
+    let m = c.in_ok-matches.matches in
+    let given = c.in_ok-command.ensures.given m c.in_ok-matches.ensures.parsed in
+    let got = number_read m (codes "workers") c.get_one.result given.workers c.get_one.ensures.value in
+    let same : got.0 ≡ c.unwrap-3.result = same_Some _ _ (sym got.1 ∙ c.unwrap-3.ensures) in
+    let is = one_is c.in_ok-command.field-0 _ m (codes "workers") c.in_ok-command.ensures.shape c.in_ok-matches.ensures.matches in
+    (got.2.0, is ∙ got.2.1, got.2.2, got.2.3 ∙ same)
+
+pub returns-clause-region_words : goal.returns-clause-region_words
+returns-clause-region_words c =
+    let m = c.in_ok-matches.matches in
+    let given = c.in_ok-command.ensures.given m c.in_ok-matches.ensures.parsed in
+    let got = number_read m (codes "region-words") c.get_one-2.result given.region_words c.get_one-2.ensures.value in
+    let same : got.0 ≡ c.unwrap-4.result = same_Some _ _ (sym got.1 ∙ c.unwrap-4.ensures) in
+    let is = one_is c.in_ok-command.field-0 _ m (codes "region-words") c.in_ok-command.ensures.shape c.in_ok-matches.ensures.matches in
+    (got.2.0, is ∙ got.2.1, got.2.2, got.2.3 ∙ same)
+
+pub returns-clause-census : goal.returns-clause-census
+returns-clause-census c =
+    let m = c.in_ok-matches.matches in
+    let is = one_is c.in_ok-command.field-0 _ m (codes "census") c.in_ok-command.ensures.shape c.in_ok-matches.ensures.matches in
+    let given = c.in_ok-command.ensures.given m c.in_ok-matches.ensures.parsed in
+    let get = c.get_flag.ensures in
+    let read = flag_read m (codes "census") c.get_flag.result given.census get.none get.value get.other in
+    (λ set. is ∙ read.0 set, λ text. read.1 (sym is ∙ text))
+
 pub returns-clause-refused : goal.returns-clause-refused
-returns-clause-refused c = none_refused c.in_ok-command.field-0 _ c.in_ok-matches.matches c.in_ok-command.ensures.shape c.in_ok-matches.ensures.kinds
+returns-clause-refused c =
+    none_refused c.in_ok-command.field-0 _ c.in_ok-matches.matches c.in_ok-command.ensures.shape c.in_ok-matches.ensures.kinds

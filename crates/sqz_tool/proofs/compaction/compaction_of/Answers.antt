@@ -45,6 +45,7 @@ returns-clause-compaction g c =
     let kept = c.count.ensures ∙ sym (length-live image.memory marks reachable.reached.sized) in
     let le = live_words-le-words image.memory marks reachable.reached.sized in
     let live = (rw c.deref-3.ensures.value at c.total.ensures) ∙ whole in
+    let report = rw is at (c.in_ok-census.ensures.text c.in_ok-marks.ensures.reachable c.in_ok-forward.ensures.places) in
     record {
       marks = marks;
       reachable = reachable;
@@ -53,4 +54,5 @@ returns-clause-compaction g c =
           (same_Some _ _ (sym c.unwrap-special.ensures ∙ c.place.ensures.place ∙ special));
       few = few_words image marks c.in_ok-pieces.pieces c.requires words (omega (arith, le, rw is at c.len.ensures.few_words));
       counted = same_summary (c.len.ensures.objects ∙ ap object_count is) kept c.header.ensures (ap (λ (n : ℕ). 4 * n) live);
+      reported = report;
     }
