@@ -4,12 +4,13 @@
 Usage: bench/passes.py [--census] [--runs N] [MIB ...]
 
 The images are those of bench/compare.py, and the parts of the table too. With `--census` the program
-prints a census, and the table has the parts for it. A line has the medians of
-three runs over one image, or of as many as `--runs` says. The time of a pass is that on the clock from
-its first sample to its last, so it is not summed over threads, and what else the machine does is in
-it. `rest` is what lies between the passes: the start of the process, the freeing of memory, copying at
-the end of a pass. `all` is from the first sample to the last. `-` stands for a pass that was not seen
-in most of the runs, as most are not in an image of a MiB; its time is in the rest. No time is asserted.
+prints a census, and the table has the two parts more that are for it; the pass `write` then writes both.
+A line has the medians of three runs over one image, or of as many as `--runs` says. The time of a pass
+is that on the clock from its first sample to its last, so it is not summed over threads, and what else
+the machine does is in it. `rest` is what lies between the passes: the start of the process, the freeing
+of memory, copying at the end of a pass. `all` is from the first sample to the last. `-` stands for a
+pass that was not seen in most of the runs, as most are not in an image of a MiB; its time is in the
+rest. No time is asserted.
 
 The samples are those of `perf`, 8000 a second of each thread that runs, which makes the runs a little
 longer. They name functions, so the program must have its symbols. Where a pass has functions of its
@@ -82,11 +83,11 @@ def run(command, **options):
 
 
 def record(program, image, folder):
-    """What `perf` tells of the samples of a run of the program, with its options, over the image, as text."""
+    """What `perf` tells of the samples of a run over the image, by a program and its options, as text."""
     answer, data = (os.path.join(folder, name) for name in ("answer", "samples"))
     sampling = ["-e", "cpu-clock", "-F", str(FREQUENCY), "-g", "--user-callchains"]
-    run(["perf", "record", "-q", "-N", "-o", data, *sampling, "--", *program, image, answer],
-        stdout=subprocess.DEVNULL)
+    command = [*program, image, answer]
+    run(["perf", "record", "-q", "-N", "-o", data, *sampling, "--", *command], stdout=subprocess.DEVNULL)
     fields = ["--ns", "-F", "time,ip,sym,symoff,dso"]
     told = run(["perf", "script", "-i", data, *fields], stdout=subprocess.PIPE)
     os.remove(answer)

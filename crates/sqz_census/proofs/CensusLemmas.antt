@@ -15,7 +15,8 @@ use Rattle.sqz_regions.proofs.PlaceLemmas.{live_words_more_yes, live_words_more_
 use Rattle.sqz_census.specs.declared.entries.Entry.{Entry}
 use Rattle.sqz_census.specs.declared.tallies.Tally.{Tally}
 use Rattle.sqz_census.specs.declared.shares.Share.{Share}
-use Rattle.sqz_census.specs.Census.{Group, Class, Compact, members, is_lower, ComesBefore, CensusRow, row_with, row_of, IsCensus}
+use Rattle.sqz_census.specs.Census.{Group, Class, Compact, members, is_lower, ComesBefore, CensusRow, row_with}
+use Rattle.sqz_census.specs.Census.{row_of, IsCensus}
 use Rattle.sqz_census.specs.Names.{class_name}
 use Rattle.sqz_census.specs.Keys.{key_of, group_with, key_count, AreEntries}
 use Rattle.sqz_census.specs.Tallies.{no_tally, tally_in, AreTallies}

@@ -1,5 +1,6 @@
 -- What the holes of a format write.
-use Rattle.std.proofs.Common.{◌≡◌, ℕ, zero, suc, ◌-◌, ◌^◌, false, List, [], ◌∷◌, ◌++◌, length, replicate, refl, ap, arith, append-nil, append_assoc, codes}
+use Rattle.std.proofs.Common.{◌≡◌, ℕ, zero, suc, ◌-◌, ◌^◌, false, List, [], ◌∷◌, ◌++◌, length, replicate, refl, ap}
+use Rattle.std.proofs.Common.{arith, append-nil, append_assoc, codes}
 use Rattle.std.specs.Fmt.{padded_integral, format_spec, char_count, decimal}
 use Rattle.std.specs.List.{repeat}
 use Rattle.std.specs.Char.{encode_utf8}

@@ -1,5 +1,6 @@
 -- The census: how many live objects each class has, and how many bytes these take.
-use Rattle.std.specs.Prelude.{◌≡◌, ◌↔◌, ◌⊎◌, ℕ, ◌*◌, ◌<◌, ◌==◌, nat_lt, Bool, true, false, List, ◌++◌, map, length, filter, slice_index_or, codes, decimal, Option, Some, None}
+use Rattle.std.specs.Prelude.{◌≡◌, ◌↔◌, ◌⊎◌, ℕ, ◌*◌, ◌<◌, ◌==◌, nat_lt, Bool, true, false, List, ◌++◌, map, length}
+use Rattle.std.specs.Prelude.{filter, slice_index_or, codes, decimal, Option, Some, None}
 use Rattle.std.specs.List.{Contains}
 use Rattle.sqz_object.specs.Chunk.{compact_index}
 use Rattle.sqz_image.specs.Objects.{Memory, Object}

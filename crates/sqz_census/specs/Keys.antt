@@ -1,5 +1,6 @@
 -- Groups as numbers, by which the code counts: the index of a class, and behind all objects the compact indexes.
-use Rattle.std.specs.Prelude.{◌≡◌, ℕ, ◌+◌, ◌-◌, ◌<◌, nat_lt, Bool, true, false, if◌then◌else◌, List, length, slice_index_or, Option, None}
+use Rattle.std.specs.Prelude.{◌≡◌, ℕ, ◌+◌, ◌-◌, ◌<◌, nat_lt, Bool, true, false, if◌then◌else◌, List, length}
+use Rattle.std.specs.Prelude.{slice_index_or, Option, None}
 use Rattle.sqz_object.specs.Chunk.{before}
 use Rattle.sqz_image.specs.Objects.{Memory, object_count, chunk_words}
 use Rattle.sqz_trace.specs.Graph.{is_marked}

@@ -1,5 +1,6 @@
 -- The names of classes, as they are printed.
-use Rattle.std.specs.Prelude.{ℕ, ◌-◌, ◌*◌, nat_lt, nat_le, Bool, ◌&&◌, if◌then◌else◌, List, ◌++◌, length, map, take, codes, Option, Some, None, option_and_then}
+use Rattle.std.specs.Prelude.{ℕ, ◌-◌, ◌*◌, nat_lt, nat_le, Bool, ◌&&◌, if◌then◌else◌, List, ◌++◌, length, map}
+use Rattle.std.specs.Prelude.{take, codes, Option, Some, None, option_and_then}
 use Rattle.sqz_object.specs.declared.order.Order.{Order}
 use Rattle.sqz_object.specs.Bytes.{spelling_of}
 use Rattle.sqz_object.specs.Chunk.{format, fields}

@@ -11,7 +11,7 @@ use sqz_trace::{class_address, named_by, target};
 use std::alloc::{AllocError, Global};
 
 /// How many compact indexes there are.
-const COMPACT_INDEXES: u32 = 32;
+pub(crate) const COMPACT_INDEXES: u32 = 32;
 
 /// The field of the special objects array that names the array of compact classes.
 const COMPACT_CLASSES: u32 = 28;
@@ -40,7 +40,8 @@ fn compact_class(heap: &Heap, array: Option<u32>, index: u32) -> Option<u32>
     target(heap, array?, Slot::Field(index - 1))
 }
 
-/// The class of an object, by the classes of compact indexes. Where it has a class word, its compact index leads to none.
+/// The class of an object, by the classes of compact indexes. Where it has a class word, its compact index leads to
+/// none.
 pub(crate) fn class_of(heap: &Heap, classes: &[Option<u32>], object: &Object<'_>) -> Option<u32>
     requires { AreCompactClasses heap.now classes.now }
     ensures { result ≡ class_of heap.now object.now }

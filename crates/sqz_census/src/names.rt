@@ -1,6 +1,7 @@
 //! The names of classes, as they are printed.
 
-ghost use Rattle.std.specs.Prelude.{◌≡◌, ◌++◌, ◌<◌, ◌*◌, ◌≤◌, codes, decimal, length, map, take, IfOk, option_and_then, option_map};
+ghost use Rattle.std.specs.Prelude.{◌≡◌, ◌++◌, ◌<◌, ◌*◌, ◌≤◌, codes, decimal, length, map, take};
+ghost use Rattle.std.specs.Prelude.{IfOk, option_and_then, option_map};
 ghost use Rattle.sqz_object.specs.Bytes.{spelling_of};
 ghost use Rattle.sqz_image.specs.declared.fault.Slot.TheVariants.{Field};
 ghost use Rattle.sqz_image.specs.Objects.{object_count};
@@ -18,9 +19,10 @@ const NAME: u32 = 6;
 /// The field of a metaclass that names its one instance.
 const INSTANCE: u32 = 5;
 
-/// How many bytes of a name are printed at most, and how many words these are.
+/// How many bytes of a name are printed at most.
 const MOST_BYTES: usize = 40;
 
+/// How many words have these bytes.
 const MOST_WORDS: usize = 10;
 
 /// The name of a class: its own, or that of its one instance followed by ` class`, or a question mark.
@@ -105,7 +107,7 @@ fn first_bytes(
 fn spelled(alloc: Global, order: Order, words: &[u32]) -> Result<Vec<u8>, AllocError>
     ensures { IfOk result (λ bytes. bytes.items ≡ spelling_of order words.now) }
 {
-    let mut bytes = Vec::new(alloc);
+    let mut bytes = Vec::with_capacity(alloc, MOST_BYTES)?;
     for word in words {
         bytes.extend_from_slice(&put_word(order, *word))?;
     }
@@ -116,7 +118,11 @@ fn spelled(alloc: Global, order: Order, words: &[u32]) -> Result<Vec<u8>, AllocE
 fn shown_bytes(alloc: Global, bytes: &[u8]) -> Result<Vec<u8>, AllocError>
     ensures { IfOk result (λ text. text.items ≡ map shown_byte bytes.now) }
 {
-    bytes.iter().map(|byte| shown_byte(*byte)).collect(alloc)
+    let mut text = Vec::with_capacity(alloc, bytes.len())?;
+    for byte in bytes {
+        text.push(shown_byte(*byte))?;
+    }
+    Ok(text)
 }
 
 /// A byte as it is printed: a question mark stands for one that is no printable ASCII character.

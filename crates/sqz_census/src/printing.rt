@@ -9,14 +9,17 @@ use crate::row::Row;
 use sqz_image::Fault;
 use std::alloc::{AllocError, Global};
 
-/// The text of a census: a line for each row, with the number of its objects right-aligned in 10 places, that of its bytes in 12, the
-/// new address of the class as eight lower case hexadecimal digits or dashes, and the name; and a last line with the sums.
-/// A number that needs more places takes them. Fails for want of memory alone.
+/// How many bytes a line has mostly.
+const LINE: usize = 56;
+
+/// The text of a census: a line for each row, with the number of its objects right-aligned in 10 places, that of its
+/// bytes in 12, the new address of the class as eight lower case hexadecimal digits or dashes, and the name; and a last
+/// line with the sums. A number that needs more places takes them. Fails for want of memory alone.
 pub fn print(alloc: Global, rows: &[Row]) -> Result<Vec<u8>, Fault>
     ensures text { IfOk result (λ text. text.items ≡ census_text (map shown rows.now)) }
     ensures refused { IfErr result (λ fault. fault ≡ OutOfMemory) }
 {
-    let mut text = Vec::new(alloc);
+    let mut text = Vec::with_capacity(alloc, rows.len().saturating_mul(LINE))?;
     for row in rows {
         add_row(alloc, &mut text, row)?;
     }

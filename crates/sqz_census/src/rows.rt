@@ -23,10 +23,10 @@ use sqz_trace::Marks;
 use std::alloc::{AllocError, Global};
 use std::thread::Threads;
 
-/// The rows of the census of the marked objects, where these are the reachable ones and the places are theirs: one for each
-/// class that has such an object, and one for each compact index of such objects without a class. Those with more bytes
-/// come first; of the others those of classes, by their new addresses, and then those of compact indexes. Made in several
-/// threads. Fails for want of memory alone.
+/// The rows of the census of the marked objects, where these are the reachable ones and the places are theirs: one for
+/// each class that has such an object, and one for each compact index of such objects without a class. Those with more
+/// bytes come first; of the others those of classes, by their new addresses, and then those of compact indexes. Made in
+/// several threads. Fails for want of memory alone.
 pub fn census(
     rt: &(impl Threads + Sync),
     alloc: Global,

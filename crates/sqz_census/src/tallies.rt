@@ -5,13 +5,11 @@ ghost use Rattle.sqz_image.specs.Objects.{object_count};
 ghost use Rattle.sqz_census.specs.Keys.{AreEntries};
 ghost use Rattle.sqz_census.specs.Tallies.{AreTallies, FitWords};
 
+use crate::classes::COMPACT_INDEXES;
 use crate::entries::{DEAD, Entry};
 use sqz_image::Heap;
 use sqz_trace::Marks;
 use std::alloc::{AllocError, Global};
-
-/// How many compact indexes there are.
-const COMPACT_INDEXES: usize = 32;
 
 /// How many live objects a group has, and how many words these have together.
 #[derive(Clone, Copy)]
@@ -33,7 +31,7 @@ pub(crate) fn tallies_of(
     ensures fit { IfOk result (λ tallies. FitWords tallies.items) }
 {
     let none = Tally { count: 0, words: 0 };
-    let mut tallies = vec![in alloc; none; heap.len() as usize + COMPACT_INDEXES]?;
+    let mut tallies = vec![in alloc; none; (heap.len() + COMPACT_INDEXES) as usize]?;
     for entry in entries {
         if entry.key != DEAD {
             let tally = &mut tallies[entry.key as usize];

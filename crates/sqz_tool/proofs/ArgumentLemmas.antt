@@ -1,5 +1,6 @@
 -- What a parse reads of an argument that has a parser, in a command that excludes nothing.
-use Rattle.std.proofs.Common.{◌≡◌, ◌∙◌, ◌++◌, ◌||◌, ◌<◌, ◌≤◌, ℕ, zero, suc, Bool, true, false, List, [], ◌∷◌, length, Option, Some, None, is_some, refl, sym, ap, subst, inl, inr, arith}
+use Rattle.std.proofs.Common.{◌≡◌, ◌∙◌, ◌++◌, ◌||◌, ◌<◌, ◌≤◌, ℕ, zero, suc, Bool, true, false, List, [], ◌∷◌}
+use Rattle.std.proofs.Common.{length, Option, Some, None, is_some, refl, sym, ap, subst, inl, inr, arith}
 use Rattle.std.specs.Prelude.{find, map, option_map, slice_get}
 use Rattle.std.specs.List.{All, slice_index_or}
 use Rattle.std.specs.Str.{bytes_eq}
@@ -8,7 +9,9 @@ use Rattle.std.proofs.lemmas.List.{append-nil, append_assoc, get_or-map, length-
 use Rattle.std.proofs.lemmas.List.Elements.{All-get_or, All-nil}
 use Rattle.std.proofs.lemmas.Option.{same_Some}
 use Rattle.std.proofs.lemmas.Slice.Eq.{bytes_eq-Decides}
-use Rattle.clap.specs.Words.{Accepts, AddsArg, AddsInTurn, IsParsed, IsParsedFrom, IsPlain, IsPlainArg, SameRules, Text, args_of, found_of, groups_of, has_subcommand, matched_of, one_text, parser_of, read_as, reading_of}
+use Rattle.clap.specs.Words.{Accepts, AddsArg, AddsInTurn, IsParsed, IsParsedFrom, IsPlain, IsPlainArg, SameRules}
+use Rattle.clap.specs.Words.{Text, args_of, found_of, groups_of, has_subcommand, matched_of, one_text, parser_of}
+use Rattle.clap.specs.Words.{read_as, reading_of}
 use Rattle.clap.specs.Built.{FitsChain, HasDistinctIds, IsAuto, KeepsList}
 use Rattle.clap.specs.Facts.{Entry, EntryPasses, HasIn, HasReading, PassesArg, WantsDefault, least_values, parser_of_value}
 use Rattle.clap.specs.declared.builder.action.ArgAction.TheVariants.{Count, Set}

@@ -1,12 +1,17 @@
 -- What holds of the program's command, and of what a parse of it gives.
-use Rattle.std.proofs.Common.{◌≡◌, ◌⊎◌, ◌<◌, ◌∙◌, ℕ, ap, refl, sym, arith, inl, inr, zero, suc, Bool, true, false, ◌==◌, ◌&&◌, ◌||◌, not, length, Option, Some, None, IsTrue, ◌↔◌, ap₂, subst, List, [], ◌∷◌, slice_index, slice_index_or, codes, is_some}
+use Rattle.std.proofs.Common.{◌≡◌, ◌⊎◌, ◌<◌, ◌∙◌, ℕ, ap, refl, sym, arith, inl, inr, zero, suc, Bool, true, false}
+use Rattle.std.proofs.Common.{◌==◌, ◌&&◌, ◌||◌, not, length, Option, Some, None, IsTrue, ◌↔◌, ap₂, subst, List, []}
+use Rattle.std.proofs.Common.{◌∷◌, slice_index, slice_index_or, codes, is_some}
 use Rattle.std.specs.List.{All, position_or_len}
 use Rattle.std.specs.Prelude.{Result}
 use Rattle.std.specs.Str.{bytes_eq}
-use Rattle.std.specs.Str.Parse.{ExplainsUnsignedError, HasUnsignedDigitsIfOk, IsNumeral, ParsesUnsigned, digits_value, without_leading_plus}
+use Rattle.std.specs.Str.Parse.{ExplainsUnsignedError, HasUnsignedDigitsIfOk, IsNumeral, ParsesUnsigned}
+use Rattle.std.specs.Str.Parse.{digits_value, without_leading_plus}
 use Rattle.std.specs.declared.num.ParseIntError.{ParseIntError}
 use Rattle.std.proofs.lemmas.Slice.Eq.{bytes_eq-Decides}
-use Rattle.clap.specs.Words.{AddsArg, App, HasMatchesOf, IsParsedFrom, Text, app_of, args_of, fault_of, first_of, first_value, found_of, groups_of, is_simple, is_simple_and_free, matches_of, ReadsOne, new_app, one_of, one_text, with_rule, without_minus, IsPlainArg}
+use Rattle.clap.specs.Words.{AddsArg, App, HasMatchesOf, IsParsedFrom, Text, app_of, args_of, fault_of, first_of}
+use Rattle.clap.specs.Words.{first_value, found_of, groups_of, is_simple, is_simple_and_free, matches_of, ReadsOne}
+use Rattle.clap.specs.Words.{new_app, one_of, one_text, with_rule, without_minus, IsPlainArg}
 use Rattle.clap.specs.Built.{AddsInTurn, FitsChain, HasDistinctIds}
 use Rattle.clap.specs.declared.builder.arg.Arg.{Arg}
 use Rattle.clap.specs.declared.builder.command.Command.{Command}

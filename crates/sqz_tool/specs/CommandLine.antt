@@ -1,7 +1,8 @@
 -- The command line.
 use Rattle.std.specs.Prelude.{◌≡◌, ◌⊎◌, ◌≤◌, ℕ, List, [], ◌∷◌, Some, None, is_some, pos, true, false, codes}
 use Rattle.std.specs.Str.Parse.{IsNumeral, digits_value, without_leading_plus}
-use Rattle.clap.specs.Words.{App, IsPlainArg, IsSignedIn, Row, Rule, Text, first_value, found_of, one_of, one_text, new_app, new_rule, rule_of, with_rule, without_minus}
+use Rattle.clap.specs.Words.{App, IsPlainArg, IsSignedIn, Row, Rule, Text, first_value, found_of, one_of, one_text}
+use Rattle.clap.specs.Words.{new_app, new_rule, rule_of, with_rule, without_minus}
 use Rattle.clap.specs.Built.{TakesValue}
 use Rattle.clap.specs.Facts.{WantsDefault, least_values}
 use Rattle.clap.specs.declared.builder.action.ArgAction.TheVariants.{Set, SetTrue}

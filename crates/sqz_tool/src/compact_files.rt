@@ -34,7 +34,8 @@ pub(crate) fn compact<T: Files + Threads + Wait + Sync, C: Sink>(
 ) -> Result<Summary, Fault>
     ensures planned { IfOk result (λ _. IsWorkers arguments.now.workers × IsRegion arguments.now.region_words) }
     ensures workers { IfErr result (λ fault. (fault ≡ BadWorkers) ↔ (IsWorkers arguments.now.workers → ⊥)) }
-    ensures cut { IfErr result (λ fault. (fault ≡ BadCut) ↔ (IsWorkers arguments.now.workers × (IsRegion arguments.now.region_words → ⊥))) }
+    ensures cut { IfErr result (λ fault. (fault ≡ BadCut)
+        ↔ (IsWorkers arguments.now.workers × (IsRegion arguments.now.region_words → ⊥))) }
     ensures unused { arguments.now.census ≡ false → C.state out.new ≡ C.state out.old }
     ensures quiet { IfErr result (λ fault. fault ≢ WriteFailed → C.state out.new ≡ C.state out.old) }
 {

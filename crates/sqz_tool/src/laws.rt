@@ -9,13 +9,15 @@ ghost use Rattle.sqz_tool.specs.Verdict.{IsAccepted, IsRefused};
 
 /// A file is accepted with one image and one set of live objects at most, so it has one compaction.
 pub fn one_answer()
-    ensures { (file : List ℕ) (one other : SavedImage) (marks flags : List Bool) → IsAccepted file one marks → IsAccepted file other flags → (one ≡ other) × (marks ≡ flags) }
+    ensures { (file : List ℕ) (one other : SavedImage) (marks flags : List Bool)
+        → IsAccepted file one marks → IsAccepted file other flags → (one ≡ other) × (marks ≡ flags) }
 {}
 
 /// A file has one refusal at most, and none where it is accepted.
 pub fn one_refusal()
     ensures one { (file : List ℕ) (one other : Fault) → IsRefused file one → IsRefused file other → one ≡ other }
-    ensures not_accepted { (file : List ℕ) (fault : Fault) (image : SavedImage) (marks : List Bool) → IsRefused file fault → IsAccepted file image marks → ⊥ }
+    ensures not_accepted { (file : List ℕ) (fault : Fault) (image : SavedImage) (marks : List Bool)
+        → IsRefused file fault → IsAccepted file image marks → ⊥ }
 {}
 
 /// What is read for the options of two command lines, one with two paths alone, and one with each option before them.

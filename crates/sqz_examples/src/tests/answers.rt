@@ -1,6 +1,6 @@
 //! Images whose headers have one word each, and what they are compacted to.
 
-use super::files::{assert_compacts, assert_file_compacts, class_names_words, file_of, numbers};
+use super::files::{NAME, assert_compacts, assert_file_compacts, class_words, file_of, numbers};
 use sqz_object::Order;
 use std::test::Fail;
 
@@ -111,7 +111,7 @@ fn dead_bad_pointer(rt: HostRuntime) -> Result<(), Fail> {
 
 #[test]
 fn class_names(rt: HostRuntime) -> Result<(), Fail> {
-    let words = class_names_words(rt.alloc())?;
+    let words = class_words(rt.alloc(), NAME)?;
     let summary = assert_compacts(&rt, BASE, &words, 0x1038, &words, 0x1038)?;
     assert_eq!(rt; summary.data_after, 176);
     Ok(())

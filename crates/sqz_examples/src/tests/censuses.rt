@@ -1,6 +1,6 @@
 //! Censuses of small images, and of one image by several plans.
 
-use super::files::{class_names_words, file_of, plan_of, run_by_plan};
+use super::files::{NAME, class_words, file_of, plan_of, run_by_plan};
 use sqz_object::Order;
 use std::process::Abort;
 use std::sync::Wait;
@@ -35,7 +35,7 @@ fn objects_without_a_class(rt: HostRuntime) -> Result<(), Fail> {
 
 #[test]
 fn class_with_a_name(rt: HostRuntime) -> Result<(), Fail> {
-    let words = class_names_words(rt.alloc())?;
+    let words = class_words(rt.alloc(), NAME)?;
     let file = file_of(rt.alloc(), Order::Little, 0x1000, &words, 0x1038)?;
     let text = concat!(
         "         2          128 -------- compact 3\n",
@@ -48,7 +48,7 @@ fn class_with_a_name(rt: HostRuntime) -> Result<(), Fail> {
 
 #[test]
 fn name_in_the_order_of_the_file(rt: HostRuntime) -> Result<(), Fail> {
-    let words = class_names_words(rt.alloc())?;
+    let words = class_words(rt.alloc(), NAME)?;
     let file = file_of(rt.alloc(), Order::Big, 0x1000, &words, 0x1038)?;
     let text = concat!(
         "         2          128 -------- compact 3\n",
@@ -61,8 +61,7 @@ fn name_in_the_order_of_the_file(rt: HostRuntime) -> Result<(), Fail> {
 
 #[test]
 fn class_without_a_name(rt: HostRuntime) -> Result<(), Fail> {
-    let mut words = class_names_words(rt.alloc())?;
-    words[8] = 1;
+    let words = class_words(rt.alloc(), 1)?;
     let file = file_of(rt.alloc(), Order::Little, 0x1000, &words, 0x1038)?;
     let text = concat!(
         "         2          128 -------- compact 3\n",

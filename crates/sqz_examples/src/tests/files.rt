@@ -20,13 +20,16 @@ pub const DEAD_CYCLE: [u32; 12] = [
     0x1007, 0x110B, 0x1014, 0x110B, 0x101C, 0x110B, 0x1004, 0x110B, 0x100C, 0x320F, 0x1000, 0x1004,
 ];
 
-/// The words of an image with a class, which is named `Object`, an array of compact classes with it, and the special
-/// objects array, which is at 0x1038 where the words begin at 0x1000.
-pub fn class_names_words(alloc: Global) -> Result<Vec<u32>, AllocError>
+/// Where the image with a class has the class's name.
+pub const NAME: u32 = 0x1024;
+
+/// The words of an image with a class, whose last field is given, the bytes `Object`, an array of compact classes with the
+/// class, and the special objects array, which is at 0x1038 where the words begin at 0x1000.
+pub fn class_words(alloc: Global, name: u32) -> Result<Vec<u32>, AllocError>
     ensures { IfOk result (λ words. length words.items < 1000) }
 {
     let mut words = Vec::from_slice(alloc, &[0x1007, 0x1123])?;
-    words.extend_from_slice(&[1, 1, 1, 1, 1, 1, 0x1024])?;
+    words.extend_from_slice(&[1, 1, 1, 1, 1, 1, name])?;
     words.extend_from_slice(&[0x2A0F, 0x656A_624F, 0x7463, 0x320B, 0x1004, 0x327B, 0x1000])?;
     words.extend_from_slice(&[1; 27])?;
     words.push(0x1030)?;
