@@ -75,7 +75,11 @@ fn census_is_not_written(rt: HostRuntime) -> Result<(), Fail> {
         assert_eq!(rt; sink.contents(), wanted.as_slice(), "with room for {room}");
         let count = report.contents().len();
         assert_eq!(rt; count, if fail.is_none() { 10 } else { 0 });
-        assert_eq!(rt; report.contents(), &b"         1"[..count], "with room for {room}");
+        assert_eq!(rt;
+            report.contents(),
+            &b"         1"[..count],
+            "with room for {room}"
+        );
     }
     Ok(())
 }

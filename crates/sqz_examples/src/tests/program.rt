@@ -160,10 +160,27 @@ fn refuses_numbers(rt: HostRuntime) -> Result<(), Fail> {
     let cut = "fault 19: region cut is not valid\n";
     let some: [(&[&str], &str); 5] = [
         (&["--workers", "0", "missing.image", "never.image"], workers),
-        (&["--workers", "65", "missing.image", "never.image"], workers),
-        (&["--region-words", "0", "missing.image", "never.image"], cut),
-        (&["--region-words", "1073741825", "missing.image", "never.image"], cut),
-        (&["--region-words", "0", "--workers", "0", "a", "b"], workers),
+        (
+            &["--workers", "65", "missing.image", "never.image"],
+            workers,
+        ),
+        (
+            &["--region-words", "0", "missing.image", "never.image"],
+            cut,
+        ),
+        (
+            &[
+                "--region-words",
+                "1073741825",
+                "missing.image",
+                "never.image",
+            ],
+            cut,
+        ),
+        (
+            &["--region-words", "0", "--workers", "0", "a", "b"],
+            workers,
+        ),
     ];
     for (words, line) in some {
         assert_faults(&rt, words, 2, line)?;
@@ -174,7 +191,14 @@ fn refuses_numbers(rt: HostRuntime) -> Result<(), Fail> {
 #[test]
 fn prints_a_census(rt: HostRuntime) -> Result<(), Fail> {
     make_image(&rt, "counted.image")?;
-    let words = ["--census", "--workers", "1", "--region-words=1", "counted.image", "kept.image"];
+    let words = [
+        "--census",
+        "--workers",
+        "1",
+        "--region-words=1",
+        "counted.image",
+        "kept.image",
+    ];
     let ended = run_program(&rt, rt.alloc(), &words)?;
     assert_eq!(rt; ended.exit, 0);
     let text = concat!(
