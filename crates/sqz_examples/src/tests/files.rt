@@ -16,16 +16,16 @@ use std::thread::Threads;
 
 /// The words of an image in which two dead objects name each other, and two live ones do so. Its special objects array
 /// is at 0x1024 where the words begin at 0x1000.
-pub const DEAD_CYCLE: [u32; 12] = [
+pub(crate) const DEAD_CYCLE: [u32; 12] = [
     0x1007, 0x110B, 0x1014, 0x110B, 0x101C, 0x110B, 0x1004, 0x110B, 0x100C, 0x320F, 0x1000, 0x1004,
 ];
 
 /// Where the image with a class has the class's name.
-pub const NAME: u32 = 0x1024;
+pub(crate) const NAME: u32 = 0x1024;
 
 /// The words of an image with a class, whose last field is given, the bytes `Object`, an array of compact classes with the
 /// class, and the special objects array, which is at 0x1038 where the words begin at 0x1000.
-pub fn class_words(alloc: Global, name: u32) -> Result<Vec<u32>, AllocError>
+pub(crate) fn class_words(alloc: Global, name: u32) -> Result<Vec<u32>, AllocError>
     ensures { IfOk result (λ words. length words.items < 1000) }
 {
     let mut words = Vec::from_slice(alloc, &[0x1007, 0x1123])?;
@@ -37,7 +37,7 @@ pub fn class_words(alloc: Global, name: u32) -> Result<Vec<u32>, AllocError>
 }
 
 /// The bytes of a file with these data words.
-pub fn file_of(
+pub(crate) fn file_of(
     alloc: Global,
     order: Order,
     base: u32,
@@ -61,7 +61,7 @@ pub fn file_of(
 }
 
 /// The numbers of a run: objects read and kept, and bytes of data before and after.
-pub fn numbers(objects: [u32; 2], data: [u32; 2]) -> Summary {
+pub(crate) fn numbers(objects: [u32; 2], data: [u32; 2]) -> Summary {
     let [objects, kept] = objects;
     let [data_before, data_after] = data;
     Summary {
@@ -74,14 +74,14 @@ pub fn numbers(objects: [u32; 2], data: [u32; 2]) -> Summary {
 
 /// What a run over a file answers, and what it wrote: the image, and the text of its census.
 #[derive(Drop)]
-pub struct Outcome {
+pub(crate) struct Outcome {
     pub answer: Result<Summary, Fault>,
     pub sink: MemorySink,
     pub report: MemorySink,
 }
 
 /// A plan with two workers and a region every so many words, without a census.
-pub fn plan_of(words: u32) -> Result<Plan, Fault> {
+pub(crate) fn plan_of(words: u32) -> Result<Plan, Fault> {
     Ok(Plan {
         workers: Workers::new(2)?,
         cut: Cut::every(words)?,
@@ -90,7 +90,7 @@ pub fn plan_of(words: u32) -> Result<Plan, Fault> {
 }
 
 /// A run between devices with regions of 64 Ki words and a census.
-pub fn run_between<R: Threads + Wait + Sync>(
+pub(crate) fn run_between<R: Threads + Wait + Sync>(
     rt: &R,
     alloc: Global,
     source: &mut MemorySource,
@@ -103,7 +103,7 @@ pub fn run_between<R: Threads + Wait + Sync>(
 }
 
 /// A run over a file by a plan, with room for all it may write.
-pub fn run_by_plan<R: Threads + Wait + Sync>(
+pub(crate) fn run_by_plan<R: Threads + Wait + Sync>(
     rt: &R,
     alloc: Global,
     plan: &Plan,
@@ -129,7 +129,7 @@ pub fn run_by_plan<R: Threads + Wait + Sync>(
 }
 
 /// A run over a file with regions of 64 Ki words.
-pub fn run_over<R: Threads + Wait + Sync>(
+pub(crate) fn run_over<R: Threads + Wait + Sync>(
     rt: &R,
     alloc: Global,
     file: Vec<u8>,
@@ -138,7 +138,7 @@ pub fn run_over<R: Threads + Wait + Sync>(
 }
 
 /// The image in a little-endian file with these data words from the address 0x1000 on.
-pub fn image_of(alloc: Global, words: &[u32], special: u32) -> Result<Image, Fail>
+pub(crate) fn image_of(alloc: Global, words: &[u32], special: u32) -> Result<Image, Fail>
     requires { length words.now < 1000 }
 {
     let file = file_of(alloc, Order::Little, 0x1000, words, special)?;
@@ -146,7 +146,7 @@ pub fn image_of(alloc: Global, words: &[u32], special: u32) -> Result<Image, Fai
 }
 
 /// Asserts that a file is compacted to another, and answers the numbers of the run.
-pub fn assert_file_compacts<R: Threads + Wait + Sync + Abort + AllocGlobal>(
+pub(crate) fn assert_file_compacts<R: Threads + Wait + Sync + Abort + AllocGlobal>(
     rt: &R,
     file: Vec<u8>,
     wanted: &[u8],
@@ -159,7 +159,7 @@ pub fn assert_file_compacts<R: Threads + Wait + Sync + Abort + AllocGlobal>(
 }
 
 /// Asserts that little-endian words are compacted to others, and answers the numbers of the run.
-pub fn assert_compacts<R: Threads + Wait + Sync + Abort + AllocGlobal>(
+pub(crate) fn assert_compacts<R: Threads + Wait + Sync + Abort + AllocGlobal>(
     rt: &R,
     base: u32,
     words: &[u32],
@@ -176,7 +176,7 @@ pub fn assert_compacts<R: Threads + Wait + Sync + Abort + AllocGlobal>(
 }
 
 /// Asserts that a run over a file is refused with this fault and writes nothing.
-pub fn assert_refused<R: Threads + Wait + Sync + Abort + AllocGlobal>(
+pub(crate) fn assert_refused<R: Threads + Wait + Sync + Abort + AllocGlobal>(
     rt: &R,
     file: Vec<u8>,
     fault: Fault,
@@ -189,7 +189,7 @@ pub fn assert_refused<R: Threads + Wait + Sync + Abort + AllocGlobal>(
 
 /// Asserts that a run over words from the address 0x1000 on is refused with this fault in either byte
 /// order, and writes nothing.
-pub fn assert_words_refused<R: Threads + Wait + Sync + Abort + AllocGlobal>(
+pub(crate) fn assert_words_refused<R: Threads + Wait + Sync + Abort + AllocGlobal>(
     rt: &R,
     words: &[u32],
     special: u32,

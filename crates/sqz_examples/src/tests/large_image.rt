@@ -18,7 +18,7 @@ fn put_words(file: &mut Vec<u8>, words: &[u32]) -> Result<(), AllocError> {
 
 /// An image of more than a MiB: a class, then these words, then an object of many bytes, and the special
 /// objects array, which names it.
-pub fn large_image(alloc: Global, words: &[u32]) -> Result<Vec<u8>, AllocError>
+pub(crate) fn large_image(alloc: Global, words: &[u32]) -> Result<Vec<u8>, AllocError>
     requires { length words.now < 10 }
 {
     let named = 0x100C + 4 * words.len() as u32;

@@ -15,14 +15,14 @@ use std::thread::Threads;
 
 /// What the program ended with and printed.
 #[derive(Drop)]
-pub struct Ended {
+pub(crate) struct Ended {
     pub exit: u8,
     pub out: MemorySink,
     pub err: MemorySink,
 }
 
 /// Runs the program with these words after its name.
-pub fn run_program<R: Threads + Wait + Sync + Files>(
+pub(crate) fn run_program<R: Threads + Wait + Sync + Files>(
     rt: &R,
     alloc: Global,
     words: &[&str],
@@ -66,7 +66,7 @@ fn assert_makes_nothing<R: Threads + Wait + Sync + Abort + AllocGlobal + Files>(
 }
 
 /// The words of an image of three objects, of which one is dead.
-pub const WHOLE: [u32; 6] = [0x1007, 0x320F, 1, 1, 0x320B, 0x1000];
+pub(crate) const WHOLE: [u32; 6] = [0x1007, 0x320F, 1, 1, 0x320B, 0x1000];
 
 /// Makes a file with the image of three objects.
 fn make_image<R: AllocGlobal + Files>(rt: &R, path: &str) -> Result<(), Fail> {

@@ -10,13 +10,13 @@ use std::sync::MutexGuard;
 
 /// IN, with the bytes that it has left, or OUT.
 #[derive(Drop)]
-pub enum TestFile<'a> {
+pub(crate) enum TestFile<'a> {
     Input { disk: &'a Disk<'a>, left: &'a [u8] },
     Output { disk: &'a Disk<'a> },
 }
 
 /// What is answered for each thing that the two files do not do.
-pub fn refuse<T>() -> io::Result<T>
+pub(crate) fn refuse<T>() -> io::Result<T>
     ensures { IsErr result }
 {
     Err(Error::from(ErrorKind::Unsupported))
@@ -31,7 +31,7 @@ fn written<'a>(disk: &'a Disk<'_>) -> io::Result<MutexGuard<'a, Written>> {
 
 impl<'a> TestFile<'a> {
     /// IN, of which nothing was read yet.
-    pub fn open_input(disk: &'a Disk<'a>) -> Self {
+    pub(crate) fn open_input(disk: &'a Disk<'a>) -> Self {
         TestFile::Input {
             disk,
             left: disk.input,
@@ -39,7 +39,7 @@ impl<'a> TestFile<'a> {
     }
 
     /// OUT, made or emptied.
-    pub fn make_output(disk: &'a Disk<'a>) -> io::Result<Self> {
+    pub(crate) fn make_output(disk: &'a Disk<'a>) -> io::Result<Self> {
         if !disk.behavior.makes {
             return Err(Error::from(ErrorKind::PermissionDenied));
         }

@@ -11,14 +11,14 @@ use std::sync::{Mutex, Wait};
 use std::thread::Threads;
 
 /// The path of the file that can be read.
-pub const IN: &str = "in.image";
+pub(crate) const IN: &str = "in.image";
 
 /// The path of the file that can be made.
-pub const OUT: &str = "out.image";
+pub(crate) const OUT: &str = "out.image";
 
 /// How the two files behave.
 #[derive(Clone, Copy)]
-pub struct Behavior {
+pub(crate) struct Behavior {
     /// How many bytes one read gives, and one write takes, at most.
     pub piece: usize,
     /// Whether the read behind the last byte of IN fails, in place of telling the end.
@@ -32,7 +32,7 @@ pub struct Behavior {
 }
 
 /// Files that take all at once and never fail.
-pub const SOUND: Behavior = Behavior {
+pub(crate) const SOUND: Behavior = Behavior {
     piece: usize::MAX,
     read_fails: false,
     makes: true,
@@ -42,7 +42,7 @@ pub const SOUND: Behavior = Behavior {
 
 /// What was done to OUT.
 #[derive(Drop)]
-pub struct Written {
+pub(crate) struct Written {
     /// Whether it was made.
     pub made: bool,
     /// The bytes that it took.
@@ -53,7 +53,7 @@ pub struct Written {
 
 /// What the two files hold.
 #[derive(Drop)]
-pub struct Disk<'a> {
+pub(crate) struct Disk<'a> {
     pub input: &'a [u8],
     pub behavior: Behavior,
     pub output: Mutex<Written>,
@@ -61,7 +61,7 @@ pub struct Disk<'a> {
 
 impl<'a> Disk<'a> {
     /// A disk with these bytes in IN, and without OUT.
-    pub fn new(alloc: Global, input: &'a [u8], behavior: Behavior) -> Self {
+    pub(crate) fn new(alloc: Global, input: &'a [u8], behavior: Behavior) -> Self {
         let output = Mutex::new(Written {
             made: false,
             bytes: Vec::new(alloc),
@@ -75,14 +75,14 @@ impl<'a> Disk<'a> {
     }
 
     /// What was done to OUT.
-    pub fn into_written(self) -> Written {
+    pub(crate) fn into_written(self) -> Written {
         self.output.into_inner()
     }
 }
 
 /// The files of a disk, and the threads of a runtime.
 #[derive(Drop)]
-pub struct TestFiles<'a, R> {
+pub(crate) struct TestFiles<'a, R> {
     pub disk: &'a Disk<'a>,
     pub rt: &'a R,
 }
