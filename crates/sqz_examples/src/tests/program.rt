@@ -158,34 +158,22 @@ fn wants_two_paths(rt: HostRuntime) -> Result<(), Fail> {
 fn refuses_numbers(rt: HostRuntime) -> Result<(), Fail> {
     let workers = "fault 18: workers must be from 1 to 64\n";
     let cut = "fault 19: region cut is not valid\n";
-    let some: [(&[&str], &str); 5] = [
-        (&["--workers", "0", "missing.image", "never.image"], workers),
-        (
-            &["--workers", "65", "missing.image", "never.image"],
-            workers,
-        ),
-        (
-            &["--region-words", "0", "missing.image", "never.image"],
-            cut,
-        ),
-        (
-            &[
-                "--region-words",
-                "1073741825",
-                "missing.image",
-                "never.image",
-            ],
-            cut,
-        ),
-        (
-            &["--region-words", "0", "--workers", "0", "a", "b"],
-            workers,
-        ),
+    let some = [
+        ("--workers", "0", workers),
+        ("--workers", "65", workers),
+        ("--region-words", "0", cut),
+        ("--region-words", "1073741825", cut),
     ];
-    for (words, line) in some {
-        assert_faults(&rt, words, 2, line)?;
+    for (option, number, line) in some {
+        assert_faults(
+            &rt,
+            &[option, number, "missing.image", "never.image"],
+            2,
+            line,
+        )?;
     }
-    Ok(())
+    let both = ["--region-words", "0", "--workers", "0", "a", "b"];
+    assert_faults(&rt, &both, 2, workers)
 }
 
 #[test]
