@@ -7,4 +7,5 @@ pub mod RowLemmas
 pub mod CensusLemmas
 pub mod OrderedLemmas
 pub mod Uniqueness
+pub mod SumLemmas
 pub mod TextLemmas

@@ -5,17 +5,17 @@ use Rattle.std.specs.List.{Contains}
 
 module _ {A : Type 0} where
   -- an element of a list is its first one, or one of the others
-  Contains-cons_cases : (x : A) (xs : List A) (y : A) → Contains (x ∷ xs) y → (x ≡ y) ⊎ Contains xs y
+  pub Contains-cons_cases : (x : A) (xs : List A) (y : A) → Contains (x ∷ xs) y → (x ≡ y) ⊎ Contains xs y
   Contains-cons_cases x xs y (zero, within, is) = inl is
   Contains-cons_cases x xs y (suc k, within, is) = inr (k, omega arith, is)
 
-  Contains-head : (x : A) (xs : List A) → Contains (x ∷ xs) x
+  pub Contains-head : (x : A) (xs : List A) → Contains (x ∷ xs) x
   Contains-head x xs = (0, omega arith, refl)
 
-  Contains-tail : (x : A) (xs : List A) (y : A) → Contains xs y → Contains (x ∷ xs) y
+  pub Contains-tail : (x : A) (xs : List A) (y : A) → Contains xs y → Contains (x ∷ xs) y
   Contains-tail x xs y (k, within, is) = (suc k, omega arith, is)
 
-  Contains-nil : (y : A) → Contains [] y → ⊥
+  pub Contains-nil : (y : A) → Contains [] y → ⊥
   Contains-nil y (k, within, is) = absurd (omega arith)
 
 -- each element is before those behind it
@@ -26,10 +26,10 @@ IsOrdered {A} IsBefore xs =
 module _ {A : Type 0} (IsBefore : A → A → Type 0) (never_itself : (x : A) → IsBefore x x → ⊥)
     (joins : (x y z : A) → IsBefore x y → IsBefore y z → IsBefore x z) where
   -- the first element is before each of the others
-  first_before : (x : A) (xs : List A) (y : A) → IsOrdered IsBefore (x ∷ xs) → Contains xs y → IsBefore x y
+  pub first_before : (x : A) (xs : List A) (y : A) → IsOrdered IsBefore (x ∷ xs) → Contains xs y → IsBefore x y
   first_before x xs y ordered (k, within, is) = subst (IsBefore x) is (ordered 0 (suc k) y (omega arith) (omega arith))
 
-  IsOrdered-tail : (x : A) (xs : List A) → IsOrdered IsBefore (x ∷ xs) → IsOrdered IsBefore xs
+  pub IsOrdered-tail : (x : A) (xs : List A) → IsOrdered IsBefore (x ∷ xs) → IsOrdered IsBefore xs
   IsOrdered-tail x xs ordered i j d below within = ordered (suc i) (suc j) d (omega arith) (omega arith)
 
   -- two lists with the same elements begin with the same one

@@ -29,12 +29,12 @@ module _ (memory : Memory) (marks : List Bool) where
   is_lower-joins (Compact one) (Compact two) (Compact three) p q = nat_lt-joins one two three p q
 
   -- no group comes before itself
-  ComesBefore-itself : (group : Group) → ComesBefore memory marks group group → ⊥
+  pub ComesBefore-itself : (group : Group) → ComesBefore memory marks group group → ⊥
   ComesBefore-itself group (inl more) = absurd (omega arith)
   ComesBefore-itself group (inr (same, lower)) = is_lower-itself group lower
 
   -- and what comes before an earlier one comes before the later
-  ComesBefore-joins : (one two three : Group) → ComesBefore memory marks one two → ComesBefore memory marks two three
+  pub ComesBefore-joins : (one two three : Group) → ComesBefore memory marks one two → ComesBefore memory marks two three
       → ComesBefore memory marks one three
   ComesBefore-joins one two three (inl p) (inl q) = inl (omega arith)
   ComesBefore-joins one two three (inl p) (inr q) = inl (omega (arith, q.0))
