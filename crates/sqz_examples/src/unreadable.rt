@@ -7,7 +7,9 @@ ghost use Rattle.std.specs.Prelude.{[], ◌∷◌, ◌++◌, take, slice_set};
 ghost use Rattle.std.specs.List.{repeat};
 ghost use Rattle.sqz_object.specs.declared.order.Order.TheVariants.{Little};
 ghost use Rattle.sqz_object.specs.Bytes.{spelling_of};
-ghost use Rattle.sqz_image.specs.declared.fault.Fault.TheVariants.{TooShort, BadVersion, BadHeaderSize, BadDataSize, BadBase, Truncated, ZeroSize, HeaderMismatch, Overrun, BadSpecialObjects};
+ghost use Rattle.sqz_image.specs.declared.fault.Fault.TheVariants.{TooShort, BadVersion, BadHeaderSize, BadDataSize};
+ghost use Rattle.sqz_image.specs.declared.fault.Fault.TheVariants.{BadBase, Truncated, ZeroSize, HeaderMismatch};
+ghost use Rattle.sqz_image.specs.declared.fault.Fault.TheVariants.{Overrun, BadSpecialObjects};
 ghost use Rattle.sqz_tool.specs.Verdict.{IsRefused};
 ghost use Rattle.sqz_examples.specs.Worked.{words_at, file_at, file_of};
 

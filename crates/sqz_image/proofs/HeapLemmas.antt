@@ -13,7 +13,8 @@ use Rattle.sqz_object.specs.Reading.{BeginsWith, HasNoChunk, description}
 use Rattle.sqz_object.proofs.ChunkLemmas.{BeginsWith-description}
 use Rattle.sqz_image.specs.declared.fault.Fault.TheVariants.{BadSpecialObjects}
 use Rattle.sqz_image.specs.Memory.{cut, memory_of, base_headers, IsListed, IsKept, IsMemory, IsWholeMemory, LacksSpecial}
-use Rattle.sqz_image.specs.Objects.{Memory, Object, objects_of, objects, object_count, object_at, header_index, address_in, find}
+use Rattle.sqz_image.specs.Objects.{Memory, Object, objects_of, objects, object_count, object_at, header_index}
+use Rattle.sqz_image.specs.Objects.{address_in, find}
 use Rattle.sqz_object.specs.declared.order.Order.{Order}
 use Rattle.sqz_object.specs.Partition.{IsPartition}
 use Rattle.std.specs.Prelude.{is_some}

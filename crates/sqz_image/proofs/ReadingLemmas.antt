@@ -12,7 +12,8 @@ use Rattle.sqz_object.proofs.WordLemmas.{length-words_of, words_of-lt}
 use Rattle.sqz_image.specs.declared.fault.Fault.{Fault}
 use Rattle.sqz_image.specs.declared.fault.Fault.TheVariants.{TooShort, BadVersion, BadHeaderSize, BadDataSize}
 use Rattle.sqz_image.specs.declared.fault.Fault.TheVariants.{BadBase, Truncated, OutOfMemory}
-use Rattle.sqz_image.specs.File.{header_size, order_of, header_of, stated_header_size, data_size, base_address, special_address, data_of}
+use Rattle.sqz_image.specs.File.{header_size, order_of, header_of, stated_header_size, data_size, base_address}
+use Rattle.sqz_image.specs.File.{special_address, data_of}
 use Rattle.sqz_image.specs.Objects.{SavedImage}
 use Rattle.sqz_image.specs.Refusals.{header_fault, fault_in_order, file_fault, HasChunks, Holds, IsUnreadable}
 use Rattle.sqz_image.proofs.NumberLemmas.{NumberAtMost, NumberAtMost-none, NumberAtMost-some, NumberAtMost-if}

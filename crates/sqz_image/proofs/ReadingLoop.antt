@@ -1,5 +1,6 @@
 -- A loop of reads: what it has read so far, and how it ends.
-use Rattle.std.proofs.Common.{◌≡◌, ℕ, ◌+◌, ◌<◌, arith, List, ◌++◌, take, Ok, Err, Result, sym, ap, ◌∙◌, refl, inl, inr, subst}
+use Rattle.std.proofs.Common.{◌≡◌, ℕ, ◌+◌, ◌<◌, arith, List, ◌++◌, take, Ok, Err, Result, sym, ap, ◌∙◌, refl, inl, inr}
+use Rattle.std.proofs.Common.{subst}
 use Rattle.std.specs.Io.KnownBytes.{Consumes}
 use Rattle.std.proofs.KnownBytes.{Consumes-trans, Consumes-kept}
 use Rattle.sqz_image.specs.declared.device.DeviceFault.{DeviceFault}

@@ -33,7 +33,8 @@ one_more count = min (count + 1) (2 ^ 64 - 1)
 -- one read into a piece, which then holds what was read at its front
 abbrev pub IsRead : SourceState → SourceState → List ℕ → Result ℕ DeviceFault → Type 0
 IsRead old new piece (Ok count) =
-    (old.failed ≡ false) × (new.failed ≡ false) × (count ≤ length piece) × Consumes old.left new.left (take count piece) × (new.reads ≡ one_more old.reads)
+    (old.failed ≡ false) × (new.failed ≡ false) × (count ≤ length piece)
+    × Consumes old.left new.left (take count piece) × (new.reads ≡ one_more old.reads)
     × (new.empty_reads ≡ (if count == 0 && nat_lt 0 (length piece) then one_more old.empty_reads else old.empty_reads))
 IsRead old new piece (Err fault) =
     (new.failed ≡ true) × Keeps old.left new.left × (new.reads ≡ one_more old.reads) × (new.empty_reads ≡ old.empty_reads)
@@ -41,7 +42,8 @@ IsRead old new piece (Err fault) =
 -- one write of a piece: some of it from its front on went out
 abbrev pub IsWrite : SinkState → SinkState → List ℕ → Result ℕ DeviceFault → Type 0
 IsWrite old new piece (Ok count) =
-    (old.failed ≡ false) × (new.failed ≡ false) × (count ≤ length piece) × (0 < length piece → 0 < count) × Appends old.contents new.contents (take count piece)
+    (old.failed ≡ false) × (new.failed ≡ false) × (count ≤ length piece) × (0 < length piece → 0 < count)
+    × Appends old.contents new.contents (take count piece)
     × (new.writes ≡ one_more old.writes)
     × (new.unflushed ≡ (if count == 0 then old.unflushed else true))
 IsWrite old new piece (Err fault) =

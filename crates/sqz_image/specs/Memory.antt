@@ -1,5 +1,6 @@
 -- The object memory that stands in a list of data words, which is how a heap is kept.
-use Rattle.std.specs.Prelude.{◌≡◌, ◌⊎◌, ℕ, zero, suc, ◌+◌, ◌*◌, ◌%◌, ◌^◌, ◌<◌, ◌≤◌, List, [], ◌∷◌, map, length, take, drop, Some, None, IsSome}
+use Rattle.std.specs.Prelude.{◌≡◌, ◌⊎◌, ℕ, zero, suc, ◌+◌, ◌*◌, ◌%◌, ◌^◌, ◌<◌, ◌≤◌, List, [], ◌∷◌, map, length, take}
+use Rattle.std.specs.Prelude.{drop, Some, None, IsSome}
 use Rattle.sqz_object.specs.declared.order.Order.{Order}
 use Rattle.sqz_object.specs.Partition.{IsPartition, stated_length}
 use Rattle.sqz_image.specs.declared.fault.Fault.{Fault}

@@ -1,5 +1,6 @@
 -- The place of a number among numbers that rise, and a table that tells it: a bit for each number, and ranks.
-use Rattle.std.specs.Prelude.{◌≡◌, ◌≢◌, ℕ, ◌+◌, ◌/◌, ◌%◌, ◌^◌, ◌<◌, List, length, slice_index, slice_index_or, Option, Some, None, count_ones}
+use Rattle.std.specs.Prelude.{◌≡◌, ◌≢◌, ℕ, ◌+◌, ◌/◌, ◌%◌, ◌^◌, ◌<◌, List, length, slice_index, slice_index_or, Option}
+use Rattle.std.specs.Prelude.{Some, None, count_ones}
 use Rattle.std.specs.Int.{bit_at}
 use Rattle.sqz_image.specs.declared.ranks.Block.{Block}
 

@@ -1,12 +1,16 @@
 -- What a file holds, and why it is refused before its objects are looked at: the refusals 1 to 10.
-use Rattle.std.specs.Prelude.{◌≡◌, ℕ, ◌+◌, ◌%◌, ◌^◌, ◌==◌, ◌||◌, not, nat_lt, if◌then◌else◌, List, length, Option, Some, None, IsSome, ◌⊎◌}
+use Rattle.std.specs.Prelude.{◌≡◌, ℕ, ◌+◌, ◌%◌, ◌^◌, ◌==◌, ◌||◌, not, nat_lt, if◌then◌else◌, List, length, Option, Some}
+use Rattle.std.specs.Prelude.{None, IsSome, ◌⊎◌}
 use Rattle.sqz_object.specs.declared.order.Order.{Order}
 use Rattle.sqz_object.specs.declared.chunk.ChunkFault.{ChunkFault}
 use Rattle.sqz_object.specs.declared.chunk.ChunkFault.TheVariants as chunk_faults
 use Rattle.sqz_object.specs.Partition.{IsPartition, IsStuck}
 use Rattle.sqz_image.specs.declared.fault.Fault.{Fault}
-use Rattle.sqz_image.specs.declared.fault.Fault.TheVariants.{TooShort, BadVersion, BadHeaderSize, BadDataSize, BadBase, Truncated, ZeroSize, HeaderMismatch, Overrun, BadSpecialObjects}
-use Rattle.sqz_image.specs.File.{header_size, order_of, header_of, stated_header_size, data_size, base_address, special_address, data_of}
+use Rattle.sqz_image.specs.declared.fault.Fault.TheVariants.{TooShort, BadVersion, BadHeaderSize, BadDataSize, BadBase}
+use Rattle.sqz_image.specs.declared.fault.Fault.TheVariants.{Truncated, ZeroSize, HeaderMismatch, Overrun}
+use Rattle.sqz_image.specs.declared.fault.Fault.TheVariants.{BadSpecialObjects}
+use Rattle.sqz_image.specs.File.{header_size, order_of, header_of, stated_header_size, data_size, base_address}
+use Rattle.sqz_image.specs.File.{special_address, data_of}
 use Rattle.sqz_image.specs.Objects.{SavedImage, find}
 
 -- the first of the refusals 3 to 6 that applies, by the header words and the number of the file's bytes

@@ -1,6 +1,7 @@
 //! The object memory of an image, and its objects.
 
-ghost use Rattle.std.specs.Prelude.{◌≡◌, ◌⊎◌, ℕ, ◌+◌, ◌-◌, ◌*◌, ◌%◌, ◌^◌, ◌<◌, ◌≤◌, List, map, length, slice_index, Some, IfOk, IfErr};
+ghost use Rattle.std.specs.Prelude.{◌≡◌, ◌⊎◌, ℕ, ◌+◌, ◌-◌, ◌*◌, ◌%◌, ◌^◌, ◌<◌, ◌≤◌, List, map, length, slice_index};
+ghost use Rattle.std.specs.Prelude.{Some, IfOk, IfErr};
 ghost use Rattle.std.specs.List.{concat};
 ghost use Rattle.sqz_object.specs.Chunk.{fields};
 ghost use Rattle.sqz_object.specs.Reading.{description};
@@ -40,7 +41,8 @@ impl Model for Heap {
 
     ghost view = { λ heap. memory_of heap.order heap.base heap.special heap.words.items };
 
-    ghost invariant = { λ heap. IsKept (memory_of heap.order heap.base heap.special heap.words.items) heap.words.items heap.firsts.items heap.headers.items heap.special_object };
+    ghost invariant = { λ heap. IsKept (memory_of heap.order heap.base heap.special heap.words.items)
+        heap.words.items heap.firsts.items heap.headers.items heap.special_object };
 }
 
 impl Heap {
@@ -199,7 +201,8 @@ impl Heap {
 /// address being `base`.
 fn place_at(headers: &[Block], base: u32, address: u32) -> Option<u32>
     requires { IsTable headers.now }
-    ensures { (indexes : List ℕ) → IsRanked indexes (length indexes) headers.now → IsPlaceOf (map (λ index. base + 4 * index) indexes) address result }
+    ensures { (indexes : List ℕ) → IsRanked indexes (length indexes) headers.now
+        → IsPlaceOf (map (λ index. base + 4 * index) indexes) address result }
 {
     let offset = address.checked_sub(base)?;
     if offset % 4 != 0 {

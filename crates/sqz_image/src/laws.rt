@@ -11,5 +11,6 @@ pub fn partition()
         ((chunks : List (List ℕ)) × IsPartition words chunks) ⊎ ((place : ℕ) × (fault : ChunkFault) × IsStuck words place fault) }
     ensures one_way { (words : List ℕ) (one other : List (List ℕ)) → IsPartition words one → IsPartition words other → one ≡ other }
     ensures one_place { (words : List ℕ) (p q : ℕ) (f g : ChunkFault) → IsStuck words p f → IsStuck words q g → (p ≡ q) × (f ≡ g) }
-    ensures not_both { (words : List ℕ) (place : ℕ) (fault : ChunkFault) (chunks : List (List ℕ)) → IsPartition words chunks → IsStuck words place fault → ⊥ }
+    ensures not_both { (words : List ℕ) (place : ℕ) (fault : ChunkFault) (chunks : List (List ℕ))
+        → IsPartition words chunks → IsStuck words place fault → ⊥ }
 {}

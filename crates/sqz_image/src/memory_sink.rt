@@ -1,6 +1,7 @@
 //! A sink that keeps bytes in memory, which can be told to fail.
 
-ghost use Rattle.std.specs.Prelude.{◌≡◌, ◌+◌, ◌<◌, ◌≤◌, ◌↔◌, ◌⊎◌, true, false, Some, [], min, length, IfOk, OnOk, IfErr, OnErr, IsErr, vec_len, vec_capacity};
+ghost use Rattle.std.specs.Prelude.{◌≡◌, ◌+◌, ◌<◌, ◌≤◌, ◌↔◌, ◌⊎◌, true, false, Some, [], min, length, IfOk, OnOk};
+ghost use Rattle.std.specs.Prelude.{IfErr, OnErr, IsErr, vec_len, vec_capacity};
 ghost use Rattle.sqz_image.specs.Devices.{SinkState, IsWrite, IsFlush, one_more};
 ghost use Rattle.sqz_image.specs.declared.fault.Fault.TheVariants.{OutOfMemory};
 

@@ -1,6 +1,7 @@
 //! A source of bytes in memory, which can be told to fail.
 
-ghost use Rattle.std.specs.Prelude.{◌≡◌, ◌<◌, ◌≤◌, ◌↔◌, ◌⊎◌, true, false, Some, [], min, length, take, drop, vec_len, IfOk, IsErr};
+ghost use Rattle.std.specs.Prelude.{◌≡◌, ◌<◌, ◌≤◌, ◌↔◌, ◌⊎◌, true, false, Some, [], min, length, take, drop, vec_len};
+ghost use Rattle.std.specs.Prelude.{IfOk, IsErr};
 ghost use Rattle.sqz_image.specs.Devices.{SourceState, IsRead};
 
 use crate::device::{DeviceFault, Source};
@@ -47,7 +48,12 @@ impl MemorySource {
 impl Source for MemorySource {
     ghost use Rattle.sqz_image.specs.MemoryDevices.{piece_size, failing_read};
 
-    ghost state = { λ s. record { left = Some (drop s.given s.bytes.items); reads = s.reads; empty_reads = s.empty_reads; failed = s.failed } };
+    ghost state = { λ s. record {
+      left = Some (drop s.given s.bytes.items);
+      reads = s.reads;
+      empty_reads = s.empty_reads;
+      failed = s.failed;
+    } };
 
     #[tactic(auto, using(crate::proofs::Parts::drop_parts))]
     fn read(&mut self, into: &mut [u8]) -> Result<usize, DeviceFault>

@@ -1,6 +1,7 @@
 -- What the words of a chunk say of it, and when no chunk begins with some words.
-use Rattle.std.proofs.Common.{◌≡◌, ℕ, zero, suc, ◌+◌, ◌-◌, ◌/◌, ◌%◌, ◌<◌, ◌≤◌, ◌⊎◌, Bool, true, false, not, ◌&&◌, cond, eqb, ltb}
-use Rattle.std.proofs.Common.{List, [], ◌∷◌, ◌++◌, length, take, drop, slice_index, Option, Some, None}
+use Rattle.std.proofs.Common.{◌≡◌, ℕ, zero, suc, ◌+◌, ◌-◌, ◌/◌, ◌%◌, ◌<◌, ◌≤◌, ◌⊎◌, Bool, true, false, not, ◌&&◌, cond}
+use Rattle.std.proofs.Common.{eqb, ltb}
+use Rattle.std.proofs.Common.{List, ◌∷◌, ◌++◌, length, take, drop, slice_index, Option, Some, None}
 use Rattle.std.proofs.Common.{refl, sym, ap, subst, ◌∙◌, arith, inl, inr}
 use Rattle.std.specs.List.{list_all}
 use Rattle.std.proofs.lemmas.Bool.{ltb-false, eqb-true, eqb-false, lt-ltb, le-ltb, eq-eqb, ne_eqb, and_parts}
@@ -10,7 +11,8 @@ use Rattle.sqz_object.specs.declared.chunk.Kind.TheVariants.{Three, Two, Free, S
 use Rattle.sqz_object.specs.declared.chunk.Chunk.{Chunk}
 use Rattle.sqz_object.specs.declared.chunk.ChunkFault.{ChunkFault}
 use Rattle.sqz_object.specs.declared.chunk.ChunkFault.TheVariants.{ZeroSize, HeaderMismatch, Overrun}
-use Rattle.sqz_object.specs.Chunk.{header_type, size_field, IsChunkOf, IsChunk, kind_of, chunk_kind, words_before, before, base_word}
+use Rattle.sqz_object.specs.Chunk.{header_type, size_field, IsChunkOf, IsChunk, kind_of, chunk_kind, words_before}
+use Rattle.sqz_object.specs.Chunk.{before, base_word}
 use Rattle.sqz_object.specs.Partition.{size_stated, stated_size, stated_length, is_of_one_type, chunk_fault}
 use Rattle.sqz_object.specs.Reading.{BeginsWith, HasNoChunk, description}
 
@@ -78,11 +80,6 @@ chunk_kind_is Two (class ∷ base ∷ fields) h = kind_of-two class h.0
 chunk_kind_is Free (free ∷ rest) h = kind_of-free free h.0
 chunk_kind_is Short (base ∷ fields) h = kind_of-short base h.0
 chunk_kind_is _ _ h = absurd h
-
--- words that begin with another's first word begin a chunk of its kind
-pub chunk_kind-append : (chunk rest : List ℕ) → 1 ≤ length chunk → chunk_kind (chunk ++ rest) ≡ chunk_kind chunk
-chunk_kind-append [] rest h = absurd (omega arith)
-chunk_kind-append (word ∷ chunk) rest h = refl
 
 -- the kind that words begin with is told by any front of them
 pub chunk_kind-take : (count : ℕ) (words : List ℕ) → 0 < count → chunk_kind (take count words) ≡ chunk_kind words

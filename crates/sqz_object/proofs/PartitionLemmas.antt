@@ -10,7 +10,8 @@ use Rattle.std.proofs.Math.Seq.{take-add}
 use Rattle.sqz_object.specs.declared.chunk.ChunkFault.{ChunkFault}
 use Rattle.sqz_object.specs.Chunk.{IsChunk, chunk_kind}
 use Rattle.sqz_object.specs.Partition.{IsPartition, IsStuck, chunk_fault, stated_length}
-use Rattle.sqz_object.proofs.ChunkLemmas.{length-chunk, chunk_front_unique, is_chunk_with_no_fault, stated_length_within, no_chunk_at_fault}
+use Rattle.sqz_object.proofs.ChunkLemmas.{length-chunk, chunk_front_unique, is_chunk_with_no_fault}
+use Rattle.sqz_object.proofs.ChunkLemmas.{stated_length_within, no_chunk_at_fault}
 
 -- ---- lists of chunks
 

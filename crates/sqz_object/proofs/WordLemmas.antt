@@ -15,11 +15,6 @@ length-words_of order (a ∷ []) = refl
 length-words_of order (a ∷ b ∷ []) = refl
 length-words_of order (a ∷ b ∷ c ∷ []) = refl
 
-number_of-take : (order : Order) (a b c d : ℕ) (rest : List ℕ)
-    → number_of order (a ∷ b ∷ c ∷ d ∷ []) ≡ number_of order (a ∷ b ∷ c ∷ d ∷ rest)
-number_of-take Little a b c d rest = refl
-number_of-take Big a b c d rest = refl
-
 -- word k stands in the bytes from 4 * k on
 pub words_of-at : (order : Order) (bytes : List ℕ) (k : ℕ)
     → 4 * k + 4 ≤ length bytes → slice_index (words_of order bytes) k ≡ number_of order (take 4 (drop (4 * k) bytes))

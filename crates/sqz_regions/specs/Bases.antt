@@ -1,5 +1,6 @@
 -- Where the live objects of each region go: behind those of the regions before.
-use Rattle.std.specs.Prelude.{◌≡◌, ℕ, ◌+◌, ◌*◌, ◌<◌, Bool, if◌then◌else◌, List, length, take, sum, slice_index, slice_index_or, Option, Some, None}
+use Rattle.std.specs.Prelude.{◌≡◌, ℕ, ◌+◌, ◌*◌, ◌<◌, Bool, if◌then◌else◌, List, length, take, sum, slice_index}
+use Rattle.std.specs.Prelude.{slice_index_or, Option, Some, None}
 use Rattle.sqz_image.specs.Objects.{Memory, object_count}
 use Rattle.sqz_trace.specs.Graph.{is_marked}
 use Rattle.sqz_regions.specs.Places.{place}
@@ -8,7 +9,8 @@ use Rattle.sqz_regions.specs.Regions.{Regioning, region_count, live_words_in}
 -- the sums of the live words of each region
 pub record AreSums (regions : Regioning) (marks : List Bool) (sums : List ℕ) : Type 0 where
   pub sized : length sums ≡ region_count regions.cut regions.memory
-  pub each : (region : ℕ) → region < region_count regions.cut regions.memory → slice_index sums region ≡ live_words_in regions.cut regions.memory marks region
+  pub each : (region : ℕ) → region < region_count regions.cut regions.memory
+      → slice_index sums region ≡ live_words_in regions.cut regions.memory marks region
 
 -- the first address of each of some parts that stand one after the other from a base on, by how many words each has
 pub record AreBases (base : ℕ) (sums bases : List ℕ) : Type 0 where

@@ -1,5 +1,6 @@
 -- The entries of a table of places: a number for each object, and the ranges of objects by which it is built.
-use Rattle.std.specs.Prelude.{◌≡◌, ◌≢◌, ℕ, ◌+◌, ◌-◌, ◌*◌, ◌^◌, ◌<◌, ◌≤◌, ◌==◌, nat_lt, Bool, true, if◌then◌else◌, List, map, length, slice_index, Option, Some, None}
+use Rattle.std.specs.Prelude.{◌≡◌, ◌≢◌, ℕ, ◌+◌, ◌-◌, ◌*◌, ◌^◌, ◌<◌, ◌≤◌, ◌==◌, nat_lt, Bool, true, if◌then◌else◌, List}
+use Rattle.std.specs.Prelude.{map, length, slice_index, Option, Some, None}
 use Rattle.std.specs.List.{range_with_len}
 use Rattle.sqz_image.specs.Objects.{Memory, object_count}
 use Rattle.sqz_trace.specs.Graph.{is_marked}

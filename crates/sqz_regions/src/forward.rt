@@ -68,7 +68,8 @@ impl Forward {
                     requires regions { regions.now.memory ≡ heap.now }
                     requires sized { length marks.now ≡ object_count heap.now }
                     requires bases { AreBasesOf regions.now marks.now bases.now }
-                    ensures { IfOk result (λ places. AreEntriesOfRange regions.entry.now.cut heap.entry.now marks.entry.now range places.items) }
+                    ensures { IfOk result (λ places.
+                        AreEntriesOfRange regions.entry.now.cut heap.entry.now marks.entry.now range places.items) }
                 { range_places(alloc, heap, regions, marks, bases, range) },
             )
             .collect::<Result<Vec<Vec<u32>>, AllocError>>(rt, alloc)??;

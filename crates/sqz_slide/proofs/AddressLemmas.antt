@@ -1,5 +1,6 @@
 -- The new address of what a word names, by a list of places.
-use Rattle.std.proofs.Common.{◌≡◌, ℕ, ◌<◌, Bool, true, false, cond, List, [], ◌∷◌, ◌+◌, ◌++◌, map, length, get_or, take, Option, Some, None, is_some, slice_index_or, refl, sym, ap, ◌∙◌, append_assoc}
+use Rattle.std.proofs.Common.{◌≡◌, ℕ, ◌<◌, Bool, true, false, cond, List, [], ◌∷◌, ◌+◌, ◌++◌, map, length, get_or, take}
+use Rattle.std.proofs.Common.{Option, Some, None, is_some, slice_index_or, refl, sym, ap, ◌∙◌, append_assoc}
 use Rattle.std.proofs.lemmas.List.{map_push, take_more}
 use Rattle.std.proofs.lemmas.Option.{none-some, same_Some}
 use Rattle.sqz_image.specs.Objects.{Memory, object_count}

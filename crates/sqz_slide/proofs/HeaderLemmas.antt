@@ -1,5 +1,6 @@
 -- What an object's header becomes as it moves.
-use Rattle.std.proofs.Common.{◌≡◌, ℕ, zero, suc, ◌+◌, ◌<◌, ◌≤◌, Bool, cond, List, [], ◌∷◌, length, get_or, slice_index, refl, sym, ap, subst, ◌∙◌, arith}
+use Rattle.std.proofs.Common.{◌≡◌, ℕ, zero, suc, ◌+◌, ◌<◌, ◌≤◌, Bool, cond, List, [], ◌∷◌, length, get_or, slice_index}
+use Rattle.std.proofs.Common.{refl, sym, ap, subst, ◌∙◌, arith}
 use Rattle.sqz_object.specs.declared.chunk.Kind.{Kind}
 use Rattle.sqz_object.specs.declared.chunk.Kind.TheVariants.{Three, Two, Free, Short}
 use Rattle.sqz_object.specs.Chunk.{chunk_kind, words_before, before}
@@ -32,7 +33,8 @@ module _ (memory : Memory) (marks : List Bool) where
 
   -- of three header words the class word changes
   moved_header-three : (chunk : List ℕ) → 2 < length chunk
-      → moved_header memory marks Three chunk ≡ slice_index chunk 0 ∷ moved_class memory marks (slice_index chunk 1) ∷ slice_index chunk 2 ∷ []
+      → moved_header memory marks Three chunk
+      ≡ slice_index chunk 0 ∷ moved_class memory marks (slice_index chunk 1) ∷ slice_index chunk 2 ∷ []
   moved_header-three (size ∷ class ∷ base ∷ fields) lt = refl
   moved_header-three _ lt = absurd (omega arith)
 

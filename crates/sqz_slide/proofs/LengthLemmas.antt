@@ -31,7 +31,13 @@ module _ (memory : Memory) (marks : List Bool) where
       let front = take (traced chunk) (fields chunk) in
       let back = drop (traced chunk) (fields chunk) in
       let whole = length-append (map (moved_field memory marks) front) back in
-      omega (arith, whole, length-map front (moved_field memory marks), length-take (traced chunk) (fields chunk), length-drop (traced chunk) (fields chunk))
+      omega (
+        arith,
+        whole,
+        length-map front (moved_field memory marks),
+        length-take (traced chunk) (fields chunk),
+        length-drop (traced chunk) (fields chunk),
+      )
 
   -- an object has as many words after the move
   pub length-moved : (chunk : List ℕ) → IsChunk chunk → length (moved memory marks chunk) ≡ length chunk
@@ -46,7 +52,8 @@ module _ (memory : Memory) (marks : List Bool) where
   words_after object = moved memory marks object.chunk
 
   -- objects have as many words together
-  length-all : (live : List Object) → AllByRecursion (λ object. IsChunk object.chunk) live → length (concat (map words_after live)) ≡ words_in live
+  length-all : (live : List Object) → AllByRecursion (λ object. IsChunk object.chunk) live
+      → length (concat (map words_after live)) ≡ words_in live
   length-all [] h = refl
   length-all (object ∷ live) h =
       let whole = length-append (words_after object) (concat (map words_after live)) in

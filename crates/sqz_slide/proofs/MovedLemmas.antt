@@ -1,5 +1,6 @@
 -- The words of an object after the move: its header and its fields. And the words of all live objects up to one.
-use Rattle.std.proofs.Common.{◌≡◌, ℕ, ◌+◌, ◌-◌, ◌<◌, ◌≤◌, Bool, true, false, List, [], ◌++◌, map, length, get_or, take, drop, slice_index}
+use Rattle.std.proofs.Common.{◌≡◌, ℕ, ◌+◌, ◌-◌, ◌<◌, ◌≤◌, Bool, true, false, List, [], ◌++◌, map, length, get_or, take}
+use Rattle.std.proofs.Common.{drop, slice_index}
 use Rattle.std.proofs.Common.{refl, ap, ◌∙◌, arith}
 use Rattle.std.specs.List.{concat}
 use Rattle.std.proofs.lemmas.List.{length-map, length-take-le, map_push}
@@ -72,7 +73,8 @@ module _ (memory : Memory) (marks : List Bool) where
       → get_or (moved memory marks chunk) k 0 ≡ get_or (moved_fields memory marks chunk) (k - (before chunk + 1)) 0
   moved-field_word chunk k headed lt =
       let size = length-moved_header memory marks (chunk_kind chunk) chunk headed in
-      get_or-append_right (moved_header memory marks (chunk_kind chunk) chunk) (moved_fields memory marks chunk) (before chunk + 1) k 0 size (omega arith)
+      get_or-append_right (moved_header memory marks (chunk_kind chunk) chunk) (moved_fields memory marks chunk)
+      (before chunk + 1) k 0 size (omega arith)
 
   -- the field is the word behind the base header's that far
   field_word : (chunk : List ℕ) (k : ℕ) → before chunk < k → slice_index (fields chunk) (k - (before chunk + 1)) ≡ slice_index chunk k
@@ -82,7 +84,8 @@ module _ (memory : Memory) (marks : List Bool) where
 
   module _ (chunk : List ℕ) (k : ℕ) (headed : before chunk < length chunk) where
     -- the class word
-    pub moved-class_word : is_class_word (chunk_kind chunk) k ≡ true → get_or (moved memory marks chunk) k 0 ≡ moved_class memory marks (slice_index chunk k)
+    pub moved-class_word : is_class_word (chunk_kind chunk) k ≡ true
+        → get_or (moved memory marks chunk) k 0 ≡ moved_class memory marks (slice_index chunk k)
     moved-class_word is =
         let le = class_word-inside (chunk_kind chunk) k is in
         moved-header_word chunk k headed le
@@ -98,14 +101,16 @@ module _ (memory : Memory) (marks : List Bool) where
         ∙ ap (moved_field memory marks) (field_word chunk k lt)
 
     -- a field that is not traced
-    pub moved-untraced_word : before chunk < k → traced chunk < k - before chunk → get_or (moved memory marks chunk) k 0 ≡ slice_index chunk k
+    pub moved-untraced_word : before chunk < k → traced chunk < k - before chunk
+        → get_or (moved memory marks chunk) k 0 ≡ slice_index chunk k
     moved-untraced_word lt more =
         moved-field_word chunk k headed lt
         ∙ moved_fields_rest chunk (k - (before chunk + 1)) (omega arith)
         ∙ field_word chunk k lt
 
     -- another word of the header
-    pub moved-other_word : is_class_word (chunk_kind chunk) k ≡ false → k ≤ before chunk → get_or (moved memory marks chunk) k 0 ≡ slice_index chunk k
+    pub moved-other_word : is_class_word (chunk_kind chunk) k ≡ false → k ≤ before chunk
+        → get_or (moved memory marks chunk) k 0 ≡ slice_index chunk k
     moved-other_word is le =
         moved-header_word chunk k headed le
         ∙ moved_header-word memory marks (chunk_kind chunk) chunk k headed le

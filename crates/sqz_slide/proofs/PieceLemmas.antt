@@ -1,8 +1,10 @@
 -- The pieces of regions, one region after the other.
-use Rattle.std.proofs.Common.{◌≡◌, ℕ, zero, suc, ◌+◌, ◌-◌, ◌≤◌, Bool, eqb, List, [], ◌∷◌, ◌++◌, map, filter, length, take, slice_index_or, sym, ap, subst, refl, ◌∙◌, arith, add-one, inl, inr}
+use Rattle.std.proofs.Common.{◌≡◌, ℕ, zero, suc, ◌+◌, ◌-◌, ◌≤◌, Bool, eqb, List, [], ◌∷◌, ◌++◌, map, filter, length}
+use Rattle.std.proofs.Common.{take, slice_index_or, sym, ap, subst, refl, ◌∙◌, arith, add-one, inl, inr}
 use Rattle.std.specs.List.{concat}
 use Rattle.std.proofs.lemmas.Bool.{cases_lt}
-use Rattle.std.proofs.lemmas.List.{length-append, map-append, append_cancel_left, take_all, take_more, get_or_append_left, get_or-append_right}
+use Rattle.std.proofs.lemmas.List.{length-append, map-append, append_cancel_left, take_all, take_more}
+use Rattle.std.proofs.lemmas.List.{get_or_append_left, get_or-append_right}
 use Rattle.std.proofs.lemmas.List.Folds.{concat-append}
 use Rattle.sqz_object.proofs.PartitionLemmas.{concat-push}
 use Rattle.sqz_image.specs.Objects.{Memory, Object, objects, object_count}

@@ -1,6 +1,7 @@
 -- The regions that each worker has.
 use Rattle.std.proofs.Common.{◌≡◌, ◌↔◌, ℕ, ◌*◌, ◌/◌, ◌<◌, ◌≤◌, arith}
-use Rattle.std.proofs.Math.Nat.{div-le_of_le-mul, mul-le-mul_right, mul-div-le, mul-div_cancel_left, le-div_iff_mul-le, mul_comm}
+use Rattle.std.proofs.Math.Nat.{div-le_of_le-mul, mul-le-mul_right, mul-div-le, mul-div_cancel_left, le-div_iff_mul-le}
+use Rattle.std.proofs.Math.Nat.{mul_comm}
 use Rattle.sqz_slide.specs.Pieces.{first_region}
 
 module _ (regions workers : ℕ) (some : 0 < workers) where
@@ -17,7 +18,8 @@ module _ (regions workers : ℕ) (some : 0 < workers) where
   first_region-rises worker next le =
       let below = mul-div-le (worker * regions) workers in
       let more : worker * regions ≤ next * regions = mul-le-mul_right regions le in
-      let both : (worker * regions / workers ≤ next * regions / workers) ↔ (worker * regions / workers * workers ≤ next * regions) = le-div_iff_mul-le some in
+      let both : (worker * regions / workers ≤ next * regions / workers)
+      ↔ (worker * regions / workers * workers ≤ next * regions) = le-div_iff_mul-le some in
       both.1 (rw (mul_comm (worker * regions / workers) workers) (omega (arith, below, more)))
 
   -- no worker has a region behind the last

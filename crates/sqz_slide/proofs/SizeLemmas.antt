@@ -1,5 +1,6 @@
 -- The live words between two objects, of which some are not live.
-use Rattle.std.proofs.Common.{◌≡◌, ℕ, zero, suc, ◌+◌, ◌-◌, ◌<◌, ◌≤◌, Bool, true, false, List, Option, None, is_some, slice_index_or, refl, ap, ◌∙◌, arith}
+use Rattle.std.proofs.Common.{◌≡◌, ℕ, zero, suc, ◌+◌, ◌-◌, ◌<◌, ◌≤◌, Bool, true, false, List, Option, None, is_some}
+use Rattle.std.proofs.Common.{slice_index_or, refl, ap, ◌∙◌, arith}
 use Rattle.sqz_image.specs.Objects.{Memory, object_count}
 use Rattle.sqz_trace.specs.Graph.{is_marked}
 use Rattle.sqz_regions.specs.Places.{live_words_below}
@@ -15,7 +16,8 @@ module _ (memory : Memory) (marks : List Bool) where
   rises_by false index is lt = omega (arith, live_words_more_no memory marks index lt is)
 
   -- nor have more objects
-  rises_on : (from more : ℕ) → from + more ≤ object_count memory → live_words_below memory marks from ≤ live_words_below memory marks (from + more)
+  rises_on : (from more : ℕ) → from + more ≤ object_count memory
+      → live_words_below memory marks from ≤ live_words_below memory marks (from + more)
   rises_on from zero le = rw (the_same from) (omega arith)
     where
       the_same : (n : ℕ) → n + 0 ≡ n

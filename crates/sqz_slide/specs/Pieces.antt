@@ -1,5 +1,6 @@
 -- The live objects of each region in their new places.
-use Rattle.std.specs.Prelude.{◌≡◌, ℕ, ◌+◌, ◌*◌, ◌/◌, ◌==◌, ◌<◌, Bool, List, [], map, length, filter, slice_index_or, Result, Ok}
+use Rattle.std.specs.Prelude.{◌≡◌, ℕ, ◌+◌, ◌*◌, ◌/◌, ◌==◌, ◌<◌, Bool, List, [], map, length, filter, slice_index_or}
+use Rattle.std.specs.Prelude.{Result, Ok}
 use Rattle.std.specs.Global.{Vec}
 use Rattle.std.specs.declared.alloc.AllocError.{AllocError}
 use Rattle.std.specs.List.{concat}

@@ -1,6 +1,7 @@
 //! How many words a piece has.
 
-ghost use Rattle.std.specs.Prelude.{◌≡◌, ℕ, ◌+◌, ◌-◌, ◌*◌, ◌^◌, ◌<◌, ◌≤◌, Bool, true, List, None, is_some, length, slice_index_or};
+ghost use Rattle.std.specs.Prelude.{◌≡◌, ℕ, ◌+◌, ◌-◌, ◌*◌, ◌^◌, ◌<◌, ◌≤◌, Bool, true, List, None, is_some, length};
+ghost use Rattle.std.specs.Prelude.{slice_index_or};
 ghost use Rattle.sqz_image.specs.Objects.{object_count};
 ghost use Rattle.sqz_trace.specs.Graph.{is_marked};
 ghost use Rattle.sqz_regions.specs.Places.{live_words_below};

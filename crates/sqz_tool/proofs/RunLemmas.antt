@@ -65,7 +65,8 @@ module _ (census : Bool) (from to : SourceState) (old new : Sinks) where
 
     module _ (file : List ℕ) where
       -- memory was refused once a file with a sound header was read
-      refuses_memory : new ≡ old → ReadsWhole from to file → fault ≡ OutOfMemory → file_fault file ≡ None → Refuses census from to old new fault
+      refuses_memory : new ≡ old → ReadsWhole from to file → fault ≡ OutOfMemory → file_fault file ≡ None
+          → Refuses census from to old new fault
       refuses_memory untouched read memory sound =
           subst (Refuses census from to old new) (sym memory)
           (record { front = file; taken = read.bytes; cause = inr (read, sound); untouched = untouched })
@@ -87,7 +88,13 @@ module _ (census : Bool) (from to : SourceState) (old new : Sinks) where
           → (fault ≡ OutOfMemory) ⊎ HasDefectIn image fault → Refuses census from to old new fault
       refuses_image image untouched read holds (inl memory) = refuses_memory untouched read memory holds.parts.sound
       refuses_image image untouched read holds (inr defect) =
-          let has : HasDefect file fault = record { image = image; marks = defect.marks; holds = holds; reachable = defect.reachable; defect = defect.defect } in
+          let has : HasDefect file fault = record {
+            image = image;
+            marks = defect.marks;
+            holds = holds;
+            reachable = defect.reachable;
+            defect = defect.defect;
+          } in
           refuses_for untouched read (inr has)
 
 -- ---- an image that was compacted

@@ -8,17 +8,22 @@ use Rattle.sqz_object.proofs.PartitionLemmas.{IsStuck-unique, IsStuck-no_partiti
 use Rattle.sqz_image.specs.declared.fault.Fault.{Fault}
 use Rattle.sqz_image.specs.Objects.{SavedImage, find}
 use Rattle.sqz_image.specs.File.{data_of}
-use Rattle.sqz_image.specs.Refusals.{file_fault, refusal_of, HasChunks, Holds, HasNoPartition, HasUnreadableChunk, LacksSpecialObjects, IsUnreadable}
+use Rattle.sqz_image.specs.Refusals.{file_fault, refusal_of, HasChunks, Holds, HasNoPartition, HasUnreadableChunk}
+use Rattle.sqz_image.specs.Refusals.{LacksSpecialObjects, IsUnreadable}
 use Rattle.sqz_image.proofs.HoldsLemmas.{HasChunks-unique, Holds-unique}
 use Rattle.sqz_trace.specs.Reachability.{IsReachability}
 use Rattle.sqz_trace.specs.Defects.{first_defect}
 use Rattle.sqz_trace.proofs.ReachabilityLemmas.{IsReachability-unique}
 use Rattle.sqz_tool.specs.Verdict.{IsAccepted, HasDefect, IsRefused}
 
-pub IsAccepted-unique : (file : List ℕ) (one other : SavedImage) (marks flags : List Bool) → IsAccepted file one marks → IsAccepted file other flags → (one ≡ other) × (marks ≡ flags)
+pub IsAccepted-unique : (file : List ℕ) (one other : SavedImage) (marks flags : List Bool) → IsAccepted file one marks
+    → IsAccepted file other flags → (one ≡ other) × (marks ≡ flags)
 IsAccepted-unique file one other marks flags p q =
-    let same = Holds-unique file one other p.holds q.holds in
-    (same, IsReachability-unique other.memory marks flags (subst (λ (i : SavedImage). IsReachability i.memory marks) same p.reachable) q.reachable)
+    let same = Holds-unique file one other p.holds q.holds in (
+      same,
+      IsReachability-unique other.memory marks flags
+          (subst (λ (i : SavedImage). IsReachability i.memory marks) same p.reachable) q.reachable,
+    )
 
 module _ (file : List ℕ) where
   -- ---- what a file that holds chunks is not refused for
@@ -38,7 +43,8 @@ module _ (file : List ℕ) where
   has_special : (image : SavedImage) (fault : Fault) → Holds file image → LacksSpecialObjects file fault → ⊥
   has_special image fault holds lacks =
       let same : lacks.image ≡ image = HasChunks-unique file lacks.image image lacks.parts holds.parts in
-      let missing : find image.memory image.memory.special ≡ None = ap (λ (i : SavedImage). find i.memory i.memory.special) (sym same) ∙ lacks.missing in
+      let missing : find image.memory image.memory.special ≡ None =
+      ap (λ (i : SavedImage). find i.memory i.memory.special) (sym same) ∙ lacks.missing in
       false≢true (sym (ap is_some missing) ∙ holds.special)
 
   -- an image that it holds is not refused before its objects are looked at
@@ -58,13 +64,16 @@ module _ (file : List ℕ) where
       let first = p.unreadable in
       let second = subst (λ (o : Order). HasNoPartition (data_of o file) other) same q.unreadable in
       first.refused
-      ∙ same_refusal first.word second.word first.reason second.reason (IsStuck-unique (data_of p.order file) first.word second.word first.reason second.reason first.stuck second.stuck)
+      ∙ same_refusal first.word second.word first.reason second.reason
+      (IsStuck-unique (data_of p.order file) first.word second.word first.reason second.reason
+      first.stuck second.stuck)
       ∙ sym second.refused
 
   HasDefect-unique : (one other : Fault) → HasDefect file one → HasDefect file other → one ≡ other
   HasDefect-unique one other p q =
       let same : p.image ≡ q.image = Holds-unique file p.image q.image p.holds q.holds in
-      let marks : p.marks ≡ q.marks = IsReachability-unique q.image.memory p.marks q.marks (subst (λ (i : SavedImage). IsReachability i.memory p.marks) same p.reachable) q.reachable in
+      let marks : p.marks ≡ q.marks = IsReachability-unique q.image.memory p.marks q.marks
+      (subst (λ (i : SavedImage). IsReachability i.memory p.marks) same p.reachable) q.reachable in
       same_Some one other
       (sym p.defect ∙ ap (λ (i : SavedImage). first_defect i.memory p.marks) same ∙ ap (first_defect q.image.memory) marks ∙ q.defect)
 
@@ -87,9 +96,12 @@ module _ (file : List ℕ) where
   IsRefused-unique one other (inr p) (inr q) = HasDefect-unique one other p q
 
   -- and none where it is accepted
-  pub IsRefused-not_accepted : (fault : Fault) (image : SavedImage) (marks : List Bool) → IsRefused file fault → IsAccepted file image marks → ⊥
+  pub IsRefused-not_accepted : (fault : Fault) (image : SavedImage) (marks : List Bool) → IsRefused file fault
+      → IsAccepted file image marks → ⊥
   IsRefused-not_accepted fault image marks (inl p) accepted = Holds-readable image fault accepted.holds p
   IsRefused-not_accepted fault image marks (inr p) accepted =
       let same : image ≡ p.image = Holds-unique file image p.image accepted.holds p.holds in
-      let one : marks ≡ p.marks = IsReachability-unique p.image.memory marks p.marks (subst (λ (i : SavedImage). IsReachability i.memory marks) same accepted.reachable) p.reachable in
-      none-some fault (sym accepted.sound ∙ ap (λ (i : SavedImage). first_defect i.memory marks) same ∙ ap (first_defect p.image.memory) one ∙ p.defect)
+      let one : marks ≡ p.marks = IsReachability-unique p.image.memory marks p.marks
+      (subst (λ (i : SavedImage). IsReachability i.memory marks) same accepted.reachable) p.reachable in
+      none-some fault (sym accepted.sound ∙ ap (λ (i : SavedImage). first_defect i.memory marks) same
+      ∙ ap (first_defect p.image.memory) one ∙ p.defect)

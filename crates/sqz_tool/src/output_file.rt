@@ -46,7 +46,8 @@ impl<'a, T: Files> OutputFile<'a, T> {
         ensures same_writes { self.new.writes ≡ self.old.writes }
         ensures same_unflushed { self.new.unflushed ≡ self.old.unflushed }
         ensures same_state { self.new.failed ≡ self.old.failed }
-        ensures bytes { WriteAppends (known_bytes T.File.contents self.old.file) (known_bytes T.File.contents self.new.file) result from.now }
+        ensures bytes { WriteAppends (known_bytes T.File.contents self.old.file)
+            (known_bytes T.File.contents self.new.file) result from.now }
     {
         if self.file.is_none() {
             self.file = Some(File::create(self.rt, self.path)?);
@@ -74,7 +75,12 @@ impl<'a, T: Files> OutputFile<'a, T> {
 }
 
 impl<T: Files> Sink for OutputFile<'_, T> {
-    ghost state = { λ s. record { contents = known_bytes T.File.contents s.file; writes = s.writes; unflushed = s.unflushed; failed = s.failed } };
+    ghost state = { λ s. record {
+      contents = known_bytes T.File.contents s.file;
+      writes = s.writes;
+      unflushed = s.unflushed;
+      failed = s.failed;
+    } };
 
     fn write(&mut self, from: &[u8]) -> Result<usize, DeviceFault> {
         self.writes = self.writes.saturating_add(1);

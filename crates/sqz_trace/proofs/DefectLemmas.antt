@@ -11,7 +11,8 @@ use Rattle.sqz_image.specs.declared.fault.Fault.{Fault}
 use Rattle.sqz_image.specs.declared.fault.Fault.TheVariants.{NoClass, BadMethod, BadContext, BadPointer}
 use Rattle.sqz_image.proofs.NumberLemmas.{NumberAtMost, NumberAtMost-none, NumberAtMost-some, NumberAtMost-if}
 use Rattle.sqz_trace.specs.Live.{live}
-use Rattle.sqz_trace.specs.Defects.{bad_pointer, defect, first_some, first_defect, bad_slot, is_bad_value, is_bad_word, first_bad}
+use Rattle.sqz_trace.specs.Defects.{bad_pointer, defect, first_some, first_defect, bad_slot, is_bad_value, is_bad_word}
+use Rattle.sqz_trace.specs.Defects.{first_bad}
 use Rattle.sqz_trace.proofs.SlotLemmas.{field_slots-more, slot_word-field}
 
 module _ (memory : Memory) (chunk : List ℕ) where

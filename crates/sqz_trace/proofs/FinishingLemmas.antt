@@ -1,5 +1,6 @@
 -- Shades that change as an object is looked at, and the law that they keep.
-use Rattle.std.proofs.Common.{◌≡◌, ◌≢◌, ◌⊎◌, ℕ, zero, suc, ◌+◌, ◌-◌, ◌*◌, ◌<◌, ◌≤◌, Bool, true, false, List, [], ◌∷◌, ltb, length, slice_index, set, Some, refl, sym, ap, subst, ◌∙◌, arith, inl, inr}
+use Rattle.std.proofs.Common.{◌≡◌, ◌≢◌, ◌⊎◌, ℕ, zero, suc, ◌+◌, ◌-◌, ◌*◌, ◌<◌, ◌≤◌, Bool, true, false, List, [], ◌∷◌}
+use Rattle.std.proofs.Common.{ltb, length, slice_index, set, Some, refl, sym, ap, subst, ◌∙◌, arith, inl, inr}
 use Rattle.std.specs.Prelude.{replicate}
 use Rattle.std.proofs.Math.Nat.{add-mul}
 use Rattle.std.proofs.lemmas.Bool.{cases_order, cases_lt, ltb-true}
@@ -65,7 +66,8 @@ module _ (IsTarget : ℕ → Type 0) where
         sized = length-set shades found Grey;
         targets = λ index target.
             marked-by (set shades found Grey) index Grey
-            (subst (λ (i : ℕ). shade_at (set shades found Grey) i ≡ Grey) (one index target) (get_or-set_same shades found Grey White inside)) refl;
+            (subst (λ (i : ℕ). shade_at (set shades found Grey) i ≡ Grey) (one index target)
+            (get_or-set_same shades found Grey White inside)) refl;
         only = λ index. elim (cases_order index found) [
           | inl same ↦
               (let at = get_or-set_same shades found Grey White inside in
@@ -161,7 +163,8 @@ module _ (graph : Graph) where
         none_black index black =
             elim (cases_order index graph.start) [
               | inl same ↦
-                  (let lt : graph.start < length (replicate graph.count White) = omega (arith, inside, length-replicate graph.count White) in
+                  (let lt : graph.start < length (replicate graph.count White) =
+                  omega (arith, inside, length-replicate graph.count White) in
                   let grey = get_or-set_same (replicate graph.count White) graph.start Grey White lt in
                   grey-black (sym grey ∙ sym (ap (shade_at (set (replicate graph.count White) graph.start Grey)) same) ∙ black))
               | inr (inl lt) ↦ other index (λ e. absurd (omega arith)) black
@@ -171,10 +174,12 @@ module _ (graph : Graph) where
             other : (index : ℕ) → (index ≡ graph.start → ⊥)
                 → shade_at (set (replicate graph.count White) graph.start Grey) index ≡ Black → ⊥
             other index differs black =
-                white-black (sym (get_or-set_other (replicate graph.count White) graph.start index Grey White differs ∙ white graph.count index) ∙ black)
+                white-black (sym (get_or-set_other (replicate graph.count White) graph.start index Grey White differs
+                ∙ white graph.count index) ∙ black)
 
         first : marks_of (set (replicate graph.count White) graph.start Grey) ≡ set (replicate graph.count false) graph.start true
-        first = map-set has_mark (replicate graph.count White) graph.start Grey ∙ ap (λ marks. set marks graph.start true) (marks_of-replicate graph.count)
+        first = map-set has_mark (replicate graph.count White) graph.start Grey
+            ∙ ap (λ marks. set marks graph.start true) (marks_of-replicate graph.count)
 
   -- it holds after a grey object became black
   pub AreLawful-blackened : (object : ℕ) (old new : List Shade) → AreLawful graph old → shade_at old object ≡ Grey

@@ -4,7 +4,8 @@ use Rattle.std.proofs.Common.{length, slice_index, Option, Some, None, ap, ◌�
 use Rattle.std.proofs.lemmas.Bool.{lt-ltb}
 use Rattle.sqz_object.specs.Chunk.{format, fields}
 use Rattle.sqz_image.specs.declared.fault.Slot.TheVariants.{Field}
-use Rattle.sqz_trace.specs.Slots.{is_context, is_method, context_fields, method_fields, clipped, traced, slot_word, field_slots}
+use Rattle.sqz_trace.specs.Slots.{is_context, is_method, context_fields, method_fields, clipped, traced, slot_word}
+use Rattle.sqz_trace.specs.Slots.{field_slots}
 
 -- a clipped number is no more than there are
 clipped-le : (stated : Option ℕ) (count : ℕ) → clipped stated count ≤ count

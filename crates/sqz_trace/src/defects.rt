@@ -4,7 +4,8 @@ ghost use Rattle.std.specs.Prelude.{◌≡◌, ◌<◌};
 ghost use Rattle.sqz_object.specs.Value.{value_of};
 ghost use Rattle.sqz_image.specs.Objects.{object_count, object_at};
 ghost use Rattle.sqz_trace.specs.Slots.{traced, field_slots};
-ghost use Rattle.sqz_trace.specs.Defects.{lacks_class, states_too_many, is_bad_method, is_bad_context, is_bad_value, first_bad, bad_slot, defect};
+ghost use Rattle.sqz_trace.specs.Defects.{lacks_class, states_too_many, is_bad_method, is_bad_context, is_bad_value};
+ghost use Rattle.sqz_trace.specs.Defects.{first_bad, bad_slot, defect};
 
 use crate::contexts::{context_fields, is_context};
 use crate::methods::{is_method, method_fields};

@@ -1,7 +1,8 @@
 use Rattle.std.proofs.Common.{◌≡◌, ℕ, ◌/◌, length, slice_index, subst, ◌∙◌, arith}
 use Rattle.std.proofs.lemmas.List.{get_or_read}
 use Rattle.sqz_image.specs.Ranks.{IsRanked}
-use Rattle.sqz_image.proofs.RankLemmas.{IsAbove, IsAwaiting, IsFilled-empty, IsFilled-or, IsAwaiting-longer, IsAwaiting-filled}
+use Rattle.sqz_image.proofs.RankLemmas.{IsAbove, IsAwaiting, IsFilled-empty, IsFilled-or, IsAwaiting-longer}
+use Rattle.sqz_image.proofs.RankLemmas.{IsAwaiting-filled}
 use Rattle.sqz_image.proofs.ranks.ranked.Goals as goal
 use Rattle.sqz_image.proofs.ranks.ranked.Goals.{then-len-block+in_ok-resize, else-len-block}
 

@@ -11,13 +11,16 @@ use Rattle.sqz_image.proofs.reading.read_image.Goals.{In_ok-words}
 words_are : (c : In_ok-words) → c.in_ok-words.words.items ≡ data_of c.in_ok-header.header.order c.args.bytes.now
 words_are c =
     let header = c.in_ok-header in
-    c.in_ok-words.ensures ∙ ap (λ (bytes : List ℕ). words_of header.header.order (take (data_size header.header.words) bytes)) (take_rest c.args.bytes.now header_size)
+    c.in_ok-words.ensures
+    ∙ ap (λ (bytes : List ℕ). words_of header.header.order (take (data_size header.header.words) bytes))
+    (take_rest c.args.bytes.now header_size)
     ∙ data_is c.args.bytes.now header.header.words header.header.order header.ensures.sound header.ensures.order header.ensures.words
 
 bounds : (c : In_ok-words) → HasBounds (data_of c.in_ok-header.header.order c.args.bytes.now) (base_address c.in_ok-header.header.words)
 bounds c =
     let header = c.in_ok-header in
-    data_bounds c.args.bytes.now header.header.words header.header.order header.ensures.sound header.ensures.order header.ensures.words (λ i. omega (arith, c.type_inv.bytes i))
+    data_bounds c.args.bytes.now header.header.words header.header.order header.ensures.sound header.ensures.order
+    header.ensures.words (λ i. omega (arith, c.type_inv.bytes i))
 
 pub of-requires-clause-few : goal.of-requires-clause-few
 of-requires-clause-few c = rw (words_are c) (bounds c).few
@@ -30,11 +33,13 @@ returns-in_err-heap-clause-refused c =
     let header = c.in_ok-header in
     let from = c.from_residual-in_err-heap in
     let p = err_from_is_err_and from.result from.ensures.1 in
-    rw (p.1, p.2) (refused-memory c.args.bytes.now header.header.words header.header.order header.ensures.sound header.ensures.order header.ensures.words c.in_err-heap.field-0.0
+    rw (p.1, p.2) (refused-memory c.args.bytes.now header.header.words header.header.order header.ensures.sound
+    header.ensures.order header.ensures.words c.in_err-heap.field-0.0
     (rw (words_are (goal.at.returns-in_err-heap-clause-refused c).In_ok-words) at c.in_err-heap.ensures.refused))
 
 pub returns-clause-image : goal.returns-clause-image
 returns-clause-image c =
     let header = c.in_ok-header in
-    Holds-memory c.args.bytes.now header.header.words header.header.order header.ensures.sound header.ensures.order header.ensures.words c.new.result c.new.ensures.header
+    Holds-memory c.args.bytes.now header.header.words header.header.order header.ensures.sound header.ensures.order
+    header.ensures.words c.new.result c.new.ensures.header
     (rw (c.new.ensures.heap, ← words_are (goal.at.returns-clause-image c).In_ok-words) c.in_ok-heap.ensures.heap)

@@ -7,7 +7,8 @@ abbrev pub invariant-loop-rest : goal.invariant-loop-rest
 invariant-loop-rest g l =
     record {
       room : length l.block ≡ 65536;
-      sending : IsSending (g.W.Sink.state l.initial.sink) (g.W.Sink.state l.sink) (spelling_of l.order l.words) (spelling_of l.order l.rest) l.initial.turns l.turns;
+      sending : IsSending (g.W.Sink.state l.initial.sink) (g.W.Sink.state l.sink) (spelling_of l.order l.words)
+          (spelling_of l.order l.rest) l.initial.turns l.turns;
     }
 
 abbrev pub decreases-loop-rest : goal.decreases-loop-rest

@@ -17,12 +17,15 @@ pub returns-in_err-send_words-2-clause-stopped : goal.returns-in_err-send_words-
 returns-in_err-send_words-2-clause-stopped g c =
     let from = c.from_residual-in_err-send_words-2 in
     let p = err_from_is_err_and from.result from.ensures.1 in
-    let parts = spelling_of-words_in c.args.order c.args.pieces.now c.loop-piece.piece-index _ _ c.loop-piece-test.true c.piece-item.is c.deref.ensures.value in
-    rw (p.1, p.2) (WriteStops-sent _ _ _ _ (SendStops-more _ _ _ _ _ _ c.loop-piece.invariant.sending _ _ _ parts _ c.in_err-send_words-2.ensures.stopped))
+    let parts = spelling_of-words_in c.args.order c.args.pieces.now c.loop-piece.piece-index _ _ c.loop-piece-test.true
+    c.piece-item.is c.deref.ensures.value in
+    rw (p.1, p.2) (WriteStops-sent _ _ _ _ (SendStops-more _ _ _ _ _ _ c.loop-piece.invariant.sending _ _ _ parts _
+    c.in_err-send_words-2.ensures.stopped))
 
 pub loop-piece-preserved : goal.loop-piece-preserved
 loop-piece-preserved g c =
-    let parts = spelling_of-words_in c.args.order c.args.pieces.now c.loop-piece.piece-index _ _ c.loop-piece-test.true c.piece-item.is c.deref.ensures.value in
+    let parts = spelling_of-words_in c.args.order c.args.pieces.now c.loop-piece.piece-index _ _ c.loop-piece-test.true
+    c.piece-item.is c.deref.ensures.value in
     record {
       room = omega arith;
       sending = IsSending-more _ _ _ _ _ _ c.loop-piece.invariant.sending _ _ _ parts _ c.in_ok-send_words-2.ensures.whole;

@@ -3,7 +3,8 @@ use Rattle.std.proofs.lemmas.List.{take_rest, length-drop}
 use Rattle.sqz_object.specs.Reading.{BeginsWith, HasNoChunk}
 use Rattle.sqz_object.specs.declared.chunk.Chunk.{Chunk}
 use Rattle.sqz_object.specs.declared.chunk.ChunkFault.TheVariants.{ZeroSize, HeaderMismatch, Overrun}
-use Rattle.sqz_object.proofs.ChunkLemmas.{HasNoChunk-mixed_header, HasNoChunk-zero_size, HasNoChunk-overrun, BeginsWith-stated}
+use Rattle.sqz_object.proofs.ChunkLemmas.{HasNoChunk-mixed_header, HasNoChunk-zero_size, HasNoChunk-overrun}
+use Rattle.sqz_object.proofs.ChunkLemmas.{BeginsWith-stated}
 use Rattle.sqz_object.proofs.chunk.chunk_at.Goals as goal
 
 -- the words from a place on, as the slice has them

@@ -27,7 +27,8 @@ loop-index-preserved c marks places =
       objects_before-le c.args.regions.now.cut c.args.regions.now.memory (c.args.region + 1),
     ) in
     let below = moved_below memory marks c.objects-from.result.0 in
-    let test = is_marked-place memory marks c.args.forward.now index places lt ∙ sym (ap is_some c.place.ensures.place) ∙ sym c.is_some.ensures in
+    let test = is_marked-place memory marks c.args.forward.now index places lt ∙ sym (ap is_some c.place.ensures.place)
+    ∙ sym c.is_some.ensures in
     elim c.if-is_some.branch [
       | then-is_some+in_ok-push_moved w ↦
           (let words = c.loop-index.words.items in

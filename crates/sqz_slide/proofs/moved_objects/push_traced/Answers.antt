@@ -7,6 +7,7 @@ pub loop-field-preserved : goal.loop-field-preserved
 loop-field-preserved c marks places =
     c.in_ok-push.ensures.items
     ∙ ap (λ (xs : List ℕ). xs ++ c.moved_field.result ∷ []) (c.loop-field.invariant marks places)
-    ∙ map_one_more (moved_field c.args.heap.now marks) c.args.words.now.items c.args.fields.now c.loop-field.field-index c.moved_field.result
+    ∙ map_one_more (moved_field c.args.heap.now marks) c.args.words.now.items c.args.fields.now
+    c.loop-field.field-index c.moved_field.result
     (omega arith)
     (c.moved_field.ensures.moved marks places)

@@ -8,7 +8,8 @@ use Rattle.sqz_slide.specs.ClassWord.{is_class_word}
 use Rattle.sqz_slide.specs.Moved.{moved_field}
 use Rattle.sqz_slide.proofs.MovedLemmas.{moved-traced_word, moved-untraced_word, moved-other_word}
 use Rattle.sqz_slide.proofs.moved_words.moved_word.Goals as goal
-use Rattle.sqz_slide.proofs.moved_words.moved_word.Goals.{else-k-before-via-then-k-before+else-k-before-2, else-k-before-via-else-k-before}
+use Rattle.sqz_slide.proofs.moved_words.moved_word.Goals.{else-k-before-via-then-k-before+else-k-before-2}
+use Rattle.sqz_slide.proofs.moved_words.moved_word.Goals.{else-k-before-via-else-k-before}
 
 pub returns-then-k-before-2 : goal.returns-then-k-before-2
 returns-then-k-before-2 c marks places =
@@ -25,7 +26,8 @@ returns-then-k-before-2 c marks places =
     let traced = rw same at c.traced_fields.ensures.traced in
     c.moved_field.ensures.moved marks places
     ∙ ap (λ (words : List ℕ). moved_field memory marks (slice_index words k)) (c.words.ensures ∙ same)
-    ∙ sym (moved-traced_word memory marks chunk k headed (omega (arith, before_is, c.if-k-before.true)) (omega (arith, before_is, traced, c.if-k-before-2.true)))
+    ∙ sym (moved-traced_word memory marks chunk k headed (omega (arith, before_is, c.if-k-before.true))
+    (omega (arith, before_is, traced, c.if-k-before-2.true)))
 
 pub returns-else-k-before : goal.returns-else-k-before
 returns-else-k-before c marks places =
@@ -47,7 +49,8 @@ returns-else-k-before c marks places =
     ∙ (elim c.else-k-before.branch [
       | else-k-before-via-then-k-before+else-k-before-2 w ↦
           (let traced = rw same at w.traced_fields.ensures.traced in
-          sym (moved-untraced_word memory marks chunk k headed (omega (arith, before_is, w.if-k-before.true)) (omega (arith, before_is, traced, w.if-k-before-2.false))))
+          sym (moved-untraced_word memory marks chunk k headed (omega (arith, before_is, w.if-k-before.true))
+          (omega (arith, before_is, traced, w.if-k-before-2.false))))
       | else-k-before-via-else-k-before w ↦
           sym (moved-other_word memory marks chunk k headed no_class (omega (arith, before_is, w.if-k-before.false)))
     ])

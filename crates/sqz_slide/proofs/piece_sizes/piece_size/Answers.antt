@@ -11,8 +11,10 @@ returns-then-first-end c marks places =
     let memory = c.args.heap.now in
     let front = c.first_live-first in
     let back = c.end_of_live-end in
-    let before = dead_between memory marks c.args.forward.now places c.args.from front.result front.ensures.low (omega arith) front.ensures.none in
-    let behind = dead_between memory marks c.args.forward.now places back.result c.args.to back.ensures.high c.requires.inside back.ensures.none in
+    let before = dead_between memory marks c.args.forward.now places c.args.from front.result front.ensures.low
+    (omega arith) front.ensures.none in
+    let behind = dead_between memory marks c.args.forward.now places back.result c.args.to back.ensures.high
+    c.requires.inside back.ensures.none in
     let same : front.result ≡ back.result = c.if-first-end.true in
     omega (arith, before, rw same at before, behind)
 

@@ -25,7 +25,11 @@ loop-share-preserved c regions marks shares =
     let turn = YieldsList-turn road c.loop-share.yielded c.loop-share.share-iterator c.loop-share.yielded_by
     c.next.result c.next.new.self c.in-Some.share c.in-Some.is c.next.ensures.steps in
     let is = subst (λ (answer : Result (Vec (Vec ℕ)) AllocError). answer ≡ get_or all worker answer) c.in_ok-share.was turn.1 in
-    rw (c.in_ok-append.ensures.items, map-append (λ piece. piece.items) c.loop-share.pieces.items share.items, length_push c.loop-share.yielded c.in-Some.share)
+    rw (
+      c.in_ok-append.ensures.items,
+      map-append (λ piece. piece.items) c.loop-share.pieces.items share.items,
+      length_push c.loop-share.yielded c.in-Some.share,
+    )
     (pieces_joined regions marks 0 _ _ _ _ (c.loop-share.invariant regions marks shares) (shares worker share turn.0 is))
 
 pub returns : goal.returns

@@ -6,13 +6,15 @@ use Rattle.sqz_tool.proofs.running.run.Goals as goal
 pub returns-in_err-image-clause-refuses : goal.returns-in_err-image-clause-refuses
 returns-in_err-image-clause-refuses g c =
     let p = err_from_is_err_and c.from_residual-in_err-image.result c.from_residual-in_err-image.ensures.1 in
-    rw (p.1, p.2) (refuses_file _ _ _ _ _ _ c.in_ok-bytes.bytes.items refl c.in_ok-bytes.ensures.whole (rw c.deref.ensures.value at c.in_err-image.ensures.refused))
+    rw (p.1, p.2) (refuses_file _ _ _ _ _ _ c.in_ok-bytes.bytes.items refl c.in_ok-bytes.ensures.whole
+    (rw c.deref.ensures.value at c.in_err-image.ensures.refused))
 
 pub returns-in_err-compaction-clause-refuses : goal.returns-in_err-compaction-clause-refuses
 returns-in_err-compaction-clause-refuses g c =
     let p = err_from_is_err_and c.from_residual-in_err-compaction.result c.from_residual-in_err-compaction.ensures.1 in
     let holds = rw c.deref.ensures.value at c.in_ok-image.ensures.image in
-    rw (p.1, p.2) (refuses_image _ _ _ _ _ _ c.in_ok-bytes.bytes.items c.in_ok-image.image refl c.in_ok-bytes.ensures.whole holds c.in_err-compaction.ensures.refused)
+    rw (p.1, p.2) (refuses_image _ _ _ _ _ _ c.in_ok-bytes.bytes.items c.in_ok-image.image refl
+    c.in_ok-bytes.ensures.whole holds c.in_err-compaction.ensures.refused)
 
 pub returns-in_err-write_all-clause-refuses : goal.returns-in_err-write_all-clause-refuses
 returns-in_err-write_all-clause-refuses g c =

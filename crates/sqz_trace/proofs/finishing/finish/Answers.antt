@@ -7,7 +7,8 @@ use Rattle.sqz_trace.specs.Edges.{HasEdge}
 use Rattle.sqz_trace.specs.Reachability.{graph_from}
 use Rattle.sqz_trace.specs.Shades.{shade_at}
 use Rattle.sqz_trace.proofs.MarkingLemmas.{whole_slice}
-use Rattle.sqz_trace.proofs.FinishingLemmas.{grey-black, AreLawful-blackened, MarksReachable-finished, none_grey, unfinished_count, unfinished-blackened, less_to_do}
+use Rattle.sqz_trace.proofs.FinishingLemmas.{grey-black, AreLawful-blackened, MarksReachable-finished, none_grey}
+use Rattle.sqz_trace.proofs.FinishingLemmas.{unfinished_count, unfinished-blackened, less_to_do}
 use Rattle.sqz_trace.proofs.finishing.finish.Goals as goal
 
 pub loop-object-smaller-in-Grey : goal.loop-object-smaller-in-Grey

@@ -1,7 +1,8 @@
 use Rattle.std.proofs.Common.{sym, ap, ◌∙◌}
 use Rattle.std.specs.Prelude.{is_some}
 use Rattle.sqz_trace.specs.Ranges.{defect_at}
-use Rattle.sqz_trace.proofs.FirstDefectLemmas.{first_between-found, first_between-next, defect_at-marked, defect_at-unmarked, none_found}
+use Rattle.sqz_trace.proofs.FirstDefectLemmas.{first_between-found, first_between-next, defect_at-marked}
+use Rattle.sqz_trace.proofs.FirstDefectLemmas.{defect_at-unmarked, none_found}
 use Rattle.sqz_trace.proofs.lowest_defect.defect_in.Goals as goal
 use Rattle.sqz_trace.proofs.lowest_defect.defect_in.Goals.{then-has+else-is_some, else-has}
 

@@ -11,7 +11,9 @@ pub returns-in_ok-push : goal.returns-in_ok-push
 returns-in_ok-push c =
     let named = sym c.in-Some.ensures.named in
     let size = length-map c.args.shades.now has_mark in
-    let new : is_marked (marks_of c.args.shades.now) c.in-Some.found ≡ false = is_marked-shade c.args.shades.now c.in-Some.found ∙ sym c.has_mark.ensures ∙ c.if-not-has_mark.true in
+    let new : is_marked (marks_of c.args.shades.now) c.in-Some.found ≡ false =
+    is_marked-shade c.args.shades.now c.in-Some.found ∙ sym c.has_mark.ensures ∙ c.if-not-has_mark.true in
     rw (c.in_ok-push.ensures.items, map-set)
-    (MarksTargets-one _ (marks_of c.args.shades.now) c.args.worklist.now.items c.in-Some.found (omega (arith, size, c.in-Some.ensures.inside, c.requires))
+    (MarksTargets-one _ (marks_of c.args.shades.now) c.args.worklist.now.items c.in-Some.found
+    (omega (arith, size, c.in-Some.ensures.inside, c.requires))
     new named (λ index names. same_Some _ _ (sym named ∙ names)))

@@ -52,5 +52,6 @@ returns-clause-reachable c =
     (record {
       start = c.special.result;
       is_special = c.special.ensures.special;
-      reached = MarksReachable-from_marking graph (marks_of c.loop-object.shades.items) (rw none at (c.loop-object.invariant c.special.result c.special.ensures.special));
+      reached = MarksReachable-from_marking graph (marks_of c.loop-object.shades.items)
+          (rw none at (c.loop-object.invariant c.special.result c.special.ensures.special));
     })

@@ -7,4 +7,5 @@ place_at-requires c = rw c.deref.ensures.value (table_of c.self.invariant.listed
 
 pub returns : goal.returns
 returns c =
-    rw (sym c.self.view_is) (find_in_table c.self.invariant.listed c.args.address c.place_at.result c.self.invariant.headers (rw c.deref.ensures.value at c.place_at.ensures))
+    rw (sym c.self.view_is) (find_in_table c.self.invariant.listed c.args.address c.place_at.result
+    c.self.invariant.headers (rw c.deref.ensures.value at c.place_at.ensures))

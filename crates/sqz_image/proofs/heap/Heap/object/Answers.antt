@@ -14,10 +14,13 @@ pub new-requires-clause-described : goal.new-requires-clause-described
 new-requires-clause-described c =
     let here = has_object (listed_is c.self.view_is c.self.invariant) c.args.object c.requires in
     let size = ap (λ (chunk : Chunk). chunk.length) c.chunk-header.ensures.described in
-    rw c.deref.ensures.value (c.chunk-header.ensures.described ∙ ap description (sym (words_there here c.first-first.result c.chunk-header.result.length c.first-first.ensures.first size)))
+    rw c.deref.ensures.value (c.chunk-header.ensures.described
+    ∙ ap description (sym (words_there here c.first-first.result c.chunk-header.result.length
+    c.first-first.ensures.first size)))
 
 pub returns : goal.returns
 returns c =
     let here = has_object (listed_is c.self.view_is c.self.invariant) c.args.object c.requires in
     let size = ap (λ (chunk : Chunk). chunk.length) c.chunk-header.ensures.described in
-    c.new.ensures ∙ rw c.deref.ensures.value (words_there here c.first-first.result c.chunk-header.result.length c.first-first.ensures.first size)
+    c.new.ensures ∙ rw c.deref.ensures.value (words_there here c.first-first.result c.chunk-header.result.length
+    c.first-first.ensures.first size)

@@ -13,7 +13,16 @@ invariant_of-result g c =
     let sized = c.in_ok-shades.ensures.lawful.lawful.sized in
     let whites = rw (← first.are) at white in (
       subst (λ (memory : Memory). AreLawfulOf memory c.in_ok-shades.shades.items) c.requires c.in_ok-shades.ensures.lawful,
-      rw (c.in_ok-push.ensures.items, c.in_ok-list.ensures.items) (omega (arith, whites, sized, c.in_ok-shades.shades.ok.0, c.len.ensures, c.in_ok-list.ensures.capacity, c.in_ok-push.ensures.capacity)),
+      rw (c.in_ok-push.ensures.items, c.in_ok-list.ensures.items)
+          (omega (
+            arith,
+            whites,
+            sized,
+            c.in_ok-shades.shades.ok.0,
+            c.len.ensures,
+            c.in_ok-list.ensures.capacity,
+            c.in_ok-push.ensures.capacity,
+          )),
     )
 
 pub returns-clause-begun : goal.returns-clause-begun
