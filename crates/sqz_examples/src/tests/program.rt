@@ -1,5 +1,7 @@
 //! The program, over files.
 
+ghost use Rattle.std.specs.Prelude.{◌<◌, length};
+
 use super::files::file_of;
 use sqz_image::MemorySink;
 use sqz_object::Order;
@@ -103,21 +105,77 @@ fn compacts_in_place(rt: HostRuntime) -> Result<(), Fail> {
 }
 
 #[test]
-fn refuses_and_makes_nothing(rt: HostRuntime) -> Result<(), Fail> {
-    let mut image = file_of(rt.alloc(), Order::Little, 0x1000, &WHOLE, 0x1010)?;
-    image.truncate(87);
-    File::create(&rt, "cut.image")?.write_all(&image)?;
-    let line = "fault 6: data are truncated\n";
-    assert_makes_nothing(&rt, "cut.image", "none.image", 1, line)
+fn refuses_headers(rt: HostRuntime) -> Result<(), Fail> {
+    let whole = file_of(rt.alloc(), Order::Little, 0x1000, &WHOLE, 0x1010)?;
+    let some = [
+        (0, 0x68, "fault 2: version is not 6502\n"),
+        (4, 68, "fault 3: header size is not 64\n"),
+        (8, 22, "fault 4: data size is not a multiple of 4\n"),
+        (12, 2, "fault 5: base address is not valid\n"),
+    ];
+    for (at, byte, line) in some {
+        let mut file = Vec::from_slice(rt.alloc(), &whole)?;
+        assert!(rt; at < file.len());
+        file[at] = byte;
+        File::create(&rt, "header.image")?.write_all(&file)?;
+        assert_makes_nothing(&rt, "header.image", "none.image", 1, line)?;
+    }
+    Ok(())
 }
 
 #[test]
-fn refuses_a_bad_pointer(rt: HostRuntime) -> Result<(), Fail> {
-    let words = [0x1007, 0x320B, 0x1002];
-    let image = file_of(rt.alloc(), Order::Little, 0x1000, &words, 0x1004)?;
-    File::create(&rt, "bad_pointer.image")?.write_all(&image)?;
+fn refuses_files_that_end_early(rt: HostRuntime) -> Result<(), Fail> {
+    let some = [
+        (63, "fault 1: image is shorter than its header\n"),
+        (87, "fault 6: data are truncated\n"),
+    ];
+    for (len, line) in some {
+        let mut file = file_of(rt.alloc(), Order::Little, 0x1000, &WHOLE, 0x1010)?;
+        file.truncate(len);
+        File::create(&rt, "cut.image")?.write_all(&file)?;
+        assert_makes_nothing(&rt, "cut.image", "none.image", 1, line)?;
+    }
+    Ok(())
+}
+
+/// Asserts that the program refuses the image with these words with this line, and makes no file.
+fn assert_refuses_words<R: Threads + Wait + Sync + Abort + AllocGlobal + Files>(
+    rt: &R,
+    words: &[u32],
+    special: u32,
+    line: &str,
+) -> Result<(), Fail>
+    requires { length words.now < 1000 }
+{
+    let file = file_of(rt.alloc(), Order::Little, 0x1000, words, special)?;
+    File::create(rt, "words.image")?.write_all(&file)?;
+    assert_makes_nothing(rt, "words.image", "none.image", 1, line)
+}
+
+#[test]
+fn refuses_words(rt: HostRuntime) -> Result<(), Fail> {
+    let line = "fault 7: size 0 at word 1\n";
+    assert_refuses_words(&rt, &[0x1007, 0x3203], 0x1000, line)?;
+    let line = "fault 8: header words disagree at word 1\n";
+    assert_refuses_words(&rt, &[0x1007, 0x11, 0x1000, 0x109, 1], 0x1000, line)?;
+    let line = "fault 9: chunk runs past the end at word 1\n";
+    assert_refuses_words(&rt, &[0x1007, 0x320F, 1], 0x1000, line)?;
+    let line = "fault 10: special objects array not found\n";
+    assert_refuses_words(&rt, &[0x3207], 0x1004, line)
+}
+
+#[test]
+fn refuses_objects(rt: HostRuntime) -> Result<(), Fail> {
+    let line = "fault 11: no class for object 0000100c\n";
+    assert_refuses_words(&rt, &[0x1007, 0x320B, 0x100C, 0x10B, 1], 0x1004, line)?;
+    let line = "fault 12: bad method 00001004\n";
+    let method = [0x1007, 0x5C0B, 0x1000, 0x320F, 0x1000, 0x1004];
+    assert_refuses_words(&rt, &method, 0x100C, line)?;
+    let line = "fault 13: bad context 00001004\n";
+    let context = [0x1007, 0xD30B, 1, 0x320F, 0x1000, 0x1004];
+    assert_refuses_words(&rt, &context, 0x100C, line)?;
     let line = "fault 14: bad pointer in object 00001004, field 0\n";
-    assert_makes_nothing(&rt, "bad_pointer.image", "none.image", 1, line)
+    assert_refuses_words(&rt, &[0x1007, 0x320B, 0x1002], 0x1004, line)
 }
 
 #[test]
