@@ -23,8 +23,7 @@ abbrev pub IsOrdered : {A : Type 0} → (A → A → Type 0) → List A → Type
 IsOrdered {A} IsBefore xs =
     (i j : ℕ) (d : A) → i < j → j < length xs → IsBefore (slice_index_or xs i d) (slice_index_or xs j d)
 
-module _ {A : Type 0} (IsBefore : A → A → Type 0) (never_itself : (x : A) → IsBefore x x → ⊥)
-    (joins : (x y z : A) → IsBefore x y → IsBefore y z → IsBefore x z) where
+module _ {A : Type 0} (IsBefore : A → A → Type 0) where
   -- the first element is before each of the others
   pub first_before : (x : A) (xs : List A) (y : A) → IsOrdered IsBefore (x ∷ xs) → Contains xs y → IsBefore x y
   first_before x xs y ordered (k, within, is) = subst (IsBefore x) is (ordered 0 (suc k) y (omega arith) (omega arith))
@@ -32,6 +31,8 @@ module _ {A : Type 0} (IsBefore : A → A → Type 0) (never_itself : (x : A) �
   pub IsOrdered-tail : (x : A) (xs : List A) → IsOrdered IsBefore (x ∷ xs) → IsOrdered IsBefore xs
   IsOrdered-tail x xs ordered i j d below within = ordered (suc i) (suc j) d (omega arith) (omega arith)
 
+module _ {A : Type 0} (IsBefore : A → A → Type 0) (never_itself : (x : A) → IsBefore x x → ⊥)
+    (joins : (x y z : A) → IsBefore x y → IsBefore y z → IsBefore x z) where
   -- two lists with the same elements begin with the same one
   same_first : (x : A) (xs : List A) (y : A) (ys : List A) → IsOrdered IsBefore (x ∷ xs) → IsOrdered IsBefore (y ∷ ys)
       → Contains (y ∷ ys) x → Contains (x ∷ xs) y → x ≡ y
@@ -41,7 +42,7 @@ module _ {A : Type 0} (IsBefore : A → A → Type 0) (never_itself : (x : A) �
       by (inl same) at = sym same
       by (inr behind) (inl same) = same
       by (inr behind) (inr after) =
-          absurd (never_itself x (joins x y x (first_before x xs y one after) (first_before y ys x other behind)))
+          absurd (never_itself x (joins x y x (first_before IsBefore x xs y one after) (first_before IsBefore y ys x other behind)))
 
   -- the others of the one are among the others of the other
   tail_within : (x : A) (xs : List A) (y : A) (ys : List A) → IsOrdered IsBefore (x ∷ xs) → x ≡ y
@@ -49,7 +50,7 @@ module _ {A : Type 0} (IsBefore : A → A → Type 0) (never_itself : (x : A) �
   tail_within x xs y ys one same each z within = by (Contains-cons_cases y ys z (each z (Contains-tail x xs z within)))
     where
       by : (y ≡ z) ⊎ Contains ys z → Contains ys z
-      by (inl first) = absurd (never_itself z (subst (λ (w : A). IsBefore w z) (same ∙ first) (first_before x xs z one within)))
+      by (inl first) = absurd (never_itself z (subst (λ (w : A). IsBefore w z) (same ∙ first) (first_before IsBefore x xs z one within)))
       by (inr behind) = behind
 
   -- two lists in order with the same elements are one
@@ -61,7 +62,7 @@ module _ {A : Type 0} (IsBefore : A → A → Type 0) (never_itself : (x : A) �
   IsOrdered-unique (x ∷ xs) (y ∷ ys) one other each back =
       let same : x ≡ y = same_first x xs y ys one other (each x (Contains-head x xs)) (back y (Contains-head y ys)) in
       let others : xs ≡ ys =
-      IsOrdered-unique xs ys (IsOrdered-tail x xs one) (IsOrdered-tail y ys other)
+      IsOrdered-unique xs ys (IsOrdered-tail IsBefore x xs one) (IsOrdered-tail IsBefore y ys other)
       (tail_within x xs y ys one same each) (tail_within y ys x xs other (sym same) back)
       in
       cc

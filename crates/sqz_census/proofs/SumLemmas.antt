@@ -13,7 +13,7 @@ use Rattle.sqz_census.specs.Census.{CensusRow, row_of, IsCensus}
 use Rattle.sqz_census.proofs.GroupLemmas.{is_same-equal}
 use Rattle.sqz_census.proofs.OrderedLemmas.{IsOrdered, Contains-cons_cases, Contains-head, Contains-tail, Contains-nil}
 use Rattle.sqz_census.proofs.OrderedLemmas.{first_before, IsOrdered-tail}
-use Rattle.sqz_census.proofs.Uniqueness.{ComesBefore-itself, ComesBefore-joins}
+use Rattle.sqz_census.proofs.Uniqueness.{ComesBefore-itself}
 
 is_same-itself : (group : Group) → is_same group group ≡ true
 is_same-itself (Class class) = eq-eqb class class refl
@@ -50,15 +50,11 @@ module _ (memory : Memory) (marks : List Bool) where
       → Contains groups given → sum_by (if_same given number) groups ≡ number
   one_same given number [] ordered has = absurd (Contains-nil given has)
   one_same given number (group ∷ groups) ordered has =
-      let tail =
-      IsOrdered-tail (ComesBefore memory marks) (ComesBefore-itself memory marks) (ComesBefore-joins memory marks)
-      group groups ordered in
+      let tail = IsOrdered-tail (ComesBefore memory marks) group groups ordered in
       by (one_same given number groups tail) (Contains-cons_cases group groups given has)
     where
       before : (other : Group) → Contains groups other → ComesBefore memory marks group other
-      before other =
-          first_before (ComesBefore memory marks) (ComesBefore-itself memory marks) (ComesBefore-joins memory marks)
-          group groups other ordered
+      before other = first_before (ComesBefore memory marks) group groups other ordered
 
       apart : (other : Group) → Contains groups other → group ≡ other → ⊥
       apart other behind same =

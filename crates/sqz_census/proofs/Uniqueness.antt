@@ -34,7 +34,7 @@ module _ (memory : Memory) (marks : List Bool) where
   ComesBefore-itself group (inr (same, lower)) = is_lower-itself group lower
 
   -- and what comes before an earlier one comes before the later
-  pub ComesBefore-joins : (one two three : Group) → ComesBefore memory marks one two → ComesBefore memory marks two three
+  ComesBefore-joins : (one two three : Group) → ComesBefore memory marks one two → ComesBefore memory marks two three
       → ComesBefore memory marks one three
   ComesBefore-joins one two three (inl p) (inl q) = inl (omega arith)
   ComesBefore-joins one two three (inl p) (inr q) = inl (omega (arith, q.0))

@@ -17,8 +17,14 @@ place_text None = codes "--------"
 abbrev pub columns : ℕ → ℕ → List ℕ
 columns count bytes = right_aligned 10 count ++ codes " " ++ right_aligned 12 bytes ++ codes " "
 
+-- what the objects of a row are called: by the name of their class, and without a class by their compact index
+abbrev pub label_text : Option ℕ → ℕ → List ℕ → List ℕ
+label_text (Some place) compact name = name
+label_text None compact name = codes "compact " ++ decimal compact
+
 abbrev pub row_text : CensusRow → List ℕ
-row_text row = columns row.count row.bytes ++ place_text row.place ++ codes " " ++ row.name ++ codes "\n"
+row_text row =
+    columns row.count row.bytes ++ place_text row.place ++ codes " " ++ label_text row.place row.compact row.name ++ codes "\n"
 
 abbrev pub total_text : List CensusRow → List ℕ
 total_text rows = columns (sum_by (λ row. row.count) rows) (sum_by (λ row. row.bytes) rows) ++ codes "total\n"

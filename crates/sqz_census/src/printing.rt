@@ -3,8 +3,9 @@
 ghost use Rattle.std.specs.Prelude.{◌≡◌, ◌++◌, map, sum_by, string_bytes, IfOk, IfErr, OnOk};
 ghost use Rattle.sqz_image.specs.declared.fault.Fault.TheVariants.{OutOfMemory};
 ghost use Rattle.sqz_census.specs.Rows.{shown};
-ghost use Rattle.sqz_census.specs.Text.{census_text, columns, place_text, row_text, total_text};
+ghost use Rattle.sqz_census.specs.Text.{census_text, columns, label_text, place_text, row_text, total_text};
 
+use crate::names::compact_name;
 use crate::row::Row;
 use sqz_image::Fault;
 use std::alloc::{AllocError, Global};
@@ -13,8 +14,9 @@ use std::alloc::{AllocError, Global};
 const LINE: usize = 56;
 
 /// The text of a census: a line for each row, with the number of its objects right-aligned in 10 places, that of its
-/// bytes in 12, the new address of the class as eight lower case hexadecimal digits or dashes, and the name; and a last
-/// line with the sums. A number that needs more places takes them. Fails for want of memory alone.
+/// bytes in 12, the new address of the class as eight lower case hexadecimal digits or dashes, and the name of the class,
+/// or `compact K` by the compact index where there is no class; and a last line with the sums. A number that needs more
+/// places takes them. Fails for want of memory alone.
 pub fn print(alloc: Global, rows: &[Row]) -> Result<Vec<u8>, Fault>
     ensures text { IfOk result (λ text. text.items ≡ census_text (map shown rows.now)) }
     ensures refused { IfErr result (λ fault. fault ≡ OutOfMemory) }
@@ -36,9 +38,20 @@ fn add_row(alloc: Global, text: &mut Vec<u8>, row: &Row) -> Result<(), AllocErro
     text.extend_from_slice(columns.as_bytes())?;
     text.extend_from_slice(place.as_bytes())?;
     text.push(b' ')?;
-    text.extend_from_slice(&row.name)?;
+    add_label(alloc, text, row)?;
     text.push(b'\n')?;
     Ok(())
+}
+
+/// Adds what the objects of a row are called.
+fn add_label(alloc: Global, text: &mut Vec<u8>, row: &Row) -> Result<(), AllocError>
+    ensures { OnOk result (text.new.items ≡ text.old.items ++ label_text row.now.place row.now.compact row.now.name.items) }
+{
+    if row.place.is_some() {
+        return text.extend_from_slice(&row.name);
+    }
+    let name = compact_name(alloc, row.compact)?;
+    text.extend_from_slice(&name)
 }
 
 /// Adds the line of the sums.

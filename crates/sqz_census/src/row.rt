@@ -8,7 +8,7 @@ pub struct Row {
     /// The compact index of objects without a class; 0 for those of a class.
     pub compact: u32,
     /// The name of the class, at most 40 bytes of printable ASCII and perhaps ` class`; `compact K` for objects
-    /// without a class, with their compact index in decimal.
+    /// without a class, with their compact index in decimal. Of the latter the text is made from the index.
     pub name: Vec<u8>,
     /// How many objects these are.
     pub count: u32,
