@@ -3,3 +3,5 @@ pub mod RunLemmas
 pub mod Uniqueness
 mod ArgumentLemmas
 mod CommandLineLemmas
+pub mod FaultLineLemmas
+mod EndingLemmas

@@ -10,7 +10,7 @@ use std::alloc::{AllocError, Global};
 
 /// What the words of a command line ask for.
 #[derive(Clone, Copy)]
-pub(crate) struct Arguments<'a> {
+pub struct Arguments<'a> {
     /// The path of the image that is read.
     pub input: &'a str,
     /// The path of the image that is written.

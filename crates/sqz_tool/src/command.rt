@@ -1,19 +1,25 @@
 //! The program.
 
-ghost use Rattle.std.specs.Prelude.{◌≡◌, ◌≢◌, ◌⊎◌, ◌<◌, ◌≤◌, [], map, string_bytes, IsOk, MatchResult};
+ghost use Rattle.std.specs.Prelude.{◌≡◌, ◌≢◌, ◌⊎◌, ◌<◌, ◌≤◌, [], map, string_bytes, IfErr, IsOk, MatchResult};
 ghost use Rattle.clap.specs.Words.{fault_of, kind_of, matches_of};
+ghost use Rattle.clap.specs.declared.error.kind.ErrorKind.TheVariants as kinds;
+ghost use Rattle.sqz_image.specs.declared.fault.Fault.TheVariants.{OutOfMemory};
 ghost use Rattle.sqz_tool.specs.CommandLine.{command_line};
+ghost use Rattle.sqz_tool.specs.Endings.{AreTaken, EndsFaulty, EndsWhole};
 ghost use Rattle.sqz_tool.specs.Exits.{IsExitBy, exit_of, exit_of_kind};
+ghost use Rattle.sqz_tool.specs.Lines.{PrintsFault};
 ghost use Rattle.sqz_tool.specs.Plans.{AsksForCensus, AsksForPlan};
 
 use crate::arguments::read_arguments;
 use crate::compact_files::compact;
 use crate::exits::{BAD_ARGUMENTS, DONE, exit_of};
-use crate::printing::print;
+use crate::fault_line::fault_line;
+use crate::printing::{print, print_bytes};
 use crate::summary::Summary;
 use clap::Error;
 use clap::error::ErrorKind;
 use sqz_image::{Fault, Sink};
+use sqz_workers::OpenGate;
 use std::alloc::Global;
 use std::rt::Files;
 use std::sync::Wait;
@@ -38,17 +44,21 @@ pub fn program<T: Files + Threads + Wait + Sync, C: Sink, E: Sink>(
     ensures exits { result ≤ 4 }
     ensures refused { let kinds = fault_of command_line (map string_bytes words.now) in
         kinds ≢ [] → IsExitBy kinds result }
-    ensures taken { fault_of command_line (map string_bytes words.now) ≡ []
+    ensures taken { AreTaken (map string_bytes words.now)
         → AsksForPlan (matches_of command_line (map string_bytes words.now)) → result ≢ 2 }
-    ensures wrong { fault_of command_line (map string_bytes words.now) ≡ []
+    ensures wrong { AreTaken (map string_bytes words.now)
         → (AsksForPlan (matches_of command_line (map string_bytes words.now)) → ⊥) → (result ≡ 2) ⊎ (result ≡ 4) }
-    ensures unused { fault_of command_line (map string_bytes words.now) ≡ []
+    ensures whole { AreTaken (map string_bytes words.now) → result ≡ 0
+        → EndsWhole (map string_bytes words.now) (C.state out.old) (C.state out.new) }
+    ensures faulty { AreTaken (map string_bytes words.now) → 0 < result
+        → EndsFaulty (map string_bytes words.now) result (C.state out.old) (C.state out.new) (E.state err.old) (E.state err.new) }
+    ensures unused { AreTaken (map string_bytes words.now)
         → (AsksForCensus (matches_of command_line (map string_bytes words.now)) → ⊥) → C.state out.new ≡ C.state out.old }
     ensures silent { result ≡ 0 → err.new ≡ err.old }
     ensures quiet { 0 < result → result ≢ 3 → C.state out.new ≡ C.state out.old }
 {
     match read_arguments(alloc, words) {
-        Ok(arguments) => finish(compact(rt, alloc, &arguments, out), err),
+        Ok(arguments) => finish(compact(rt, alloc, &arguments, out, &OpenGate), err),
         Err(error) => explain(&error, out, err),
     }
 }
@@ -57,6 +67,7 @@ pub fn program<T: Files + Threads + Wait + Sync, C: Sink, E: Sink>(
 /// with.
 fn finish<E: Sink>(outcome: Result<Summary, Fault>, err: &mut E) -> u8
     ensures exit { MatchResult outcome (λ _. result ≡ 0) (λ fault. result ≡ exit_of fault) }
+    ensures line { IfErr outcome (λ fault. PrintsFault (E.state err.old) (E.state err.new) fault) }
     ensures silent { IsOk outcome → err.new ≡ err.old }
 {
     match outcome {
@@ -67,15 +78,17 @@ fn finish<E: Sink>(outcome: Result<Summary, Fault>, err: &mut E) -> u8
 
 /// Prints the line of a fault, and answers what the program is to end with.
 pub fn refuse<E: Sink>(fault: &Fault, err: &mut E) -> u8
-    ensures { result ≡ exit_of fault.now }
+    ensures exit { result ≡ exit_of fault.now }
+    ensures line { PrintsFault (E.state err.old) (E.state err.new) fault.now }
 {
-    print(err, format_args!("fault {}: {fault}\n", fault.number()));
+    print_bytes(err, fault_line(fault).as_slice());
     exit_of(fault)
 }
 
 /// Prints what is said in place of arguments, and answers what the program is to end with.
 fn explain<C: Sink, E: Sink>(error: &Error, out: &mut C, err: &mut E) -> u8
     ensures exit { result ≡ exit_of_kind (kind_of error.now) }
+    ensures memory { kind_of error.now ≡ kinds.OutOfMemory → PrintsFault (E.state err.old) (E.state err.new) OutOfMemory }
     ensures silent { result ≡ 0 → err.new ≡ err.old }
     ensures quiet { 0 < result → out.new ≡ out.old }
 {

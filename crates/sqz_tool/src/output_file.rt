@@ -3,6 +3,7 @@
 ghost use Rattle.std.specs.Prelude.{◌≡◌, ◌<◌, ◌≤◌, None, false, length, IfOk, OnOk, OnErr};
 ghost use Rattle.std.specs.Io.KnownBytes.{Keeps, WriteAppends};
 ghost use Rattle.sqz_image.specs.Devices.{SinkState};
+ghost use Rattle.sqz_tool.specs.FileRuns.{new_output};
 ghost use Rattle.sqz_tool.specs.OutputFiles.{known_bytes};
 
 use sqz_image::{DeviceFault, Sink};
@@ -26,8 +27,8 @@ pub(crate) struct OutputFile<'a, T: Files> {
 impl<'a, T: Files> OutputFile<'a, T> {
     /// The file with this path, which is not made yet.
     pub(crate) fn new(rt: &'a T, path: &'a str) -> Self
-        ensures { ⟦<OutputFile<'a, T> as Sink>⟧.state result
-            ≡ record { contents = None; writes = 0; unflushed = false; failed = false } }
+        ensures not_made { ⟦<OutputFile<'a, T> as Sink>⟧.state result ≡ new_output }
+        ensures path { result.path.now ≡ path.entry.now }
     {
         OutputFile {
             rt,

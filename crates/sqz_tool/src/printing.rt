@@ -1,5 +1,7 @@
 //! Text to a sink.
 
+ghost use Rattle.sqz_tool.specs.Lines.{Prints};
+
 use sqz_image::{Sink, write_all};
 use std::fmt;
 use std::fmt::{Display, Write};
@@ -29,4 +31,11 @@ impl<W: Sink> fmt::Write for TextSink<'_, W> {
 pub(crate) fn print<W: Sink, D: Display + Drop>(sink: &mut W, value: D) {
     let mut text = TextSink { sink };
     let _ = write!(text, "{value}");
+}
+
+/// Prints bytes, and takes no memory for it. Where the sink fails, the rest is left out.
+pub(crate) fn print_bytes<W: Sink>(sink: &mut W, bytes: &[u8])
+    ensures { Prints (W.state sink.old) (W.state sink.new) bytes.now }
+{
+    let _ = write_all(sink, bytes);
 }

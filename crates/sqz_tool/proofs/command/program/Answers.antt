@@ -1,0 +1,31 @@
+use Rattle.std.proofs.Common.{◌≡◌, inl, inr, ap, ◌∙◌}
+use Rattle.std.proofs.lemmas.Bool.{false_from_ne_true}
+use Rattle.clap.specs.Words.{kind_of}
+use Rattle.clap.specs.declared.error.kind.ErrorKind.TheVariants.{OutOfMemory}
+use Rattle.sqz_tool.specs.Exits.{exit_of_kind}
+use Rattle.sqz_tool.proofs.EndingLemmas.{ends_whole, ends_faulty, ends_without_memory}
+use Rattle.sqz_tool.proofs.command.program.Goals as goal
+
+pub returns-in-Ok-clause-whole : goal.returns-in-Ok-clause-whole
+returns-in-Ok-clause-whole g c =
+    λ taken. ends_whole _ _ _ c.finish.result c.in-Ok.arguments.census c.in-Ok.ensures.census c.compact.result c.finish.ensures.exit
+    c.compact.ensures.compacts
+
+pub returns-in-Ok-clause-faulty : goal.returns-in-Ok-clause-faulty
+returns-in-Ok-clause-faulty g c =
+    λ taken. ends_faulty _ _ _ c.finish.result c.in-Ok.arguments.census c.in-Ok.ensures.census _ _ c.compact.result c.finish.ensures.exit
+    c.finish.ensures.line c.compact.ensures.refuses
+
+pub returns-in-Ok-clause-unused : goal.returns-in-Ok-clause-unused
+returns-in-Ok-clause-unused g c =
+    λ taken unasked. c.compact.ensures.unused
+    (false_from_ne_true c.in-Ok.arguments.census (λ asked. unasked (c.in-Ok.ensures.census.0 asked)))
+
+pub returns-in-Err-clause-faulty : goal.returns-in-Err-clause-faulty
+returns-in-Err-clause-faulty g c =
+    λ taken some.
+    let memory = elim (rw taken at c.in-Err.ensures.refused) as (λ _. kind_of c.in-Err.error ≡ OutOfMemory) [
+      | inl is ↦ is
+      | inr none ↦ absurd none
+    ] in
+    ends_without_memory _ _ _ _ _ c.explain.result (c.explain.ensures.exit ∙ ap exit_of_kind memory) (c.explain.ensures.memory memory)

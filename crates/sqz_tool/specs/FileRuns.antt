@@ -1,0 +1,24 @@
+-- Runs from one file to another, of which contracts see no bytes unless the files tell them.
+use Rattle.std.specs.Prelude.{ℕ, Bool, List, Option, None, false}
+use Rattle.sqz_image.specs.declared.fault.Fault.{Fault}
+use Rattle.sqz_image.specs.Devices.{SourceState, SinkState, new_source}
+use Rattle.sqz_tool.specs.declared.summary.Summary.{Summary}
+use Rattle.sqz_tool.specs.Headline.{Compacts, Refuses, sinks}
+
+-- a file that is not made yet, and was not written to
+abbrev pub new_output : SinkState
+new_output = record { contents = None; writes = 0; unflushed = false; failed = false }
+
+-- a run over what some file had left, to a file that was not made yet, and to the sink of its census: it succeeded
+pub record CompactsFiles (census : Bool) (old new : SinkState) (summary : Summary) : Type 0 where
+  pub left : Option (List ℕ)
+  pub to : SourceState
+  pub output : SinkState
+  pub compacts : Compacts census (new_source left) to (sinks new_output old) (sinks output new) summary
+
+-- or it was refused
+pub record RefusesFiles (census : Bool) (old new : SinkState) (fault : Fault) : Type 0 where
+  pub left : Option (List ℕ)
+  pub to : SourceState
+  pub output : SinkState
+  pub refuses : Refuses census (new_source left) to (sinks new_output old) (sinks output new) fault
