@@ -29,7 +29,7 @@ module _ (old now new : SourceState) (file piece : List ℕ) (turns : ℕ) (so_f
   pub ReadStops-limit : (result : Result ℕ DeviceFault)
       → IsRead now new piece result → turns + 1 ≡ turn_limit → ReadStops old new ReadFailed
   ReadStops-limit (Ok count) read all =
-      let at_limit = counted_more read.4 ∙ ap (count_after old.reads) all in (
+      let at_limit = counted_more read.5 ∙ ap (count_after old.reads) all in (
         (file ++ take count piece, Consumes-trans old.left now.left new.left file (take count piece) so_far.bytes read.3),
         inr (refl, inr (subst (MeetsLimit old.reads) (sym at_limit) (MeetsLimit-all old.reads))),
       )
@@ -38,8 +38,8 @@ module _ (old now new : SourceState) (file piece : List ℕ) (turns : ℕ) (so_f
   -- there is no memory for what was read
   pub ReadStops-memory : (count : ℕ) → IsRead now new piece (Ok count) → 0 < count → turns + 1 < turn_limit → ReadStops old new OutOfMemory
   ReadStops-memory count read some left =
-      let no_end : new.empty_reads ≡ now.empty_reads = read.5 ∙ rw (ne_eqb count 0 (λ e. omega arith)) refl in
-      let counted : new.reads ≡ count_after old.reads (turns + 1) = counted_more read.4 in (
+      let no_end : new.empty_reads ≡ now.empty_reads = read.6 ∙ rw (ne_eqb count 0 (λ e. omega arith)) refl in
+      let counted : new.reads ≡ count_after old.reads (turns + 1) = counted_more read.5 in (
         (file ++ take count piece, Consumes-trans old.left now.left new.left file (take count piece) so_far.bytes read.3),
         inl (
           refl,

@@ -1,7 +1,7 @@
 -- What is seen of a source and a sink of bytes, and what their calls do to that.
 use Rattle.std.specs.Prelude.{◌≡◌, ◌⊎◌, ℕ, ◌+◌, ◌-◌, ◌^◌, ◌<◌, ◌≤◌, nat_lt, min, Bool, true, false, ◌==◌, ◌&&◌}
 use Rattle.std.specs.Prelude.{if◌then◌else◌, List, ◌++◌, length, take, Option, Result, Ok, Err}
-use Rattle.std.specs.Io.KnownBytes.{Keeps, Appends, Consumes}
+use Rattle.std.specs.Io.KnownBytes.{Keeps, Appends, Consumes, IsAtEnd}
 use Rattle.sqz_image.specs.declared.device.DeviceFault.{DeviceFault}
 use Rattle.sqz_image.specs.declared.fault.Fault.{Fault}
 use Rattle.sqz_image.specs.declared.fault.Fault.TheVariants.{OutOfMemory, ReadFailed, WriteFailed}
@@ -30,11 +30,13 @@ pub record SinkState : Type 0 where
 abbrev pub one_more : ℕ → ℕ
 one_more count = min (count + 1) (2 ^ 64 - 1)
 
--- one read into a piece, which then holds what was read at its front
+-- one read into a piece, which then holds what was read at its front; none is read for a piece that is not empty
+-- only where none is left (which a source that does not tell its bytes leaves open)
 abbrev pub IsRead : SourceState → SourceState → List ℕ → Result ℕ DeviceFault → Type 0
 IsRead old new piece (Ok count) =
     (old.failed ≡ false) × (new.failed ≡ false) × (count ≤ length piece)
-    × Consumes old.left new.left (take count piece) × (new.reads ≡ one_more old.reads)
+    × Consumes old.left new.left (take count piece) × (count ≡ 0 → 0 < length piece → IsAtEnd new.left)
+    × (new.reads ≡ one_more old.reads)
     × (new.empty_reads ≡ (if count == 0 && nat_lt 0 (length piece) then one_more old.empty_reads else old.empty_reads))
 IsRead old new piece (Err fault) =
     (new.failed ≡ true) × Keeps old.left new.left × (new.reads ≡ one_more old.reads) × (new.empty_reads ≡ old.empty_reads)
@@ -64,10 +66,11 @@ turn_limit = 2 ^ 32
 abbrev pub MeetsLimit : ℕ → ℕ → Type 0
 MeetsLimit old new = (old + turn_limit ≤ new) ⊎ (new ≡ 2 ^ 64 - 1)
 
--- the source gave these bytes, and after them none
+-- the source gave these bytes, and after them none, because it has none left
 pub record ReadsWhole (old new : SourceState) (file : List ℕ) : Type 0 where
   pub bytes : Consumes old.left new.left file
   pub end : new.empty_reads ≡ one_more old.empty_reads
+  pub at_end : IsAtEnd new.left
   pub started_sound : old.failed ≡ false
   pub sound : new.failed ≡ false
   pub below_limit : new.reads < old.reads + turn_limit

@@ -12,8 +12,11 @@ pub trait Source {
     /// What contracts see of a source.
     ghost state: { Self → SourceState };
 
-    /// Reads bytes into the front of `into`, and answers how many. Once the source has failed it
-    /// refuses each later call.
+    /// Reads bytes into the front of `into`, and answers how many. None are read only where the source
+    /// has none left, or `into` is empty. Once the source has failed it refuses each later call.
+    ///
+    /// Whoever writes a source owes this: one that tells what a file has left may not stop before its
+    /// end, as one over `take` would. One that does not tell its bytes is held to it by no proof.
     fn read(&mut self, into: &mut [u8]) -> Result<usize, DeviceFault>
         ensures read { IsRead (state self.old) (state self.new) into.new result };
 

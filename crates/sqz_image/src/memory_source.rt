@@ -1,13 +1,12 @@
 //! A source of bytes in memory, which can be told to fail.
 
-ghost use Rattle.std.specs.Prelude.{◌≡◌, ◌<◌, ◌≤◌, ◌↔◌, ◌⊎◌, true, false, Some, [], min, length, take, drop, vec_len};
+ghost use Rattle.std.specs.Prelude.{◌≡◌, ◌≤◌, ◌↔◌, ◌⊎◌, true, false, Some, min, length, take, drop, vec_len};
 ghost use Rattle.std.specs.Prelude.{IfOk, IsErr};
 ghost use Rattle.sqz_image.specs.Devices.{SourceState, IsRead};
 
 use crate::device::{DeviceFault, Source};
 
-/// Gives bytes in pieces, and fails at a read that was set beforehand. It gives none for a piece that
-/// is not empty only where none are left.
+/// Gives bytes in pieces, and fails at a read that was set beforehand.
 #[derive(Drop)]
 pub struct MemorySource {
     bytes: Vec<u8>,
@@ -59,8 +58,6 @@ impl Source for MemorySource {
     fn read(&mut self, into: &mut [u8]) -> Result<usize, DeviceFault>
         ensures read { IsRead (⟦<MemorySource as Source>⟧.state self.old)
             (⟦<MemorySource as Source>⟧.state self.new) into.new result }
-        ensures end { IfOk result (λ count. count ≡ 0 → 0 < length into.new
-            → (⟦<MemorySource as Source>⟧.state self.new).left ≡ Some []) }
         ensures bounded { IfOk result (λ count. count ≤ piece_size self.old) }
         ensures fails { let state = ⟦<MemorySource as Source>⟧.state self.old in
             IsErr result ↔ ((state.failed ≡ true) ⊎ (failing_read self.old ≡ Some state.reads)) }

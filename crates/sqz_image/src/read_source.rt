@@ -1,14 +1,12 @@
 //! A source over any reader.
 
-ghost use Rattle.std.specs.Prelude.{◌≡◌, ◌<◌, false, length, IfOk};
-ghost use Rattle.std.specs.Io.KnownBytes.{IsAtEnd};
-ghost use Rattle.sqz_image.specs.Devices.{SourceState, IsRead};
+ghost use Rattle.std.specs.Prelude.{◌≡◌, false};
+ghost use Rattle.sqz_image.specs.Devices.{SourceState};
 
 use crate::device::{DeviceFault, Source};
 use std::io::Read;
 
-/// Gives the bytes of a reader. Each error of the reader is a failure, an interrupted read too. Where
-/// the reader's bytes are known, it gives none for a piece that is not empty only at their end.
+/// Gives the bytes of a reader. Each error of the reader is a failure, an interrupted read too.
 #[derive(Drop)]
 pub struct ReadSource<R> {
     inner: R,
@@ -35,12 +33,7 @@ impl<R: Read> ReadSource<R> {
 impl<R: Read> Source for ReadSource<R> {
     ghost state = { λ s. record { left = R.remaining s.inner; reads = s.reads; empty_reads = s.empty_reads; failed = s.failed } };
 
-    fn read(&mut self, into: &mut [u8]) -> Result<usize, DeviceFault>
-        ensures read { IsRead (⟦<ReadSource<R> as Source>⟧.state self.old)
-            (⟦<ReadSource<R> as Source>⟧.state self.new) into.new result }
-        ensures end { IfOk result (λ count. count ≡ 0 → 0 < length into.new
-            → IsAtEnd (⟦<ReadSource<R> as Source>⟧.state self.new).left) }
-    {
+    fn read(&mut self, into: &mut [u8]) -> Result<usize, DeviceFault> {
         self.reads = self.reads.saturating_add(1);
         if self.failed {
             return Err(DeviceFault);

@@ -18,7 +18,7 @@ const PIECE: usize = 1 << 16;
 const LEAST_ROOM: usize = 1 << 20;
 
 /// The bytes that the source has left, all of them. The last read of a call that succeeds is one that
-/// gave no byte.
+/// gave no byte, and a source gives none only where it has none left: whoever wrote it owes that.
 ///
 /// Fails with `OutOfMemory`, or with `ReadFailed` where a read fails, and where 2^32 reads did not
 /// come to the end. Bytes that were read are then lost.
