@@ -89,7 +89,6 @@ impl Heap {
     pub fn base(&self) -> u32
         ensures base { result ≡ self.now.base }
         ensures aligned { result % 4 ≡ 0 }
-        ensures within { result + 4 * length (concat self.now.chunks) ≤ 2 ^ 32 }
     {
         self.base
     }
@@ -98,7 +97,6 @@ impl Heap {
     pub fn words(&self) -> u32
         ensures words { result ≡ length (concat self.now.chunks) }
         ensures few { result < 2 ^ 30 }
-        ensures within { self.now.base + 4 * result ≤ 2 ^ 32 }
     {
         self.words.len() as u32
     }
@@ -195,6 +193,17 @@ impl Heap {
     {
         self.special_object
     }
+}
+
+/// There are fewer than 2^30 objects and fewer than 2^30 data words, and no data word lies at 2^32 or above. A
+/// law of every heap: the call does nothing.
+pub fn heap_bounds(heap: &Heap)
+    ensures objects { object_count heap.now < 2 ^ 30 }
+    ensures words { length (concat heap.now.chunks) < 2 ^ 30 }
+    ensures within { heap.now.base + 4 * length (concat heap.now.chunks) ≤ 2 ^ 32 }
+{
+    // what a heap keeps says so, and is known where one of its fields is used
+    let _ = &heap.words;
 }
 
 /// The place of an address among those of the words whose indexes the table has, the first word's

@@ -4,6 +4,8 @@ ghost use Rattle.std.specs.Prelude.{◌≡◌, ◌⊎◌, ℕ, List};
 ghost use Rattle.sqz_object.specs.declared.chunk.ChunkFault.{ChunkFault};
 ghost use Rattle.sqz_object.specs.Partition.{IsPartition, IsStuck};
 
+pub use crate::heap::heap_bounds;
+
 /// Data words are chunks one after the other in exactly one way, or they are stuck at exactly one
 /// place for one reason, and never both.
 pub fn partition()

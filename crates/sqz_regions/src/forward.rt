@@ -10,6 +10,7 @@ ghost use Rattle.sqz_regions.specs.Entries.{AreEntriesOf, range_begin, AreEntrie
 
 use crate::regions::Regions;
 use rayon::prelude::*;
+use sqz_image::laws::heap_bounds;
 use sqz_image::{Fault, Heap};
 use sqz_trace::Marks;
 use std::alloc::{AllocError, Global};
@@ -122,8 +123,7 @@ fn range_places(
     let region = regions.region(range * RANGE);
     let (from, _) = regions.objects(region);
     let to = first_of_range(regions, objects, range + 1);
-    // all data words lie below 2^32
-    let _words = heap.words();
+    heap_bounds(heap);
     places_between(alloc, heap, marks, from, to, bases[region as usize])
 }
 

@@ -8,6 +8,7 @@ ghost use Rattle.sqz_regions.specs.Places.{live_words, live_words_below};
 ghost use Rattle.sqz_regions.specs.Bases.{AreSums};
 
 use crate::regions::Regions;
+use sqz_image::laws::heap_bounds;
 use sqz_image::{Fault, Heap};
 use sqz_trace::Marks;
 use std::alloc::Global;
@@ -43,8 +44,7 @@ pub fn live_words(
     ensures whole { IfOk result (λ sums. sum sums.items ≡ live_words heap.now marks.now) }
     ensures refused { IfErr result (λ fault. fault ≡ OutOfMemory) }
 {
-    // no sum is above the number of data words
-    let _most = heap.words();
+    heap_bounds(heap);
     let count = regions.count();
     let mut sums = Vec::with_capacity(alloc, count as usize)?;
     for region in 0..count {

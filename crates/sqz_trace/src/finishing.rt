@@ -11,6 +11,7 @@ use crate::greying::grey_white_target;
 use crate::marks::Marks;
 use crate::shades::{Shade, Shades};
 use crate::slots::traced;
+use sqz_image::laws::heap_bounds;
 use sqz_image::{Heap, Slot};
 
 /// The reachable objects of a heap, by shades of which the special objects array is not white, each object that is not
@@ -41,8 +42,7 @@ fn blacken(heap: &Heap, object: u32, shades: &mut [Shade]) -> u32
     ensures next { result ≤ object + 1 }
     ensures lowest { (index : ℕ) → index < result → shade_at shades.new index ≡ Grey → shade_at shades.old index ≡ Grey }
 {
-    // no index is above 2^30
-    let _count = heap.len();
+    heap_bounds(heap);
     let mut lowest = grey_target(heap, object, Slot::ClassWord, shades, object + 1);
     for k in 0..traced(heap, object) {
         lowest = grey_target(heap, object, Slot::Field(k), shades, lowest);

@@ -7,10 +7,10 @@ use Rattle.rayon.proofs.ListFacts.{IfOk-then}
 use Rattle.sqz_regions.proofs.SumLemmas.{base_of_region}
 use Rattle.sqz_regions.proofs.EntryLemmas.{range_begin-inside, range_begin-rises, AreEntriesOfRange-between}
 use Rattle.sqz_regions.proofs.forward.range_places.Goals as goal
-use Rattle.sqz_regions.proofs.forward.range_places.Goals.{After-words-words}
+use Rattle.sqz_regions.proofs.forward.range_places.Goals.{After-heap_bounds}
 
 -- the range's first object is the one where it begins
-first_begins : (c : After-words-words)
+first_begins : (c : After-heap_bounds)
     → c.objects-from.result.0 ≡ range_begin c.args.regions.now.cut c.args.regions.now.memory c.args.range
 first_begins c =
     let regions = c.args.regions.now in
@@ -22,7 +22,7 @@ first_begins c =
 pub places_between-requires-clause-ordered : goal.places_between-requires-clause-ordered
 places_between-requires-clause-ordered c =
     let regions = c.args.regions.now in
-    let begins = first_begins (goal.at.places_between-requires-clause-ordered c).After-words-words in
+    let begins = first_begins (goal.at.places_between-requires-clause-ordered c).After-heap_bounds in
     omega (arith, begins, c.first_of_range-to.ensures, range_begin-rises regions.cut regions.memory c.args.range)
 
 pub places_between-requires-clause-begins : goal.places_between-requires-clause-begins
@@ -38,7 +38,7 @@ places_between-requires-clause-begins c =
 
 pub returns : goal.returns
 returns c =
-    let begins = first_begins (goal.at.returns c).After-words-words in
+    let begins = first_begins (goal.at.returns c).After-heap_bounds in
     IfOk-then c.places_between.result _ _ c.places_between.ensures (λ places are.
     AreEntriesOfRange-between c.args.regions.now c.args.heap.now c.args.marks.now c.args.range
     c.objects-from.result.0 c.first_of_range-to.result places.items

@@ -6,8 +6,3 @@ pub returns-clause-words : goal.returns-clause-words
 returns-clause-words c =
     let heap = listed_is c.self.view_is c.self.invariant in
     omega (arith, ap length heap.partition.whole, c.len.ensures, c.self.inside.words.ok.0)
-
-pub returns-clause-within : goal.returns-clause-within
-returns-clause-within c =
-    let heap = listed_is c.self.view_is c.self.invariant in
-    omega (arith, heap.within, c.len.ensures, c.self.inside.words.ok.0)
