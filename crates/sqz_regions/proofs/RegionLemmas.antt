@@ -1,6 +1,6 @@
 -- Regions along the objects: they never fall, and so the objects of each stand together.
 use Rattle.std.proofs.Common.{◌≡◌, ℕ, zero, suc, ◌+◌, ◌-◌, ◌/◌, ◌<◌, ◌≤◌, Bool, true, false, cond, List, [], ◌∷◌, ◌++◌}
-use Rattle.std.proofs.Common.{map, length, get_or, refl, sym, ap, subst, ◌∙◌, leb, arith, inl, inr}
+use Rattle.std.proofs.Common.{map, length, get_or, refl, sym, ap, subst, ◌∙◌, ◌↔◌, leb, arith, inl, inr}
 use Rattle.std.specs.List.{concat}
 use Rattle.std.specs.List.Sorted.{IsNonDecreasingBy}
 use Rattle.std.proofs.lemmas.Bool.{cases_Bool, cases_lt, leb-true, le-leb}
@@ -173,6 +173,22 @@ module _ (cut : Cutting) (memory : Memory) where
   pub objects_before-rises : (low high : ℕ) → low ≤ high
       → objects_before cut memory low ≤ objects_before cut memory high
   objects_before-rises low high le = count_below_rises (region_of cut) low high (objects memory) le
+
+  -- the objects from the number of those before a region up to that before the next are those of the region
+  pub region_between : (region from to : ℕ)
+      → from ≡ objects_before cut memory region → to ≡ objects_before cut memory (region + 1)
+      → (index : ℕ) → index < object_count memory
+      → ((from ≤ index) × (index < to)) ↔ (region_at cut memory index ≡ region)
+  region_between region from to first end index inside =
+      (
+        λ within.
+          let low = from_objects_before region index (omega (arith, first, within.0)) inside in
+          let high = below_objects_before (region + 1) index inside (omega (arith, end, within.1)) in omega arith,
+        λ is. (
+          omega (arith, first, objects_before_from region index inside (omega (arith, is))),
+          omega (arith, end, objects_before_below (region + 1) index inside (omega (arith, is))),
+        ),
+      )
 
   -- it is no more than all objects
   pub objects_before-le : (region : ℕ) → objects_before cut memory region ≤ object_count memory

@@ -1,6 +1,6 @@
 //! The regions of a heap.
 
-ghost use Rattle.std.specs.Prelude.{◌≡◌, ◌+◌, ◌<◌, ◌≤◌, IfOk, IfErr};
+ghost use Rattle.std.specs.Prelude.{◌≡◌, ℕ, ◌+◌, ◌<◌, ◌≤◌, ◌↔◌, IfOk, IfErr};
 ghost use Rattle.sqz_image.specs.declared.fault.Fault.TheVariants.{OutOfMemory};
 ghost use Rattle.sqz_image.specs.Objects.{object_count};
 ghost use Rattle.sqz_regions.specs.Regions.{region_count, region_at, objects_before};
@@ -64,12 +64,16 @@ impl<'a> Regions<'a> {
         self.cut.region(self.heap.first(object))
     }
 
-    /// The objects of a region: the index of the first, and that behind the last. Of a region without objects both are the
-    /// number of objects in the regions before.
+    /// The objects of a region: the index of the first, and that behind the last. The objects from the one up to the other
+    /// are those whose region it is. Of a region without objects both are the number of objects in the regions before.
     pub fn objects(&self, region: u32) -> (u32, u32)
         requires { region < region_count self.now.cut self.now.memory }
         ensures first { result.0 ≡ objects_before self.now.cut self.now.memory region }
         ensures end { result.1 ≡ objects_before self.now.cut self.now.memory (region + 1) }
+        ensures ordered { result.0 ≤ result.1 }
+        ensures inside { result.1 ≤ object_count self.now.memory }
+        ensures exact { (object : ℕ) → object < object_count self.now.memory
+            → ((result.0 ≤ object) × (object < result.1)) ↔ (region_at self.now.cut self.now.memory object ≡ region) }
     {
         let region = region as usize;
         (self.before(region), self.before(region + 1))
