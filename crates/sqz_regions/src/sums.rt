@@ -1,6 +1,6 @@
 //! How many live words each region has.
 
-ghost use Rattle.std.specs.Prelude.{◌≡◌, ◌+◌, ◌^◌, ◌<◌, ◌≤◌, length, IfOk, IfErr};
+ghost use Rattle.std.specs.Prelude.{◌≡◌, ◌+◌, ◌*◌, ◌^◌, ◌<◌, ◌≤◌, length, IfOk, IfErr};
 ghost use Rattle.std.specs.List.{concat, sum};
 ghost use Rattle.sqz_image.specs.declared.fault.Fault.TheVariants.{OutOfMemory};
 ghost use Rattle.sqz_image.specs.Objects.{object_count};
@@ -31,7 +31,8 @@ fn live_words_between(heap: &Heap, marks: &Marks, from: u32, to: u32) -> u32
     words
 }
 
-/// For each region the sum of the lengths of its marked objects' chunks, in words. Fails for want of memory alone.
+/// For each region the sum of the lengths of its marked objects' chunks, in words. Behind the base there is room below
+/// 2^32 for all of them, which `bases` asks for. Fails for want of memory alone.
 pub fn live_words(
     alloc: Global,
     heap: &Heap,
@@ -42,6 +43,7 @@ pub fn live_words(
     requires sized { length marks.now ≡ object_count heap.now }
     ensures sums { IfOk result (λ sums. AreSums regions.now marks.now sums.items) }
     ensures whole { IfOk result (λ sums. sum sums.items ≡ live_words heap.now marks.now) }
+    ensures room { IfOk result (λ sums. heap.now.base + 4 * sum sums.items ≤ 2 ^ 32) }
     ensures refused { IfErr result (λ fault. fault ≡ OutOfMemory) }
 {
     heap_bounds(heap);

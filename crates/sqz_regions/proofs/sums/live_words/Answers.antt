@@ -1,9 +1,11 @@
-use Rattle.std.proofs.Common.{◌≡◌, ◌+◌, length, ap, ◌∙◌, below_more, arith}
+use Rattle.std.proofs.Common.{◌≡◌, ◌+◌, length, ap, ◌∙◌, below_more, sum, arith}
 use Rattle.std.proofs.lemmas.List.{get_or_append_left, get_or_push, length_push}
 use Rattle.sqz_regions.proofs.RegionLemmas.{objects_before-rises}
-use Rattle.sqz_regions.proofs.SumLemmas.{live_words_in-between, sum-AreSums}
+use Rattle.sqz_regions.proofs.SumLemmas.{live_words_in-between, sum-AreSums, live_words-le-words}
 use Rattle.sqz_regions.specs.Bases.{AreSums}
+use Rattle.sqz_regions.specs.Places.{live_words}
 use Rattle.sqz_regions.proofs.sums.live_words.Goals as goal
+use Rattle.sqz_regions.proofs.sums.live_words.Goals.{After-loop-region}
 
 pub live_words_between-requires-clause-ordered : goal.live_words_between-requires-clause-ordered
 live_words_between-requires-clause-ordered c =
@@ -31,8 +33,9 @@ loop-region-preserved c =
           (get_or_push sums words 0 region so_far.sized ∙ is));
     }
 
-pub returns-clause-whole : goal.returns-clause-whole
-returns-clause-whole c =
+-- the sums of all regions make all live words
+whole : (c : After-loop-region) → sum c.loop-region.sums.items ≡ live_words c.args.heap.now c.args.marks.now
+whole c =
     let regions = c.args.regions.now in
     let count = c.count-count.ensures in
     let end : c.loop-region.region ≡ c.count-count.result =
@@ -44,3 +47,11 @@ returns-clause-whole c =
     } in
     sum-AreSums regions c.args.heap.now c.args.marks.now c.loop-region.sums.items c.count-count.result
     c.requires.regions are count.count count.all c.requires.sized
+
+pub returns-clause-whole : goal.returns-clause-whole
+returns-clause-whole c = whole c
+
+pub returns-clause-room : goal.returns-clause-room
+returns-clause-room c =
+    let words = live_words-le-words c.args.heap.now c.args.marks.now c.requires.sized in
+    omega (arith, whole c, words, c.heap_bounds.ensures.within)
