@@ -179,16 +179,15 @@ module _ (cut : Cutting) (memory : Memory) where
       → from ≡ objects_before cut memory region → to ≡ objects_before cut memory (region + 1)
       → (index : ℕ) → index < object_count memory
       → ((from ≤ index) × (index < to)) ↔ (region_at cut memory index ≡ region)
-  region_between region from to first end index inside =
-      (
-        λ within.
-          let low = from_objects_before region index (omega (arith, first, within.0)) inside in
-          let high = below_objects_before (region + 1) index inside (omega (arith, end, within.1)) in omega arith,
-        λ is. (
-          omega (arith, first, objects_before_from region index inside (omega (arith, is))),
-          omega (arith, end, objects_before_below (region + 1) index inside (omega (arith, is))),
-        ),
-      )
+  region_between region from to first end index inside = (
+    λ within.
+        let low = from_objects_before region index (omega (arith, first, within.0)) inside in
+        let high = below_objects_before (region + 1) index inside (omega (arith, end, within.1)) in omega arith,
+    λ is. (
+      omega (arith, first, objects_before_from region index inside (omega (arith, is))),
+      omega (arith, end, objects_before_below (region + 1) index inside (omega (arith, is))),
+    ),
+  )
 
   -- it is no more than all objects
   pub objects_before-le : (region : ℕ) → objects_before cut memory region ≤ object_count memory

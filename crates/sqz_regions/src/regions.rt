@@ -92,9 +92,9 @@ impl<'a> Regions<'a> {
     }
 }
 
-/// How many objects are in this region and in those before, of which so many are known.
+/// How many objects are in this region and in those before, of which those before are known: they are not looked at again.
 fn end_of(heap: &Heap, cut: &Cut, region: u32, known: u32) -> u32
-    requires { known ≤ objects_before cut.now heap.now (region + 1) }
+    requires { known ≡ objects_before cut.now heap.now region }
     ensures { result ≡ objects_before cut.now heap.now (region + 1) }
 {
     let end = cut.end(region);

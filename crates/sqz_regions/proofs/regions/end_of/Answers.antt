@@ -1,8 +1,13 @@
-use Rattle.std.proofs.Common.{◌<◌, ◌≤◌, arith}
+use Rattle.std.proofs.Common.{◌+◌, ◌<◌, ◌≤◌, arith}
 use Rattle.sqz_image.specs.Objects.{object_count}
 use Rattle.sqz_regions.specs.Regions.{points_up_to}
-use Rattle.sqz_regions.proofs.RegionLemmas.{known_more, known_all}
+use Rattle.sqz_regions.proofs.RegionLemmas.{known_more, known_all, objects_before-rises}
 use Rattle.sqz_regions.proofs.regions.end_of.Goals as goal
+
+pub loop-object-init : goal.loop-object-init
+loop-object-init c =
+    let region = c.args.region in
+    omega (arith, c.requires, objects_before-rises c.args.cut.now c.args.heap.now region (region + 1) (omega arith))
 
 pub loop-object-preserved : goal.loop-object-preserved
 loop-object-preserved c =

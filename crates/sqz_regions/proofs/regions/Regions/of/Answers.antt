@@ -1,15 +1,8 @@
-use Rattle.std.proofs.Common.{◌+◌, arith}
-use Rattle.sqz_regions.proofs.RegionLemmas.{no_end_yet, one_end_more, objects_before-rises}
+use Rattle.sqz_regions.proofs.RegionLemmas.{no_end_yet, one_end_more}
 use Rattle.sqz_regions.proofs.regions.Regions.of.Goals as goal
 
 pub loop-region-init : goal.loop-region-init
 loop-region-init c = rw c.in_ok-ends.ensures.items (no_end_yet c.args.cut.now c.args.heap.now)
-
-pub end_of-end-requires : goal.end_of-end-requires
-end_of-end-requires c =
-    let region = c.loop-region.region in
-    let rises = objects_before-rises c.args.cut.now c.args.heap.now region (region + 1) (omega arith) in
-    omega (arith, c.loop-region.invariant.last_is, rises)
 
 pub loop-region-preserved : goal.loop-region-preserved
 loop-region-preserved c =
