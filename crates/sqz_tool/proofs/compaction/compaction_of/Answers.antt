@@ -6,16 +6,6 @@ use Rattle.sqz_regions.proofs.SumLemmas.{live_words-le-words}
 use Rattle.sqz_tool.proofs.CompactionLemmas.{bytes_are, few_words, place_of_special, same_summary}
 use Rattle.sqz_tool.proofs.compaction.compaction_of.Goals as goal
 
-pub bases-requires : goal.bases-requires
-bases-requires g c =
-    let le = live_words-le-words c.heap-heap.result.now c.in_ok-marks.marks c.in_ok-marks.ensures.reachable.reached.sized in
-    rw c.deref.ensures.value (omega (arith, c.in_ok-sums.ensures.whole, c.base.ensures.within, le))
-
-pub total-requires : goal.total-requires
-total-requires g c =
-    let le = live_words-le-words c.heap-heap.result.now c.in_ok-marks.marks c.in_ok-marks.ensures.reachable.reached.sized in
-    rw c.deref-3.ensures.value (omega (arith, c.in_ok-sums.ensures.whole, c.base.ensures.within, le))
-
 pub unwrap-special-requires : goal.unwrap-special-requires
 unwrap-special-requires g c =
     let marks = c.in_ok-marks.marks in
