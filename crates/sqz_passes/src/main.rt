@@ -1,0 +1,51 @@
+//! The program `sqz_passes`: prints how long each pass of a run over an image takes, in milliseconds. It is for those
+//! who work on the product, and promises nothing.
+#![tactic(auto)]
+
+mod arguments;
+mod passes;
+mod stopwatch;
+
+use anyhow::Result;
+use arguments::{Arguments, read_arguments};
+use passes::{Work, print_passes};
+use sqz_marks::Workers;
+use sqz_regions::Cut;
+use std::alloc::Global;
+use std::env;
+use std::process::ExitCode;
+use std::rt::Files;
+use std::sync::Wait;
+use std::thread::Threads;
+use std::time::Clock;
+
+/// The words of the command line are at fault, or there is no memory for them.
+const BAD_ARGUMENTS: u8 = 2;
+
+/// The runs that a command line asks for.
+fn run<R: Files + Threads + Wait + Sync + Clock + Print>(
+    rt: &R,
+    alloc: Global,
+    arguments: &Arguments<'_>,
+) -> Result<()> {
+    let work = Work {
+        input: arguments.input,
+        workers: Workers::new(arguments.workers)?,
+        cut: Cut::every(arguments.region_words)?,
+    };
+    print_passes(rt, alloc, &work, arguments.runs)
+}
+
+fn main(rt: HostRuntime) -> Result<ExitCode> {
+    let words: Vec<String> = env::args(&rt)?.collect(rt.alloc())?;
+    match read_arguments(rt.alloc(), &words) {
+        Ok(arguments) => {
+            run(&rt, rt.alloc(), &arguments)?;
+            Ok(ExitCode::SUCCESS)
+        }
+        Err(error) => {
+            eprint!(rt; "{error}")?;
+            Ok(ExitCode::from(BAD_ARGUMENTS))
+        }
+    }
+}

@@ -1,0 +1,111 @@
+//! The passes of a run, in their order.
+
+ghost use Rattle.std.specs.Prelude.{length};
+ghost use Rattle.std.specs.List.{AllByRecursion};
+ghost use Rattle.sqz_object.specs.Chunk.{IsChunk};
+ghost use Rattle.sqz_trace.specs.Reachability.{IsReachability};
+
+use crate::stopwatch::Stopwatch;
+use anyhow::Result;
+use sqz_census::{census, print};
+use sqz_image::laws::heap_bounds;
+use sqz_image::{Image, ReadSource, WriteSink, read_all, read_image, write_image};
+use sqz_marks::Workers;
+use sqz_regions::{Cut, Forward, Regions, bases, live_words};
+use sqz_slide::slide;
+use sqz_trace::{Marks, first_defect};
+use sqz_workers::{OpenGate, mark_locked};
+use std::alloc::Global;
+use std::fs::File;
+use std::io;
+use std::rt::Files;
+use std::sync::Wait;
+use std::thread::Threads;
+use std::time::Clock;
+
+/// What is run.
+#[derive(Drop)]
+pub(crate) struct Work<'a> {
+    /// The path of the image.
+    pub input: &'a str,
+    pub workers: Workers,
+    pub cut: Cut,
+}
+
+/// Prints a line of the passes' names, and for each run a line of milliseconds.
+pub(crate) fn print_passes<R: Files + Threads + Wait + Sync + Clock + Print>(
+    rt: &R,
+    alloc: Global,
+    work: &Work<'_>,
+    runs: u32,
+) -> Result<()> {
+    let names = [
+        "read", "heap", "mark", "defects", "regions", "sums", "bases", "places", "slide", "census",
+        "print", "write",
+    ];
+    for name in names {
+        print!(rt; "{name:>9}")?;
+    }
+    println!(rt)?;
+    for _ in 0..runs {
+        print_run(rt, alloc, work)?;
+        println!(rt)?;
+    }
+    Ok(())
+}
+
+/// Prints how long each pass of one run takes.
+fn print_run<R: Files + Threads + Wait + Sync + Clock + Print>(
+    rt: &R,
+    alloc: Global,
+    work: &Work<'_>,
+) -> Result<()> {
+    let mut watch = Stopwatch::start(rt)?;
+    let mut source = ReadSource::new(File::open(rt, work.input)?);
+    let bytes = read_all(alloc, &mut source)?;
+    watch.lap(rt)?;
+    let image = read_image(alloc, &bytes)?;
+    drop(bytes);
+    watch.lap(rt)?;
+    let marks = mark_locked(rt, alloc, image.heap(), work.workers, &OpenGate)?;
+    watch.lap(rt)?;
+    if let Some(fault) = first_defect(rt, image.heap(), &marks) {
+        return Err(fault.into());
+    }
+    watch.lap(rt)?;
+    print_moving(rt, alloc, work, &image, &marks, &mut watch)
+}
+
+/// Prints how long the passes take behind marking.
+fn print_moving<R: Threads + Sync + Clock + Print>(
+    rt: &R,
+    alloc: Global,
+    work: &Work<'_>,
+    image: &Image,
+    marks: &Marks,
+    watch: &mut Stopwatch,
+) -> Result<()>
+    requires chunks { AllByRecursion IsChunk image.now.memory.chunks }
+    requires reachable { IsReachability image.now.memory marks.now }
+{
+    let heap = image.heap();
+    heap_bounds(heap);
+    let regions = Regions::of(alloc, heap, &work.cut)?;
+    watch.lap(rt)?;
+    let sums = live_words(alloc, heap, &regions, marks)?;
+    watch.lap(rt)?;
+    let bases = bases(alloc, heap.base(), &sums)?;
+    watch.lap(rt)?;
+    let forward = Forward::build(rt, alloc, heap, &regions, marks, &bases)?;
+    watch.lap(rt)?;
+    let pieces = slide(rt, alloc, heap, &regions, &forward, work.workers, &OpenGate)?;
+    watch.lap(rt)?;
+    let rows = census(rt, alloc, heap, marks, &forward)?;
+    watch.lap(rt)?;
+    let _text = print(alloc, &rows)?;
+    watch.lap(rt)?;
+    let mut sink = WriteSink::new(io::sink());
+    write_image(image, heap.special(), pieces.as_slice(), &mut sink)?;
+    watch.lap(rt)?;
+    Ok(())
+}
