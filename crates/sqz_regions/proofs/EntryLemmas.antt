@@ -11,11 +11,10 @@ use Rattle.sqz_object.specs.declared.chunk.Chunk.{Chunk}
 use Rattle.sqz_object.specs.Reading.{description}
 use Rattle.sqz_image.specs.Objects.{Memory, object_count, chunk_words}
 use Rattle.sqz_trace.specs.Graph.{is_marked}
-use Rattle.sqz_regions.specs.Places.{live_words_below, place}
+use Rattle.sqz_regions.specs.Places.{live_words_below, place, no_place, place_of_entry}
 use Rattle.sqz_regions.specs.Regions.{Cutting, Regioning, region_at, objects_before}
 use Rattle.sqz_regions.specs.Bases.{place_if_marked, ArePlacesOf}
-use Rattle.sqz_regions.specs.Entries.{dead, entry_of, entries_between, place_of_entry, HaveRoom, AreEntriesOf}
-use Rattle.sqz_regions.specs.Entries.{range_begin, AreEntriesOfRange}
+use Rattle.sqz_regions.specs.Entries.{entry_of, entries_between, HaveRoom, AreEntriesOf, range_begin, AreEntriesOfRange}
 use Rattle.sqz_regions.proofs.PlaceLemmas.{live_words_more_yes}
 use Rattle.sqz_regions.proofs.RegionLemmas.{region_at-rises, objects_before-rises, objects_before-le}
 use Rattle.sqz_regions.proofs.RisingLemmas.{objects_before-first}
@@ -57,7 +56,7 @@ module _ (memory : Memory) (marks : List Bool) where
   entry_of-marked index is = rw is refl
 
   -- the entry of another
-  entry_of-unmarked : (index : ℕ) → is_marked marks index ≡ false → entry_of memory marks index ≡ dead
+  entry_of-unmarked : (index : ℕ) → is_marked marks index ≡ false → entry_of memory marks index ≡ no_place
   entry_of-unmarked index is = rw is refl
 
   -- where the live words from a marked object on go: the object's place, the room behind it,
@@ -114,9 +113,9 @@ module _ (memory : Memory) (marks : List Bool) where
   -- one more entry, of another
   pub AreEntriesOf-push_unmarked : (from index : ℕ) (entries : List ℕ) → from ≤ index → is_marked marks index ≡ false
       → AreEntriesOf memory marks from index entries
-      → AreEntriesOf memory marks from (index + 1) (entries ++ dead ∷ [])
+      → AreEntriesOf memory marks from (index + 1) (entries ++ no_place ∷ [])
   AreEntriesOf-push_unmarked from index entries ge is h =
-      AreEntriesOf-append from index (index + 1) entries (dead ∷ []) ge (omega arith) h
+      AreEntriesOf-append from index (index + 1) entries (no_place ∷ []) ge (omega arith) h
       (record {
         same = ap (λ (e : ℕ). e ∷ []) (sym (entry_of-unmarked index is)) ∙ sym (entry_one index);
         room = λ other low high marked.
@@ -273,7 +272,7 @@ module _ (memory : Memory) (marks : List Bool) (entries : List ℕ)
           → place_of_entry (entry_of memory marks index) ≡ place_if_marked memory marks index
       by_mark true is =
           let room = are.room index (omega arith) lt is in
-          let alive = ne_eqb (place memory marks index) dead (λ is_dead. absurd (omega (arith, room))) in
+          let alive = ne_eqb (place memory marks index) no_place (λ is_dead. absurd (omega (arith, room))) in
           rw is (rw alive refl)
       by_mark false is = rw is refl
 

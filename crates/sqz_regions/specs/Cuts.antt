@@ -1,4 +1,4 @@
--- Which cuts there are.
+-- Which cuts there are, and what contracts see of one.
 use Rattle.std.specs.Prelude.{ℕ, ◌^◌, ◌<◌, ◌≤◌, List, length, slice_index}
 use Rattle.sqz_regions.specs.declared.cut.Division.{Division}
 use Rattle.sqz_regions.specs.declared.cut.Division.TheVariants as divisions
@@ -9,6 +9,7 @@ pub record IsCutList (points : List ℕ) : Type 0 where
   pub rises : (i j : ℕ) → i < j → j < length points → slice_index points i < slice_index points j
   pub bounded : (i : ℕ) → i < length points → slice_index points i ≤ 2 ^ 30
 
+-- at each multiple of 1 to 2 ^ 30 words, or at such points
 abbrev pub IsValidCut : Cutting → Type 0
 IsValidCut (Every words) = (1 ≤ words) × (words ≤ 2 ^ 30)
 IsValidCut (At points) = IsCutList points

@@ -1,5 +1,5 @@
 -- The place of an object in the compacted memory: the marked objects below it, and then it.
-use Rattle.std.specs.Prelude.{ℕ, ◌+◌, ◌*◌, Bool, List, take, length, sum_by}
+use Rattle.std.specs.Prelude.{ℕ, ◌+◌, ◌*◌, ◌==◌, Bool, if◌then◌else◌, List, take, length, sum_by, Option, Some, None}
 use Rattle.sqz_object.specs.Chunk.{before}
 use Rattle.sqz_image.specs.Objects.{Memory, Object, objects, chunk_words}
 use Rattle.sqz_trace.specs.Live.{marked, live}
@@ -20,3 +20,11 @@ live_words memory marks = words_in (live memory marks)
 abbrev pub place : Memory → List Bool → ℕ → ℕ
 place memory marks index =
     memory.base + 4 * (live_words_below memory marks index + before (chunk_words memory index))
+
+-- a table of places has an entry for each object: its place, or this number, which is no address, where it has none
+abbrev pub no_place : ℕ
+no_place = 4294967295
+
+-- the place that an entry stands for
+abbrev pub place_of_entry : ℕ → Option ℕ
+place_of_entry entry = if entry == no_place then None else Some entry

@@ -33,7 +33,8 @@ pub struct Forward {
 
 impl Model for Forward {
     ghost use Rattle.std.specs.Prelude.{ℕ, List, Option, map};
-    ghost use Rattle.sqz_regions.specs.Entries.{place_of_entry, HaveRoom};
+    ghost use Rattle.sqz_regions.specs.Entries.{HaveRoom};
+    ghost use Rattle.sqz_regions.specs.Places.{place_of_entry};
 
     ghost Value = { List (Option ℕ) };
 
