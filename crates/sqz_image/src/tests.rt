@@ -141,6 +141,45 @@ fn a_failed_device_calls_nobody(rt: HostRuntime) {
     assert!(rt; sink.failed());
 }
 
+/// Fails at the first write, and would take all bytes at each later one.
+#[derive(Drop)]
+struct FailsOnce {
+    writes: u32,
+    error: ErrorKind,
+}
+
+impl Write for FailsOnce {
+    fn write(&mut self, from: &[u8]) -> std::io::Result<usize> {
+        self.writes = self.writes.saturating_add(1);
+        if self.writes == 1 {
+            Err(self.error.into())
+        } else {
+            Ok(from.len())
+        }
+    }
+
+    fn flush(&mut self) -> std::io::Result<()> {
+        Ok(())
+    }
+}
+
+#[test]
+fn a_failed_first_write_is_not_tried_again(rt: HostRuntime) {
+    for error in [ErrorKind::Interrupted, ErrorKind::StorageFull] {
+        let mut writer = FailsOnce { writes: 0, error };
+        let mut sink = WriteSink::new(&mut writer);
+        assert!(rt; sink.write(&[1, 2]).is_err());
+        assert!(rt; sink.failed());
+        assert_eq!(rt; writer.writes, 1);
+
+        let mut writer = FailsOnce { writes: 0, error };
+        let mut sink = WriteSink::new(&mut writer);
+        assert!(rt; matches!(write_all(&mut sink, &[1, 2]), Err(Fault::WriteFailed)));
+        assert!(rt; sink.failed());
+        assert_eq!(rt; writer.writes, 1);
+    }
+}
+
 #[test]
 fn writes_words_in_either_order(rt: HostRuntime) -> Result<(), Fail> {
     let pieces = [
