@@ -30,8 +30,8 @@ pub record SinkState : Type 0 where
 abbrev pub one_more : ℕ → ℕ
 one_more count = min (count + 1) (2 ^ 64 - 1)
 
--- one read into a piece, which then holds what was read at its front; none is read for a piece that is not empty
--- only where none is left (which a source that does not tell its bytes leaves open)
+-- one read into a piece, which then holds what was read at its front; a source that tells its bytes gives none for a
+-- piece that is not empty only where it has none left
 abbrev pub IsRead : SourceState → SourceState → List ℕ → Result ℕ DeviceFault → Type 0
 IsRead old new piece (Ok count) =
     (old.failed ≡ false) × (new.failed ≡ false) × (count ≤ length piece)
@@ -66,7 +66,7 @@ turn_limit = 2 ^ 32
 abbrev pub MeetsLimit : ℕ → ℕ → Type 0
 MeetsLimit old new = (old + turn_limit ≤ new) ⊎ (new ≡ 2 ^ 64 - 1)
 
--- the source gave these bytes, and after them none, because it has none left
+-- the source gave these bytes, and after them none; where it tells its bytes, it has none left
 pub record ReadsWhole (old new : SourceState) (file : List ℕ) : Type 0 where
   pub bytes : Consumes old.left new.left file
   pub end : new.empty_reads ≡ one_more old.empty_reads
