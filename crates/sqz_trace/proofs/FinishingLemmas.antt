@@ -11,7 +11,7 @@ use Rattle.sqz_image.specs.declared.fault.Slot.TheVariants.{ClassWord, Field}
 use Rattle.std.proofs.lemmas.List.{length-set, length-replicate, map-set, get_or-set_same, get_or-set_other}
 use Rattle.sqz_image.specs.Objects.{Memory, object_count, chunk_words}
 use Rattle.sqz_trace.specs.Slots.{slot_word, traced}
-use Rattle.sqz_trace.specs.Edges.{named_by, target, HasEdge}
+use Rattle.sqz_trace.specs.Edges.{named_by, named_in, HasEdge}
 use Rattle.sqz_trace.specs.declared.shades.Shade.{Shade}
 use Rattle.sqz_trace.specs.declared.shades.Shade.TheVariants.{White, Grey, Black}
 use Rattle.sqz_trace.specs.Graph.{Graph, IsReachable, is_marked, MarksReachable}
@@ -304,61 +304,75 @@ less_to_do count new old object next is =
 
 -- ---- the slots of an object, one after the other
 
-module _ (memory : Memory) (object : ℕ) where
+module _ (memory : Memory) (chunk : List ℕ) where
+  -- the field names the object
+  abbrev pub IsTargetOf : ℕ → ℕ → Type 0
+  IsTargetOf k index = named_in memory chunk (Field k) ≡ Some index
+
   -- what one field more names is named by it, or by a slot before
-  below_or_next : (k index : ℕ) → IsTargetBelow memory object (k + 1) index
-      → IsTargetBelow memory object k index ⊎ (target memory object (Field k) ≡ Some index)
+  pub below_or_next : (k index : ℕ) → IsTargetBelow memory chunk (k + 1) index
+      → IsTargetBelow memory chunk k index ⊎ IsTargetOf k index
   below_or_next k index named = by_slot named.slot named.below named.names
     where
-      by_slot : (slot : Slot) → IsBelow (k + 1) slot → target memory object slot ≡ Some index
-          → IsTargetBelow memory object k index ⊎ (target memory object (Field k) ≡ Some index)
+      by_slot : (slot : Slot) → IsBelow (k + 1) slot → named_in memory chunk slot ≡ Some index
+          → IsTargetBelow memory chunk k index ⊎ IsTargetOf k index
       by_slot ClassWord below names = inl (record { slot = ClassWord; below = tt; names = names })
       by_slot (Field j) below names =
           elim (cases_lt j k) [
             | inl lt ↦ inl (record { slot = Field j; below = lt; names = names })
-            | inr ge ↦ (let same : j ≡ k = omega arith in inr (subst (λ (i : ℕ). target memory object (Field i) ≡ Some index) same names))
+            | inr ge ↦ (let same : j ≡ k = omega arith in inr (subst (λ (i : ℕ). IsTargetOf i index) same names))
           ]
 
   -- a slot before is one before the next
-  below_more : (k index : ℕ) → IsTargetBelow memory object k index → IsTargetBelow memory object (k + 1) index
+  pub below_more : (k index : ℕ) → IsTargetBelow memory chunk k index → IsTargetBelow memory chunk (k + 1) index
   below_more k index named = by_slot named.slot named.below named.names
     where
-      by_slot : (slot : Slot) → IsBelow k slot → target memory object slot ≡ Some index → IsTargetBelow memory object (k + 1) index
+      by_slot : (slot : Slot) → IsBelow k slot → named_in memory chunk slot ≡ Some index
+          → IsTargetBelow memory chunk (k + 1) index
       by_slot ClassWord below names = record { slot = ClassWord; below = tt; names = names }
       by_slot (Field j) below names = record { slot = Field j; below = omega arith; names = names }
 
-  -- what an edge leads to is named by the class word or by a traced field
-  edge-below : (index : ℕ) → HasEdge memory object index → IsTargetBelow memory object (traced (chunk_words memory object)) index
-  edge-below index edge = by_slot edge.slot edge.names
-    where
-      by_slot : (slot : Slot) → target memory object slot ≡ Some index
-          → IsTargetBelow memory object (traced (chunk_words memory object)) index
-      by_slot ClassWord names = record { slot = ClassWord; below = tt; names = names }
-      by_slot (Field k) names =
-          option_and_then_some (named_by memory) (slot_word (chunk_words memory object) (Field k)) index names
-          (λ word is names_it.
-          let held = cond_some (ltb k (traced (chunk_words memory object))) (slice_index (fields (chunk_words memory object)) k) word is in
-          record { slot = Field k; below = ltb-true k (traced (chunk_words memory object)) held.0; names = names })
-
-  -- and such a slot is an edge
-  below-edge : (count index : ℕ) → object < object_count memory → IsTargetBelow memory object count index → HasEdge memory object index
-  below-edge count index inside named = record { inside = inside; slot = named.slot; names = named.names }
+  -- a slot is the class word or a traced field
+  pub slot_below : (slot : Slot) (index : ℕ) → named_in memory chunk slot ≡ Some index
+      → IsTargetBelow memory chunk (traced chunk) index
+  slot_below ClassWord index names = record { slot = ClassWord; below = tt; names = names }
+  slot_below (Field k) index names =
+      option_and_then_some (named_by memory) (slot_word chunk (Field k)) index names
+      (λ word is names_it.
+      let held = cond_some (ltb k (traced chunk)) (slice_index (fields chunk) k) word is in
+      record { slot = Field k; below = ltb-true k (traced chunk) held.0; names = names })
 
   -- the targets of the slots before became grey, and then that of the next field
-  pub Greys-next_field : (k : ℕ) (old shades new : List Shade) → Greys (IsTargetBelow memory object k) old shades
-      → Greys (λ index. target memory object (Field k) ≡ Some index) shades new
-      → Greys (IsTargetBelow memory object (k + 1)) old new
+  pub Greys-next_field : (k : ℕ) (old shades new : List Shade) → Greys (IsTargetBelow memory chunk k) old shades
+      → Greys (IsTargetOf k) shades new → Greys (IsTargetBelow memory chunk (k + 1)) old new
   Greys-next_field k old shades new first second =
-      Greys-then (IsTargetBelow memory object k) (λ index. target memory object (Field k) ≡ Some index)
-      (IsTargetBelow memory object (k + 1)) (below_or_next k) (below_more k)
+      Greys-then (IsTargetBelow memory chunk k) (IsTargetOf k) (IsTargetBelow memory chunk (k + 1))
+      (below_or_next k) (below_more k)
       (λ index names. record { slot = Field k; below = omega arith; names = names }) old shades new first second
+
+module _ (memory : Memory) (object : ℕ) (chunk : List ℕ) (its : chunk ≡ chunk_words memory object) where
+  -- what an edge leads to is named by the class word or by a traced field
+  pub edge-below : (index : ℕ) → HasEdge memory object index → IsTargetBelow memory chunk (traced chunk) index
+  edge-below index edge =
+      slot_below memory chunk edge.slot index
+      (subst (λ (words : List ℕ). named_in memory words edge.slot ≡ Some index) (sym its) edge.names)
+
+  -- and such a slot is an edge
+  pub below-edge : (count index : ℕ) → object < object_count memory → IsTargetBelow memory chunk count index
+      → HasEdge memory object index
+  below-edge count index inside named =
+      record {
+        inside = inside;
+        slot = named.slot;
+        names = subst (λ (words : List ℕ). named_in memory words named.slot ≡ Some index) its named.names;
+      }
 
   -- the targets of all slots became grey, and then the object black
   pub Blackens-after_slots : (count : ℕ) (old shades : List Shade) → object < object_count memory
-      → length old ≡ object_count memory → count ≡ traced (chunk_words memory object)
-      → Greys (IsTargetBelow memory object count) old shades → Blackens (HasEdge memory object) object old (set shades object Black)
+      → length old ≡ object_count memory → count ≡ traced chunk
+      → Greys (IsTargetBelow memory chunk count) old shades → Blackens (HasEdge memory object) object old (set shades object Black)
   Blackens-after_slots count old shades inside sized all greys =
-      Blackens-after (IsTargetBelow memory object count) (HasEdge memory object) object old shades
+      Blackens-after (IsTargetBelow memory chunk count) (HasEdge memory object) object old shades
       (omega (arith, greys.sized, sized, inside))
-      (λ index edge. subst (λ (k : ℕ). IsTargetBelow memory object k index) (sym all) (edge-below index edge))
+      (λ index edge. subst (λ (k : ℕ). IsTargetBelow memory chunk k index) (sym all) (edge-below index edge))
       (λ index. below-edge count index inside) greys

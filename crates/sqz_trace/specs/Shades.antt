@@ -6,7 +6,7 @@ use Rattle.sqz_trace.specs.declared.shades.Shade.{Shade}
 use Rattle.sqz_trace.specs.declared.shades.Shade.TheVariants.{White, Grey, Black}
 use Rattle.sqz_image.specs.declared.fault.Slot.{Slot}
 use Rattle.sqz_image.specs.declared.fault.Slot.TheVariants.{ClassWord, Field}
-use Rattle.sqz_trace.specs.Edges.{target}
+use Rattle.sqz_trace.specs.Edges.{named_in}
 use Rattle.sqz_trace.specs.Graph.{Graph, IsReachable, is_marked}
 use Rattle.sqz_trace.specs.Marking.{IsIn}
 use Rattle.sqz_trace.specs.Reachability.{graph_from}
@@ -55,11 +55,11 @@ abbrev pub IsBelow : ℕ → Slot → Type 0
 IsBelow count ClassWord = Unit {0}
 IsBelow count (Field index) = index < count
 
--- a slot of the object, among the class word and the first fields, so many of them, names it
-pub record IsTargetBelow (memory : Memory) (object count index : ℕ) : Type 0 where
+-- a slot of the chunk, among the class word and the first fields, so many of them, names it
+pub record IsTargetBelow (memory : Memory) (chunk : List ℕ) (count index : ℕ) : Type 0 where
   pub slot : Slot
   pub below : IsBelow count slot
-  pub names : target memory object slot ≡ Some index
+  pub names : named_in memory chunk slot ≡ Some index
 
 -- a grey object becomes black, and its white targets grey
 pub record Blackens (IsTarget : ℕ → Type 0) (object : ℕ) (old new : List Shade) : Type 0 where

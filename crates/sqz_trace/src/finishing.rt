@@ -3,14 +3,14 @@
 ghost use Rattle.std.specs.Prelude.{◌≡◌, ℕ, ◌+◌, ◌<◌, ◌≤◌, length, Some};
 ghost use Rattle.sqz_image.specs.Objects.{object_count};
 ghost use Rattle.sqz_trace.specs.declared.shades.Shade.TheVariants.{Grey};
-ghost use Rattle.sqz_trace.specs.Edges.{target, HasEdge};
+ghost use Rattle.sqz_trace.specs.Edges.{named_in, HasEdge};
 ghost use Rattle.sqz_trace.specs.Reachability.{IsReachability};
 ghost use Rattle.sqz_trace.specs.Shades.{AreLawfulOf, Blackens, Greys, shade_at};
 
 use crate::greying::grey_white_target;
 use crate::marks::Marks;
 use crate::shades::{Shade, Shades};
-use crate::slots::traced;
+use crate::traced_object::TracedObject;
 use sqz_image::laws::heap_bounds;
 use sqz_image::{Heap, Slot};
 
@@ -43,9 +43,10 @@ fn blacken(heap: &Heap, object: u32, shades: &mut [Shade]) -> u32
     ensures lowest { (index : ℕ) → index < result → shade_at shades.new index ≡ Grey → shade_at shades.old index ≡ Grey }
 {
     heap_bounds(heap);
-    let mut lowest = grey_target(heap, object, Slot::ClassWord, shades, object + 1);
-    for k in 0..traced(heap, object) {
-        lowest = grey_target(heap, object, Slot::Field(k), shades, lowest);
+    let parent = TracedObject::of(heap, object);
+    let mut lowest = grey_target(heap, &parent, Slot::ClassWord, shades, object + 1);
+    for k in 0..parent.traced() {
+        lowest = grey_target(heap, &parent, Slot::Field(k), shades, lowest);
     }
     shades[object as usize] = Shade::Black;
     lowest
@@ -53,14 +54,19 @@ fn blacken(heap: &Heap, object: u32, shades: &mut [Shade]) -> u32
 
 /// Makes the object that a slot names grey where it is white. Answers it, or the lowest so far where that is lower or
 /// none became grey.
-fn grey_target(heap: &Heap, object: u32, slot: Slot, shades: &mut [Shade], lowest: u32) -> u32
-    requires object { object < object_count heap.now }
-    requires sized { length shades.old ≡ object_count heap.now }
-    ensures greyed { Greys (λ index. target heap.now object slot ≡ Some index) shades.old shades.new }
+fn grey_target(
+    heap: &Heap,
+    parent: &TracedObject<'_>,
+    slot: Slot,
+    shades: &mut [Shade],
+    lowest: u32,
+) -> u32
+    requires { length shades.old ≡ object_count heap.now }
+    ensures greyed { Greys (λ index. named_in heap.now parent.now slot ≡ Some index) shades.old shades.new }
     ensures no_higher { result ≤ lowest }
     ensures lowest { (index : ℕ) → index < result → shade_at shades.new index ≡ shade_at shades.old index }
 {
-    match grey_white_target(heap, object, slot, shades) {
+    match grey_white_target(heap, parent, slot, shades) {
         Some(found) => lowest.min(found),
         None => lowest,
     }

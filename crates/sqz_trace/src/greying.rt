@@ -3,28 +3,27 @@
 ghost use Rattle.std.specs.Prelude.{◌≡◌, ◌<◌, length, slice_set, IfSome, IfNone, Some};
 ghost use Rattle.sqz_image.specs.Objects.{object_count};
 ghost use Rattle.sqz_trace.specs.declared.shades.Shade.TheVariants.{White, Grey};
-ghost use Rattle.sqz_trace.specs.Edges.{target};
+ghost use Rattle.sqz_trace.specs.Edges.{named_in};
 ghost use Rattle.sqz_trace.specs.Shades.{Greys, shade_at};
 
 use crate::shades::Shade;
-use crate::slots::target;
+use crate::traced_object::TracedObject;
 use sqz_image::{Heap, Slot};
 
 /// Makes the object that a slot names grey where it is white, and answers it then.
 pub(crate) fn grey_white_target(
     heap: &Heap,
-    object: u32,
+    parent: &TracedObject<'_>,
     slot: Slot,
     shades: &mut [Shade],
 ) -> Option<u32>
-    requires object { object < object_count heap.now }
-    requires sized { length shades.old ≡ object_count heap.now }
-    ensures greyed { Greys (λ index. target heap.now object slot ≡ Some index) shades.old shades.new }
+    requires { length shades.old ≡ object_count heap.now }
+    ensures greyed { Greys (λ index. named_in heap.now parent.now slot ≡ Some index) shades.old shades.new }
     ensures one { IfSome result (λ found. (found < length shades.old) × (shade_at shades.old found ≡ White)
         × (shades.new ≡ slice_set shades.old found Grey)) }
     ensures none { IfNone result (shades.new ≡ shades.old) }
 {
-    let found = target(heap, object, slot)?;
+    let found = parent.target(heap, slot)?;
     match shades[found as usize] {
         Shade::White => {
             shades[found as usize] = Shade::Grey;

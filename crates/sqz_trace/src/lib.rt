@@ -11,6 +11,7 @@ mod marks;
 mod methods;
 mod shades;
 mod slots;
+mod traced_object;
 mod turns;
 
 pub use defects::defect;
@@ -19,5 +20,6 @@ pub use lowest_defect::first_defect;
 pub use marking::mark_plain;
 pub use marks::Marks;
 pub use shades::{Shade, Shades, first_shades};
-pub use slots::{class_address, named_by, target, traced, traced_fields};
+pub use slots::{class_address, named_by, traced, traced_fields};
+pub use traced_object::{TracedObject, target};
 pub use turns::blacken_listed;

@@ -5,11 +5,11 @@ ghost use Rattle.sqz_object.specs.Chunk.{fields};
 ghost use Rattle.sqz_image.specs.declared.fault.Slot.TheVariants.{ClassWord};
 ghost use Rattle.sqz_image.specs.Objects.{object_count, chunk_words};
 ghost use Rattle.sqz_trace.specs.Slots.{slot_word, traced, clipped};
-ghost use Rattle.sqz_trace.specs.Edges.{named_by, target};
+ghost use Rattle.sqz_trace.specs.Edges.{named_by};
 
 use crate::contexts::{context_fields, is_context};
 use crate::methods::{is_method, method_fields};
-use sqz_image::{Heap, Object, Slot};
+use sqz_image::{Heap, Object};
 use sqz_object::{Kind, Value, base_of, value_of};
 
 /// The address in the object's class word, if its header has one.
@@ -68,26 +68,4 @@ pub fn traced(heap: &Heap, object: u32) -> u32
     ensures inside { result ≤ length (fields (chunk_words heap.now object)) }
 {
     traced_fields(&heap.object(object))
-}
-
-/// The object that a slot of an object names; None also where the object has no such slot.
-pub fn target(heap: &Heap, object: u32, slot: Slot) -> Option<u32>
-    requires { object < object_count heap.now }
-    ensures named { result ≡ target heap.now object slot }
-    ensures inside { IfSome result (λ found. found < object_count heap.now) }
-{
-    named_by(heap, slot_word(&heap.object(object), slot)?)
-}
-
-/// The word that a slot of the object holds; None where it has no such slot.
-fn slot_word(object: &Object<'_>, slot: Slot) -> Option<u32>
-    ensures { result ≡ slot_word object.now slot }
-{
-    match slot {
-        Slot::ClassWord => class_address(object),
-        Slot::Field(index) if index < traced_fields(object) => {
-            Some(object.fields()[index as usize])
-        }
-        Slot::Field(_) => None,
-    }
 }

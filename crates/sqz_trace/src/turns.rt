@@ -3,12 +3,12 @@
 ghost use Rattle.std.specs.Prelude.{◌≡◌, ◌+◌, ◌<◌, ◌≤◌, length, Some, vec_capacity};
 ghost use Rattle.sqz_image.specs.Objects.{object_count};
 ghost use Rattle.sqz_trace.specs.declared.shades.Shade.TheVariants.{Grey};
-ghost use Rattle.sqz_trace.specs.Edges.{target, HasEdge};
+ghost use Rattle.sqz_trace.specs.Edges.{named_in, HasEdge};
 ghost use Rattle.sqz_trace.specs.Shades.{Blackens, Greys, IsListed, shade_at, white_count};
 
 use crate::greying::grey_white_target;
 use crate::shades::Shade;
-use crate::slots::traced;
+use crate::traced_object::TracedObject;
 use sqz_image::{Heap, Slot};
 
 /// Makes the white targets of a grey object grey, adds them to the end of the list, and makes the object black. Takes
@@ -23,23 +23,29 @@ pub fn blacken_listed(heap: &Heap, object: u32, shades: &mut [Shade], list: &mut
     ensures room { length list.new.items + white_count shades.new ≤ vec_capacity list.new }
     ensures capacity { vec_capacity list.new ≡ vec_capacity list.old }
 {
-    grey_listed(heap, object, Slot::ClassWord, shades, list);
-    for k in 0..traced(heap, object) {
-        grey_listed(heap, object, Slot::Field(k), shades, list);
+    let parent = TracedObject::of(heap, object);
+    grey_listed(heap, &parent, Slot::ClassWord, shades, list);
+    for k in 0..parent.traced() {
+        grey_listed(heap, &parent, Slot::Field(k), shades, list);
     }
     shades[object as usize] = Shade::Black;
 }
 
 /// Makes the object that a slot names grey where it is white, and adds it to the end of the list then.
-fn grey_listed(heap: &Heap, object: u32, slot: Slot, shades: &mut [Shade], list: &mut Vec<u32>)
-    requires object { object < object_count heap.now }
+fn grey_listed(
+    heap: &Heap,
+    parent: &TracedObject<'_>,
+    slot: Slot,
+    shades: &mut [Shade],
+    list: &mut Vec<u32>,
+)
     requires sized { length shades.old ≡ object_count heap.now }
     requires room { length list.old.items + white_count shades.old ≤ vec_capacity list.old }
-    ensures greyed { Greys (λ index. target heap.now object slot ≡ Some index) shades.old shades.new }
+    ensures greyed { Greys (λ index. named_in heap.now parent.now slot ≡ Some index) shades.old shades.new }
     ensures listed { IsListed shades.old shades.new list.old.items list.new.items }
     ensures capacity { vec_capacity list.new ≡ vec_capacity list.old }
 {
-    if let Some(found) = grey_white_target(heap, object, slot, shades) {
+    if let Some(found) = grey_white_target(heap, parent, slot, shades) {
         list.push_reserved(found);
     }
 }

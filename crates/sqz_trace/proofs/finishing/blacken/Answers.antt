@@ -8,7 +8,7 @@ loop-k-preserved c =
     let step = c.grey_target-lowest-in-loop-k.ensures in
     record {
       greyed =
-          Greys-next_field c.args.heap.now c.args.object c.loop-k.k c.args.shades.now _ _ so_far.greyed step.greyed;
+          Greys-next_field c.args.heap.now c.of-parent.result c.loop-k.k c.args.shades.now _ _ so_far.greyed step.greyed;
       next = omega (arith, so_far.next, step.no_higher);
       lowest = λ index lt. step.lowest index lt ∙ so_far.lowest index (omega (arith, lt, step.no_higher));
     }
@@ -16,5 +16,5 @@ loop-k-preserved c =
 pub returns-clause-blackened : goal.returns-clause-blackened
 returns-clause-blackened c =
     let end : c.loop-k.k ≡ c.traced-k-end.result = omega (arith, c.loop-k-test.false, c.loop-k.auto.k-end) in
-    Blackens-after_slots c.args.heap.now c.args.object c.loop-k.k c.args.shades.now _ c.requires.object c.requires.sized
+    Blackens-after_slots c.args.heap.now c.args.object c.of-parent.result c.of-parent.ensures c.loop-k.k c.args.shades.now _ c.requires.object c.requires.sized
     (end ∙ c.traced-k-end.ensures.traced) c.loop-k.invariant.greyed

@@ -1,36 +1,34 @@
-use Rattle.std.proofs.Common.{◌≡◌, ◌∙◌, Some, arith}
-use Rattle.sqz_image.specs.declared.fault.Slot.TheVariants.{Field}
-use Rattle.sqz_trace.specs.Edges.{target}
+use Rattle.std.proofs.Common.{◌≡◌, ◌∙◌, arith}
 use Rattle.sqz_trace.specs.Shades.{IsTargetBelow}
-use Rattle.sqz_trace.proofs.FinishingLemmas.{Greys-next_field, Blackens-after_slots}
+use Rattle.sqz_trace.proofs.FinishingLemmas.{IsTargetOf, Greys-next_field, Blackens-after_slots}
 use Rattle.sqz_trace.proofs.TurnLemmas.{IsListed-then, IsListed-room, IsListed-blackened}
 use Rattle.sqz_trace.proofs.turns.blacken_listed.Goals as goal
 
 pub loop-k-preserved : goal.loop-k-preserved
 loop-k-preserved c =
     let memory = c.args.heap.now in
-    let object = c.args.object in
+    let chunk = c.of-parent.result in
     let k = c.loop-k.k in
     let so_far = c.loop-k.invariant in
     let step = c.grey_listed-in-loop-k.ensures in
     record {
-      greyed = Greys-next_field memory object k c.args.shades.now _ _ so_far.greyed step.greyed;
+      greyed = Greys-next_field memory chunk k c.args.shades.now _ _ so_far.greyed step.greyed;
       listed =
-          IsListed-then (IsTargetBelow memory object k) c.args.shades.now _ _ _ so_far.greyed so_far.listed
-          (λ index. target memory object (Field k) ≡ Some index) _ _ step.greyed step.listed;
+          IsListed-then (IsTargetBelow memory chunk k) c.args.shades.now _ _ _ so_far.greyed so_far.listed
+          (IsTargetOf memory chunk k) _ _ step.greyed step.listed;
       capacity = step.capacity ∙ so_far.capacity;
     }
 
 pub returns-clause-blackened : goal.returns-clause-blackened
 returns-clause-blackened c =
     let end : c.loop-k.k ≡ c.traced-k-end.result = omega (arith, c.loop-k-test.false, c.loop-k.auto.k-end) in
-    Blackens-after_slots c.args.heap.now c.args.object c.loop-k.k c.args.shades.now _ c.requires.object c.requires.sized
+    Blackens-after_slots c.args.heap.now c.args.object c.of-parent.result c.of-parent.ensures c.loop-k.k c.args.shades.now _ c.requires.object c.requires.sized
     (end ∙ c.traced-k-end.ensures.traced) c.loop-k.invariant.greyed
 
 pub returns-clause-listed : goal.returns-clause-listed
 returns-clause-listed c =
     let so_far = c.loop-k.invariant in
-    let IsTarget = IsTargetBelow c.args.heap.now c.args.object c.loop-k.k in
+    let IsTarget = IsTargetBelow c.args.heap.now c.of-parent.result c.loop-k.k in
     IsListed-blackened IsTarget c.args.shades.now _ _ _ so_far.greyed so_far.listed c.args.object
     (omega (arith, so_far.greyed.sized, c.requires.sized, c.requires.object)) c.requires.grey
 
