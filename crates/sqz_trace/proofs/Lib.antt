@@ -8,3 +8,5 @@ pub mod DefectLemmas
 pub mod FirstDefectLemmas
 pub mod FinishingLemmas
 pub mod TurnLemmas
+pub mod GreyingLemmas
+pub mod LawLemmas

@@ -1,32 +1,15 @@
 -- Marking with a worklist: what holds between two steps of it, and what that shows at its end.
 use Rattle.std.proofs.Common.{◌≡◌, ℕ, zero, suc, ◌+◌, ◌<◌, ◌⊎◌, Bool, true, false, List, [], ◌∷◌, ◌++◌, length, set}
 use Rattle.std.proofs.Common.{take, drop, refl, sym, ap, subst, ◌∙◌, arith, inl, inr}
-use Rattle.std.specs.Prelude.{replicate}
+use Rattle.std.specs.Prelude.{replicate, Contains}
+use Rattle.std.proofs.lemmas.List.Elements.{Contains-push, Contains-push_cases}
+use Rattle.std.proofs.lemmas.List.Elements.{Contains-append_left}
 use Rattle.std.proofs.lemmas.List.{length-set, length-append, length-replicate, get_or-set_same, take_at}
 use Rattle.sqz_trace.specs.Graph.{Graph, IsReachable, is_marked, MarksReachable}
 use Rattle.sqz_trace.proofs.ReachabilityLemmas.{IsReachable-next, MarksReachable-from_tracing}
-use Rattle.sqz_trace.specs.Marking.{IsIn, unmarked_count, MarksTargets}
+use Rattle.sqz_trace.specs.Marking.{unmarked_count, MarksTargets}
 
--- ---- lists
-
-pub IsIn-front : (x : ℕ) (xs ys : List ℕ) → IsIn x xs → IsIn x (xs ++ ys)
-IsIn-front x [] ys h = absurd h
-IsIn-front x (y ∷ xs) ys (inl e) = inl e
-IsIn-front x (y ∷ xs) ys (inr h) = inr (IsIn-front x xs ys h)
-
-pub IsIn-back : (x : ℕ) (xs ys : List ℕ) → IsIn x ys → IsIn x (xs ++ ys)
-IsIn-back x [] ys h = h
-IsIn-back x (y ∷ xs) ys h = inr (IsIn-back x xs ys h)
-
-IsIn-push : (x y : ℕ) (xs : List ℕ) → IsIn x (xs ++ y ∷ []) → IsIn x xs ⊎ (x ≡ y)
-IsIn-push x y [] (inl e) = inr (sym e)
-IsIn-push x y [] (inr h) = absurd h
-IsIn-push x y (z ∷ xs) (inl e) = inl (inl e)
-IsIn-push x y (z ∷ xs) (inr h) =
-    elim (IsIn-push x y xs h) [
-      | inl there ↦ inl (inr there)
-      | inr e ↦ inr e
-    ]
+-- ---- marks
 
 -- a mark more is an unmarked object less
 unmarked_count-set : (marks : List Bool) (i : ℕ) → i < length marks → is_marked marks i ≡ false
@@ -97,13 +80,14 @@ module _ (IsTarget : ℕ → Type 0) (marks : List Bool) (queue : List ℕ) wher
         keeps = is_marked-keeps marks found;
         targets = λ index target. marked_at index (only_one index target);
         only = λ index marked. elim (is_marked-set marks found index marked) [
-          | inl same ↦ inr (subst IsTarget (sym same) is_target, IsIn-back index queue (found ∷ []) (inl (sym same)))
+          | inl same ↦
+              inr (subst IsTarget (sym same) is_target, subst (Contains (queue ++ found ∷ [])) (sym same) (Contains-push queue found))
           | inr before ↦ inl before
         ];
-        queued = λ index. IsIn-front index queue (found ∷ []);
-        added = λ index there. elim (IsIn-push index found queue there) [
+        queued = λ index. Contains-append_left queue (found ∷ []) index;
+        added = λ index there. elim (Contains-push_cases queue found index there) [
           | inl before ↦ inl before
-          | inr same ↦ inr (marked_at index (sym same))
+          | inr same ↦ inr (marked_at index same)
         ];
         measure = omega (arith, unmarked_count-set marks found in_range new, length-append queue (found ∷ []));
       } where
@@ -152,9 +136,9 @@ pub record IsMarking (graph : Graph) (marks : List Bool) (worklist : List ℕ) :
   pub sized : length marks ≡ graph.count
   pub has_start : is_marked marks graph.start ≡ true
   pub sound : (index : ℕ) → is_marked marks index ≡ true → IsReachable graph index
-  pub queued : (index : ℕ) → IsIn index worklist → is_marked marks index ≡ true
+  pub queued : (index : ℕ) → Contains worklist index → is_marked marks index ≡ true
   pub closed : (index : ℕ) → is_marked marks index ≡ true
-      → IsIn index worklist ⊎ ((next : ℕ) → graph.Edge index next → is_marked marks next ≡ true)
+      → Contains worklist index ⊎ ((next : ℕ) → graph.Edge index next → is_marked marks next ≡ true)
 
 module _ (graph : Graph) (lt : graph.start < graph.count) where
   -- the start alone is marked
@@ -179,11 +163,12 @@ module _ (graph : Graph) (lt : graph.start < graph.count) where
         sized = length-set (replicate graph.count false) graph.start true ∙ length-replicate graph.count false;
         has_start = start_marked;
         sound = λ index marked. record { path = []; leads = start_only index marked };
-        queued = λ index there. elim there [
-          | inl same ↦ subst (λ (i : ℕ). is_marked first_marks i ≡ true) same start_marked
-          | inr none ↦ absurd none
+        queued = λ index there. elim (Contains-push_cases [] graph.start index there) [
+          | inl none ↦ absurd (omega (arith, none.1))
+          | inr same ↦ subst (λ (i : ℕ). is_marked first_marks i ≡ true) same start_marked
         ];
-        closed = λ index marked. inl (inl (start_only index marked));
+        closed = λ index marked.
+            inl (subst (Contains (graph.start ∷ [])) (start_only index marked) (Contains-push [] graph.start));
       }
 
 -- then an object is taken from the worklist, and its targets are marked
@@ -199,14 +184,14 @@ IsMarking-step graph object marks new rest longer marking step =
         | inr (edge, there) ↦ IsReachable-next graph object index taken edge
       ];
       queued = λ index there. elim (step.added index there) [
-        | inl before ↦ step.keeps index (marking.queued index (IsIn-front index rest (object ∷ []) before))
+        | inl before ↦ step.keeps index (marking.queued index (Contains-append_left rest (object ∷ []) index before))
         | inr marked ↦ marked
       ];
       closed = λ index marked. elim (step.only index marked) [
         | inl before ↦ elim (marking.closed index before) [
-          | inl queued ↦ elim (IsIn-push index object rest queued) [
+          | inl queued ↦ elim (Contains-push_cases rest object index queued) [
             | inl there ↦ inl (step.queued index there)
-            | inr same ↦ inr (λ next edge. step.targets next (subst (λ (i : ℕ). graph.Edge i next) same edge))
+            | inr same ↦ inr (λ next edge. step.targets next (subst (λ (i : ℕ). graph.Edge i next) (sym same) edge))
           ]
           | inr all ↦ inr (λ next edge. step.keeps next (all next edge))
         ]
@@ -214,7 +199,7 @@ IsMarking-step graph object marks new rest longer marking step =
       ];
     } where
       taken : IsReachable graph object
-      taken = marking.sound object (marking.queued object (IsIn-back object rest (object ∷ []) (inl refl)))
+      taken = marking.sound object (marking.queued object (Contains-push rest object))
 
 -- at the end the worklist is empty, and the marked objects are the reachable ones
 pub MarksReachable-from_marking : (graph : Graph) (marks : List Bool)
@@ -226,7 +211,7 @@ MarksReachable-from_marking graph marks marking =
       has_start = marking.has_start;
       closed = record {
         along = λ from to marked edge. elim (marking.closed from marked) [
-          | inl none ↦ absurd none
+          | inl none ↦ absurd (omega (arith, none.1))
           | inr all ↦ all to edge
         ];
       };
@@ -236,7 +221,7 @@ MarksReachable-from_marking graph marks marking =
 -- what stands on the worklist is an object
 pub IsMarking-inside : (graph : Graph) (marks : List Bool) (worklist : List ℕ) (index : ℕ)
     → IsMarking graph marks worklist
-    → IsIn index worklist → index < graph.count
+    → Contains worklist index → index < graph.count
 IsMarking-inside graph marks worklist index marking there =
     let lt = is_marked-in_range marks index (marking.queued index there) in
     omega (arith, lt, marking.sized)

@@ -35,7 +35,7 @@ module _ (graph : Graph) where
       }
 
   -- a path may go one edge further
-  Leads-more : (from : ℕ) (path : List ℕ) (goal next : ℕ) → Leads graph from path goal → graph.Edge goal next
+  pub Leads-more : (from : ℕ) (path : List ℕ) (goal next : ℕ) → Leads graph from path goal → graph.Edge goal next
       → Leads graph from (path ++ next ∷ []) next
   Leads-more from [] goal next leads edge = (subst (λ (i : ℕ). graph.Edge i next) (sym leads) edge, refl)
   Leads-more from (step ∷ path) goal next leads edge = (leads.0, Leads-more step path goal next leads.1 edge)

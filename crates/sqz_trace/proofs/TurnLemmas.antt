@@ -1,16 +1,18 @@
 -- Objects that become grey, one after the other, and the list that grows by them.
-use Rattle.std.proofs.Common.{◌≡◌, ℕ, zero, suc, ◌+◌, ◌<◌, ◌⊎◌, true, List, [], ◌∷◌, ◌++◌, length, set}
+use Rattle.std.proofs.Common.{◌≡◌, ℕ, zero, suc, ◌+◌, ◌<◌, true, List, [], ◌∷◌, ◌++◌, length, set}
 use Rattle.std.proofs.Common.{refl, sym, ap, subst, ◌∙◌, arith, inl, inr, length-append, append_assoc, append-nil}
+use Rattle.std.specs.Prelude.{Contains}
 use Rattle.std.proofs.lemmas.Bool.{cases_order}
 use Rattle.std.proofs.lemmas.List.{get_or-set_same, get_or-set_other}
+use Rattle.std.proofs.lemmas.List.Elements.{Contains-push, Contains-push_cases}
+use Rattle.std.proofs.lemmas.List.Elements.{Contains-append_left, Contains-append_right, Contains-append_cases}
 use Rattle.sqz_trace.specs.declared.shades.Shade.{Shade}
 use Rattle.sqz_trace.specs.declared.shades.Shade.TheVariants.{White, Grey, Black}
 use Rattle.sqz_trace.specs.Graph.{is_marked}
-use Rattle.sqz_trace.specs.Marking.{IsIn}
-use Rattle.sqz_trace.specs.Shades.{shade_at, has_mark, marks_of, white, white_count, Greys, IsListed}
-use Rattle.sqz_trace.proofs.ShadeLemmas.{is_marked-shade}
-use Rattle.sqz_trace.proofs.MarkingLemmas.{IsIn-front, IsIn-back}
-use Rattle.sqz_trace.proofs.FinishingLemmas.{white-grey}
+use Rattle.sqz_trace.specs.Shades.{shade_at, has_mark, marks_of}
+use Rattle.sqz_trace.specs.Greying.{white, white_count, BecameGrey, Greys, IsListed}
+use Rattle.sqz_trace.proofs.ShadeLemmas.{is_marked-shade, white_unmarked, white_or_marked}
+use Rattle.sqz_trace.proofs.GreyingLemmas.{Greys-was_white, Greys-stays_grey, white_stays}
 
 -- what another shade of an object changes in the number of the white ones
 pub white_count-set : (shades : List Shade) (index : ℕ) (shade : Shade) → index < length shades
@@ -21,41 +23,6 @@ white_count-set (was ∷ shades) (suc index) shade lt =
     let rest = white_count-set shades index shade (omega arith) in
     omega (arith, rest)
 
--- a white object has no mark
-white_unmarked : (shades : List Shade) (index : ℕ) → shade_at shades index ≡ White
-    → is_marked (marks_of shades) index ≡ true → ⊥
-white_unmarked shades index is marked =
-    absurd (shade-unmarked (shade_at shades index) is (sym (is_marked-shade shades index) ∙ marked))
-  where
-    shade-unmarked : (shade : Shade) → shade ≡ White → has_mark shade ≡ true → ⊥
-    shade-unmarked White is marked = absurd cc
-    shade-unmarked Grey is marked = absurd cc
-    shade-unmarked Black is marked = absurd cc
-
--- and each other has one
-white_or_marked : (shades : List Shade) (index : ℕ)
-    → (shade_at shades index ≡ White) ⊎ (is_marked (marks_of shades) index ≡ true)
-white_or_marked shades index =
-    elim (by_shade (shade_at shades index)) [
-      | inl is ↦ inl is
-      | inr marked ↦ inr (is_marked-shade shades index ∙ marked)
-    ]
-  where
-    by_shade : (shade : Shade) → (shade ≡ White) ⊎ (has_mark shade ≡ true)
-    by_shade White = inl refl
-    by_shade Grey = inr refl
-    by_shade Black = inr refl
-
--- what is in two lists together is in one of them
-IsIn-either : (x : ℕ) (xs ys : List ℕ) → IsIn x (xs ++ ys) → IsIn x xs ⊎ IsIn x ys
-IsIn-either x [] ys there = inr there
-IsIn-either x (y ∷ xs) ys (inl same) = inl (inl same)
-IsIn-either x (y ∷ xs) ys (inr there) =
-    elim (IsIn-either x xs ys there) [
-      | inl front ↦ inl (inr front)
-      | inr back ↦ inr back
-    ]
-
 -- ---- lists that grow
 
 module _ (list : List ℕ) where
@@ -65,8 +32,8 @@ module _ (list : List ℕ) where
       record {
         added = [];
         at_end = sym (append-nil list);
-        became = λ index white marked. white_unmarked shades index white marked;
-        only = λ index there. absurd there;
+        became = λ index white marked. absurd (white_unmarked shades index white marked);
+        only = λ index there. absurd (omega (arith, there.1));
         measure = omega arith;
       }
 
@@ -78,14 +45,14 @@ module _ (list : List ℕ) where
         added = found ∷ [];
         at_end = refl;
         became = λ index white marked. elim (cases_order index found) [
-          | inl same ↦ inl (sym same)
+          | inl same ↦ subst (Contains (found ∷ [])) (sym same) (Contains-push [] found)
           | inr (inl lt) ↦ absurd (other index (λ e. absurd (omega arith)) white marked)
           | inr (inr gt) ↦ absurd (other index (λ e. absurd (omega arith)) white marked)
         ];
-        only = λ index there. elim there [
-          | inl same ↦ subst (λ (i : ℕ). (shade_at shades i ≡ White) × (shade_at (set shades found Grey) i ≡ Grey)) same
-              (is, get_or-set_same shades found Grey White inside)
-          | inr none ↦ absurd none
+        only = λ index there. elim (Contains-push_cases [] found index there) [
+          | inl none ↦ absurd (omega (arith, none.1))
+          | inr same ↦
+              subst (BecameGrey shades (set shades found Grey)) same (is, get_or-set_same shades found Grey White inside)
         ];
         measure = omega (arith, white_count-set shades found Grey inside, ap white is);
       } where
@@ -101,24 +68,6 @@ pub IsListed-room : (old new : List Shade) (list longer : List ℕ) → IsListed
 IsListed-room old new list longer listed =
     omega (arith, ap length listed.at_end, length-append list listed.added, listed.measure)
 
--- what is white was white before some became grey
-Greys-was_white : (IsTarget : ℕ → Type 0) (old new : List Shade) → Greys IsTarget old new
-    → (index : ℕ) → shade_at new index ≡ White → shade_at old index ≡ White
-Greys-was_white IsTarget old new greys index is =
-    elim (greys.only index) [
-      | inl same ↦ sym same ∙ is
-      | inr (target, was, grey) ↦ was
-    ]
-
--- what is grey stays so where some become grey
-Greys-stays_grey : (IsTarget : ℕ → Type 0) (old new : List Shade) → Greys IsTarget old new
-    → (index : ℕ) → shade_at old index ≡ Grey → shade_at new index ≡ Grey
-Greys-stays_grey IsTarget old new greys index is =
-    elim (greys.only index) [
-      | inl same ↦ same ∙ is
-      | inr (target, was, grey) ↦ grey
-    ]
-
 module _ (IsTarget : ℕ → Type 0) (old shades : List Shade) (list longer : List ℕ) (greys : Greys IsTarget old shades)
     (listed : IsListed old shades list longer) where
   -- by some objects that become grey, and then by others
@@ -131,10 +80,10 @@ module _ (IsTarget : ℕ → Type 0) (old shades : List Shade) (list longer : Li
             second.at_end ∙ ap (λ front. front ++ second.added) listed.at_end
             ∙ append_assoc list listed.added second.added;
         became = λ index white marked. elim (white_or_marked shades index) [
-          | inl still ↦ IsIn-back index listed.added second.added (second.became index still marked)
-          | inr before ↦ IsIn-front index listed.added second.added (listed.became index white before)
+          | inl still ↦ Contains-append_right listed.added second.added index (second.became index still marked)
+          | inr before ↦ Contains-append_left listed.added second.added index (listed.became index white before)
         ];
-        only = λ index there. elim (IsIn-either index listed.added second.added there) [
+        only = λ index there. elim (Contains-append_cases listed.added second.added index there) [
           | inl front ↦
               ((listed.only index front).0, Greys-stays_grey IsOther shades new later index (listed.only index front).1)
           | inr back ↦
@@ -151,10 +100,10 @@ module _ (IsTarget : ℕ → Type 0) (old shades : List Shade) (list longer : Li
         added = listed.added;
         at_end = listed.at_end;
         became = λ index white marked. listed.became index white
-            (is_marked-shade shades index ∙ ap has_mark (sym (same_as index white))
+            (is_marked-shade shades index ∙ ap has_mark (sym (white_stays old shades object grey index white))
             ∙ sym (is_marked-shade (set shades object Black) index) ∙ marked);
         only = λ index there.
-            ((listed.only index there).0, same_as index (listed.only index there).0 ∙ (listed.only index there).1);
+            ((listed.only index there).0, white_stays old shades object grey index (listed.only index there).0 ∙ (listed.only index there).1);
         measure =
             omega (
               arith,
@@ -162,9 +111,4 @@ module _ (IsTarget : ℕ → Type 0) (old shades : List Shade) (list longer : Li
               white_count-set shades object Black inside,
               ap white (Greys-stays_grey IsTarget old shades greys object grey),
             );
-      } where
-        same_as : (index : ℕ) → shade_at old index ≡ White
-            → shade_at (set shades object Black) index ≡ shade_at shades index
-        same_as index was =
-            get_or-set_other shades object index Black White
-            (λ e. white-grey (sym was ∙ ap (shade_at old) e ∙ grey))
+      }

@@ -7,3 +7,4 @@ pub mod Live
 pub mod Defects
 pub mod Ranges
 pub mod Shades
+pub mod Greying

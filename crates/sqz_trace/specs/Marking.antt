@@ -1,13 +1,8 @@
 -- What one step of marking does: the targets of an object get their marks, and those that had none are queued.
-use Rattle.std.specs.Prelude.{◌≡◌, ℕ, suc, ◌+◌, ◌<◌, Bool, true, false, ◌⊎◌, List, [], ◌∷◌, length, slice_index, Some}
+use Rattle.std.specs.Prelude.{◌≡◌, ℕ, suc, ◌+◌, ◌<◌, Bool, true, false, ◌⊎◌, List, [], ◌∷◌, length, slice_index, Contains, Some}
 use Rattle.sqz_image.specs.Objects.{Memory}
 use Rattle.sqz_trace.specs.Edges.{named_by}
 use Rattle.sqz_trace.specs.Graph.{is_marked}
-
--- the number is in the list
-abbrev pub IsIn : ℕ → List ℕ → Type 0
-IsIn x [] = ⊥
-IsIn x (y ∷ ys) = (y ≡ x) ⊎ IsIn x ys
 
 -- how many objects have no mark
 abbrev pub unmarked_count : List Bool → ℕ
@@ -26,7 +21,7 @@ pub record MarksTargets (IsTarget : ℕ → Type 0) (old : List Bool) (queue : L
   pub sized : length new ≡ length old
   pub keeps : (index : ℕ) → is_marked old index ≡ true → is_marked new index ≡ true
   pub targets : (index : ℕ) → IsTarget index → is_marked new index ≡ true
-  pub only : (index : ℕ) → is_marked new index ≡ true → (is_marked old index ≡ true) ⊎ (IsTarget index × IsIn index longer)
-  pub queued : (index : ℕ) → IsIn index queue → IsIn index longer
-  pub added : (index : ℕ) → IsIn index longer → IsIn index queue ⊎ (is_marked new index ≡ true)
+  pub only : (index : ℕ) → is_marked new index ≡ true → (is_marked old index ≡ true) ⊎ (IsTarget index × Contains longer index)
+  pub queued : (index : ℕ) → Contains queue index → Contains longer index
+  pub added : (index : ℕ) → Contains longer index → Contains queue index ⊎ (is_marked new index ≡ true)
   pub measure : unmarked_count new + length longer ≡ unmarked_count old + length queue

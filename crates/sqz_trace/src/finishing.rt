@@ -5,7 +5,8 @@ ghost use Rattle.sqz_image.specs.Objects.{object_count};
 ghost use Rattle.sqz_trace.specs.declared.shades.Shade.TheVariants.{Grey};
 ghost use Rattle.sqz_trace.specs.Edges.{named_in, HasEdge};
 ghost use Rattle.sqz_trace.specs.Reachability.{IsReachability};
-ghost use Rattle.sqz_trace.specs.Shades.{AreLawfulOf, Blackens, Greys, shade_at};
+ghost use Rattle.sqz_trace.specs.Shades.{AreLawfulOf, shade_at};
+ghost use Rattle.sqz_trace.specs.Greying.{Blackens, Greys, IsLowest};
 
 use crate::greying::grey_white_target;
 use crate::marks::Marks;
@@ -33,14 +34,14 @@ pub fn finish(heap: &Heap, mut shades: Shades) -> Marks
     Marks::new(shades)
 }
 
-/// Makes the white targets of an object grey, and it black. Answers the lowest of them, or the next object where that is
-/// lower.
+/// Makes the white targets of a grey object grey, and it black. Answers the lowest of them, or the next object where that
+/// is lower.
 fn blacken(heap: &Heap, object: u32, shades: &mut [Shade]) -> u32
     requires object { object < object_count heap.now }
     requires sized { length shades.old ≡ object_count heap.now }
+    requires grey { shade_at shades.old object ≡ Grey }
     ensures blackened { Blackens (HasEdge heap.now object) object shades.old shades.new }
-    ensures next { result ≤ object + 1 }
-    ensures lowest { (index : ℕ) → index < result → shade_at shades.new index ≡ Grey → shade_at shades.old index ≡ Grey }
+    ensures lowest { IsLowest (object + 1) shades.old shades.new result }
 {
     heap_bounds(heap);
     let parent = TracedObject::of(heap, object);
@@ -63,8 +64,7 @@ fn grey_target(
 ) -> u32
     requires { length shades.old ≡ object_count heap.now }
     ensures greyed { Greys (λ index. named_in heap.now parent.now slot ≡ Some index) shades.old shades.new }
-    ensures no_higher { result ≤ lowest }
-    ensures lowest { (index : ℕ) → index < result → shade_at shades.new index ≡ shade_at shades.old index }
+    ensures lowest { IsLowest lowest shades.old shades.new result }
 {
     match grey_white_target(heap, parent, slot, shades) {
         Some(found) => lowest.min(found),

@@ -4,7 +4,8 @@ ghost use Rattle.std.specs.Prelude.{◌≡◌, ◌<◌, length, slice_set, IfSom
 ghost use Rattle.sqz_image.specs.Objects.{object_count};
 ghost use Rattle.sqz_trace.specs.declared.shades.Shade.TheVariants.{White, Grey};
 ghost use Rattle.sqz_trace.specs.Edges.{named_in};
-ghost use Rattle.sqz_trace.specs.Shades.{Greys, shade_at};
+ghost use Rattle.sqz_trace.specs.Shades.{shade_at};
+ghost use Rattle.sqz_trace.specs.Greying.{Greys};
 
 use crate::shades::Shade;
 use crate::traced_object::TracedObject;

@@ -4,7 +4,8 @@ ghost use Rattle.std.specs.Prelude.{◌≡◌, ◌+◌, ◌<◌, ◌≤◌, leng
 ghost use Rattle.sqz_image.specs.Objects.{object_count};
 ghost use Rattle.sqz_trace.specs.declared.shades.Shade.TheVariants.{Grey};
 ghost use Rattle.sqz_trace.specs.Edges.{named_in, HasEdge};
-ghost use Rattle.sqz_trace.specs.Shades.{Blackens, Greys, IsListed, shade_at, white_count};
+ghost use Rattle.sqz_trace.specs.Shades.{shade_at};
+ghost use Rattle.sqz_trace.specs.Greying.{Blackens, Greys, IsListed, white_count};
 
 use crate::greying::grey_white_target;
 use crate::shades::Shade;

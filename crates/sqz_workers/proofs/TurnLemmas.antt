@@ -2,7 +2,7 @@
 use Rattle.std.proofs.Common.{◌≡◌, ℕ, zero, suc, ◌+◌, ◌<◌, set, refl, arith}
 use Rattle.std.specs.Prelude.{replicate}
 use Rattle.sqz_trace.specs.declared.shades.Shade.TheVariants.{White, Grey}
-use Rattle.sqz_trace.specs.Shades.{white_count}
+use Rattle.sqz_trace.specs.Greying.{white_count}
 
 white_count-replicate : (count : ℕ) → white_count (replicate count White) ≡ count
 white_count-replicate zero = refl

@@ -4,7 +4,8 @@ use Rattle.sqz_image.specs.Objects.{Memory}
 use Rattle.sqz_trace.specs.declared.shades.Shade.{Shade}
 use Rattle.sqz_trace.specs.declared.shades.Shade.TheVariants.{Grey}
 use Rattle.sqz_trace.specs.Edges.{HasEdge}
-use Rattle.sqz_trace.specs.Shades.{shade_at, AreFirst, Blackens, IsListed}
+use Rattle.sqz_trace.specs.Shades.{shade_at, AreFirst}
+use Rattle.sqz_trace.specs.Greying.{Blackens, IsListed}
 
 -- what lies under the lock: a shade for each object, and a list of objects
 pub record Progress : Type 0 where

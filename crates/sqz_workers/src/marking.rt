@@ -32,7 +32,8 @@ pub(crate) struct Marking<M: Marked> {
 
 impl<M: Marked> Model for Marking<M> {
     ghost use Rattle.std.specs.Prelude.{◌+◌, ◌≤◌, length, vec_capacity};
-    ghost use Rattle.sqz_trace.specs.Shades.{AreLawfulOf, white_count};
+    ghost use Rattle.sqz_trace.specs.Shades.{AreLawfulOf};
+    ghost use Rattle.sqz_trace.specs.Greying.{white_count};
     ghost use Rattle.sqz_workers.specs.Turns.{Progress};
 
     ghost Value = { Progress };

@@ -1,11 +1,10 @@
-use Rattle.std.proofs.Common.{◌≡◌, ◌<◌, ◌≤◌, ◌+◌, ℕ}
-use Rattle.sqz_trace.specs.Shades.{Greys, IsTargetBelow, shade_at}
+use Rattle.std.proofs.Common.{◌+◌}
+use Rattle.sqz_trace.specs.Greying.{Greys, IsTargetBelow, IsLowest}
 use Rattle.sqz_trace.proofs.finishing.blacken.Given as goal
 
 abbrev pub invariant-loop-k : goal.invariant-loop-k
 invariant-loop-k l =
     record {
       greyed : Greys (IsTargetBelow l.heap l.parent l.k) l.fn.shades l.shades;
-      next : l.lowest ≤ l.object + 1;
-      lowest : (index : ℕ) → index < l.lowest → shade_at l.shades index ≡ shade_at l.fn.shades index;
+      lowest : IsLowest (l.object + 1) l.fn.shades l.shades l.lowest;
     }

@@ -7,7 +7,8 @@ use Rattle.sqz_trace.specs.Edges.{HasEdge}
 use Rattle.sqz_trace.specs.Reachability.{graph_from}
 use Rattle.sqz_trace.specs.Shades.{shade_at}
 use Rattle.sqz_trace.proofs.MarkingLemmas.{whole_slice}
-use Rattle.sqz_trace.proofs.FinishingLemmas.{grey-black, AreLawful-blackened, MarksReachable-finished, none_grey}
+use Rattle.sqz_trace.proofs.ShadeLemmas.{grey-black}
+use Rattle.sqz_trace.proofs.LawLemmas.{AreLawful-blackened, MarksReachable-finished, none_grey}
 use Rattle.sqz_trace.proofs.FinishingLemmas.{unfinished_count, unfinished-blackened, less_to_do}
 use Rattle.sqz_trace.proofs.finishing.finish.Goals as goal
 
@@ -51,8 +52,12 @@ loop-object-preserved-in-Grey c =
       };
       before = λ index lt is. elim (cases_order index object) [
         | inl same ↦ grey-black (sym is ∙ ap (shade_at new) same ∙ step.black)
-        | inr (inl below) ↦ so_far.before index below (lowest index lt is)
-        | inr (inr above) ↦ absurd (omega (arith, c.blacken-object.ensures.next))
+        | inr (inl below) ↦ elim (step.only index) [
+          | inl same ↦ absurd (omega arith)
+          | inr (inl same) ↦ so_far.before index below (sym same ∙ is)
+          | inr (inr (edge, white, grey)) ↦ lowest.none_below index lt (white, grey)
+        ]
+        | inr (inr above) ↦ absurd (omega (arith, lowest.no_higher))
       ];
     })
 

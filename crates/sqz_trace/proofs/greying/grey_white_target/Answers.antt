@@ -1,7 +1,7 @@
 use Rattle.std.proofs.Common.{sym, ◌≡◌, ◌∙◌, Some, arith}
 use Rattle.std.proofs.lemmas.Option.{same_Some}
 use Rattle.sqz_trace.specs.Edges.{named_in}
-use Rattle.sqz_trace.proofs.FinishingLemmas.{Greys-one}
+use Rattle.sqz_trace.proofs.GreyingLemmas.{Greys-one}
 use Rattle.sqz_trace.proofs.greying.grey_white_target.Goals as goal
 
 pub returns-in-White-clause-greyed : goal.returns-in-White-clause-greyed

@@ -1,10 +1,11 @@
-use Rattle.std.proofs.Common.{◌≡◌, ◌∷◌, [], inl, refl, sym, ◌∙◌, arith}
+use Rattle.std.proofs.Common.{◌≡◌, sym, ◌∙◌, arith}
 use Rattle.std.proofs.lemmas.Option.{same_Some}
+use Rattle.std.proofs.lemmas.List.Elements.{Contains-push}
 use Rattle.std.proofs.lemmas.List.{nil_from_length, map-set}
 use Rattle.sqz_trace.specs.Reachability.{graph_from}
 use Rattle.sqz_trace.specs.Shades.{marks_of}
 use Rattle.sqz_trace.proofs.ShadeLemmas.{marks_of-replicate, length-marks_of, same_length}
-use Rattle.sqz_trace.proofs.MarkingLemmas.{IsIn-back, IsMarking-start, IsMarking-step, IsMarking-inside}
+use Rattle.sqz_trace.proofs.MarkingLemmas.{IsMarking-start, IsMarking-step, IsMarking-inside}
 use Rattle.sqz_trace.proofs.MarkingLemmas.{MarksReachable-from_marking, whole_slice}
 use Rattle.sqz_trace.proofs.marking.mark_plain.Goals as goal
 
@@ -20,7 +21,7 @@ pub mark_targets-requires-clause-object : goal.mark_targets-requires-clause-obje
 mark_targets-requires-clause-object c =
     IsMarking-inside (graph_from c.special.result c.args.heap.now) (marks_of c.loop-object.shades.items) c.loop-object.worklist.items
     c.in-Some.object (c.loop-object.invariant c.special.result c.special.ensures.special)
-    (rw c.in-Some.ensures.items (IsIn-back c.in-Some.object c.pop.new.self.items (c.in-Some.object ∷ []) (inl refl)))
+    (rw c.in-Some.ensures.items (Contains-push c.pop.new.self.items c.in-Some.object))
 
 pub mark_targets-requires-clause-sized : goal.mark_targets-requires-clause-sized
 mark_targets-requires-clause-sized c =

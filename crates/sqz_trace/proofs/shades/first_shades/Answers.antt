@@ -1,6 +1,6 @@
 use Rattle.std.proofs.Common.{refl}
 use Rattle.sqz_trace.specs.Reachability.{graph_from}
-use Rattle.sqz_trace.proofs.FinishingLemmas.{AreLawful-first}
+use Rattle.sqz_trace.proofs.LawLemmas.{AreLawful-first}
 use Rattle.sqz_trace.proofs.shades.first_shades.Goals as goal
 
 pub returns-clause-first : goal.returns-clause-first

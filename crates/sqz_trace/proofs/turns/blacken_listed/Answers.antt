@@ -1,8 +1,17 @@
 use Rattle.std.proofs.Common.{◌≡◌, ◌∙◌, arith}
-use Rattle.sqz_trace.specs.Shades.{IsTargetBelow}
-use Rattle.sqz_trace.proofs.FinishingLemmas.{IsTargetOf, Greys-next_field, Blackens-after_slots}
+use Rattle.sqz_trace.specs.Greying.{IsTargetBelow}
+use Rattle.sqz_trace.proofs.GreyingLemmas.{IsTargetOf, Greys-class_word, Greys-next_field, Blackens-after_slots}
 use Rattle.sqz_trace.proofs.TurnLemmas.{IsListed-then, IsListed-room, IsListed-blackened}
 use Rattle.sqz_trace.proofs.turns.blacken_listed.Goals as goal
+
+pub loop-k-init : goal.loop-k-init
+loop-k-init c =
+    let first = c.grey_listed.ensures in
+    record {
+      greyed = Greys-class_word c.args.heap.now c.of-parent.result _ _ first.greyed;
+      listed = first.listed;
+      capacity = first.capacity;
+    }
 
 pub loop-k-preserved : goal.loop-k-preserved
 loop-k-preserved c =

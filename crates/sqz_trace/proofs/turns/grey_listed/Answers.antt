@@ -1,6 +1,6 @@
 use Rattle.std.proofs.Common.{ap, arith}
 use Rattle.sqz_trace.specs.declared.shades.Shade.TheVariants.{Grey}
-use Rattle.sqz_trace.specs.Shades.{white}
+use Rattle.sqz_trace.specs.Greying.{white}
 use Rattle.sqz_trace.proofs.TurnLemmas.{white_count-set, IsListed-none, IsListed-one}
 use Rattle.sqz_trace.proofs.turns.grey_listed.Goals as goal
 

@@ -4,7 +4,7 @@ use Rattle.sqz_trace.specs.declared.shades.Shade.TheVariants.{Grey}
 use Rattle.sqz_trace.specs.Reachability.{graph_from}
 use Rattle.sqz_trace.specs.Shades.{shade_at, AreLawfulOf}
 use Rattle.sqz_trace.proofs.MarkingLemmas.{whole_slice}
-use Rattle.sqz_trace.proofs.FinishingLemmas.{AreLawful-blackened}
+use Rattle.sqz_trace.proofs.LawLemmas.{AreLawful-blackened}
 use Rattle.sqz_workers.proofs.marking.Marking.turn.Goals as goal
 
 pub invariant_of-self-in-Grey-1 : goal.invariant_of-self-in-Grey-1

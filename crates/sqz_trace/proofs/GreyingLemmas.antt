@@ -1,0 +1,300 @@
+-- Shades that change as an object is looked at.
+use Rattle.std.proofs.Common.{◌≡◌, ◌⊎◌, ℕ, ◌+◌, ◌<◌, true, List, length, slice_index, set, min, ltb, Some}
+use Rattle.std.proofs.Common.{refl, sym, ap, subst, ◌∙◌, arith, inl, inr}
+use Rattle.std.proofs.lemmas.Bool.{cases_order, cases_lt, ltb-true}
+use Rattle.std.proofs.lemmas.Option.{cond_some, option_and_then_some}
+use Rattle.std.proofs.lemmas.List.{length-set, get_or-set_same, get_or-set_other}
+use Rattle.sqz_object.specs.Chunk.{fields}
+use Rattle.sqz_image.specs.declared.fault.Slot.{Slot}
+use Rattle.sqz_image.specs.declared.fault.Slot.TheVariants.{ClassWord, Field}
+use Rattle.sqz_image.specs.Objects.{Memory, object_count, chunk_words}
+use Rattle.sqz_trace.specs.declared.shades.Shade.{Shade}
+use Rattle.sqz_trace.specs.declared.shades.Shade.TheVariants.{White, Grey, Black}
+use Rattle.sqz_trace.specs.Slots.{slot_word, traced}
+use Rattle.sqz_trace.specs.Edges.{named_by, named_in, HasEdge}
+use Rattle.sqz_trace.specs.Graph.{is_marked}
+use Rattle.sqz_trace.specs.Shades.{shade_at, marks_of}
+use Rattle.sqz_trace.specs.Greying.{Greys, Blackens, IsBelow, IsTargetBelow, BecameGrey, IsLowest}
+use Rattle.sqz_trace.proofs.ShadeLemmas.{white-grey, marked-by, marked-same}
+
+-- ---- targets that become grey
+
+module _ (IsTarget : ℕ → Type 0) where
+  -- what was marked stays so
+  pub Greys-keeps : (old new : List Shade) → Greys IsTarget old new → (index : ℕ) → is_marked (marks_of old) index ≡ true
+      → is_marked (marks_of new) index ≡ true
+  Greys-keeps old new greys index marked =
+      elim (greys.only index) [
+        | inl same ↦ marked-same old new index same marked
+        | inr (is, white, grey) ↦ marked-by new index Grey grey refl
+      ]
+
+  -- none does where all are marked
+  pub Greys-none : (shades : List Shade) → ((index : ℕ) → IsTarget index → is_marked (marks_of shades) index ≡ true)
+      → Greys IsTarget shades shades
+  Greys-none shades have = record { sized = refl; targets = have; only = λ index. inl refl }
+
+  -- the one target becomes grey where it is white
+  pub Greys-one : (shades : List Shade) (found : ℕ) → found < length shades → shade_at shades found ≡ White → IsTarget found
+      → ((index : ℕ) → IsTarget index → found ≡ index) → Greys IsTarget shades (set shades found Grey)
+  Greys-one shades found inside white is one =
+      record {
+        sized = length-set shades found Grey;
+        targets = λ index target.
+            marked-by (set shades found Grey) index Grey
+            (subst (λ (i : ℕ). shade_at (set shades found Grey) i ≡ Grey) (one index target)
+            (get_or-set_same shades found Grey White inside)) refl;
+        only = λ index. elim (cases_order index found) [
+          | inl same ↦
+              (let at = get_or-set_same shades found Grey White inside in
+              inr (subst IsTarget (sym same) is, ap (shade_at shades) same ∙ white, ap (shade_at (set shades found Grey)) same ∙ at))
+          | inr (inl lt) ↦ inl (get_or-set_other shades found index Grey White (λ e. absurd (omega arith)))
+          | inr (inr gt) ↦ inl (get_or-set_other shades found index Grey White (λ e. absurd (omega arith)))
+        ];
+      }
+
+module _ (IsFirst IsSecond IsTarget : ℕ → Type 0)
+    (either : (index : ℕ) → IsTarget index → IsFirst index ⊎ IsSecond index)
+    (from_first : (index : ℕ) → IsFirst index → IsTarget index)
+    (from_second : (index : ℕ) → IsSecond index → IsTarget index) where
+  -- some targets become grey, and then the others
+  pub Greys-then : (old shades new : List Shade) → Greys IsFirst old shades → Greys IsSecond shades new → Greys IsTarget old new
+  Greys-then old shades new first second =
+      record {
+        sized = second.sized ∙ first.sized;
+        targets = λ index target. elim (either index target) [
+          | inl one ↦ Greys-keeps IsSecond shades new second index (first.targets index one)
+          | inr other ↦ second.targets index other
+        ];
+        only = λ index. elim (second.only index) [
+          | inl same ↦ elim (first.only index) [
+            | inl before ↦ inl (same ∙ before)
+            | inr (one, white, grey) ↦ inr (from_first index one, white, same ∙ grey)
+          ]
+          | inr (other, white, grey) ↦ elim (first.only index) [
+            | inl before ↦ inr (from_second index other, sym before ∙ white, grey)
+            | inr (one, was_white, was_grey) ↦ absurd (white-grey (sym white ∙ was_grey))
+          ]
+        ];
+      }
+
+-- an object whose targets became grey becomes black
+pub Blackens-after : (IsTarget IsEdge : ℕ → Type 0) (object : ℕ) (old shades : List Shade) → object < length shades
+    → ((index : ℕ) → IsEdge index → IsTarget index) → ((index : ℕ) → IsTarget index → IsEdge index)
+    → Greys IsTarget old shades → Blackens IsEdge object old (set shades object Black)
+Blackens-after IsTarget IsEdge object old shades inside to_target to_edge greys =
+    record {
+      sized = length-set shades object Black ∙ greys.sized;
+      black = get_or-set_same shades object Black White inside;
+      targets = λ index edge. elim (cases_order index object) [
+        | inl same ↦
+            marked-by new index Black (ap (shade_at new) same ∙ get_or-set_same shades object Black White inside) refl
+        | inr (inl lt) ↦ kept index (λ e. absurd (omega arith)) (greys.targets index (to_target index edge))
+        | inr (inr gt) ↦ kept index (λ e. absurd (omega arith)) (greys.targets index (to_target index edge))
+      ];
+      only = λ index. elim (cases_order index object) [
+        | inl same ↦ inl same
+        | inr (inl lt) ↦ inr (other index (λ e. absurd (omega arith)))
+        | inr (inr gt) ↦ inr (other index (λ e. absurd (omega arith)))
+      ];
+    } where
+      new : List Shade
+      new = set shades object Black
+
+      same_as : (index : ℕ) → (index ≡ object → ⊥) → shade_at (set shades object Black) index ≡ shade_at shades index
+      same_as index differs = get_or-set_other shades object index Black White differs
+
+      kept : (index : ℕ) → (index ≡ object → ⊥) → is_marked (marks_of shades) index ≡ true
+          → is_marked (marks_of (set shades object Black)) index ≡ true
+      kept index differs marked = marked-same shades (set shades object Black) index (same_as index differs) marked
+
+      other : (index : ℕ) → (index ≡ object → ⊥)
+          → (shade_at (set shades object Black) index ≡ shade_at old index)
+          ⊎ (IsEdge index × (shade_at old index ≡ White) × (shade_at (set shades object Black) index ≡ Grey))
+      other index differs =
+          elim (greys.only index) [
+            | inl same ↦ inl (same_as index differs ∙ same)
+            | inr (is, white, grey) ↦ inr (to_edge index is, white, same_as index differs ∙ grey)
+          ]
+
+-- what is white was white before some became grey
+pub Greys-was_white : (IsTarget : ℕ → Type 0) (old new : List Shade) → Greys IsTarget old new
+    → (index : ℕ) → shade_at new index ≡ White → shade_at old index ≡ White
+Greys-was_white IsTarget old new greys index is =
+    elim (greys.only index) [
+      | inl same ↦ sym same ∙ is
+      | inr (target, was, grey) ↦ was
+    ]
+
+-- what is grey stays so where some become grey
+pub Greys-stays_grey : (IsTarget : ℕ → Type 0) (old new : List Shade) → Greys IsTarget old new
+    → (index : ℕ) → shade_at old index ≡ Grey → shade_at new index ≡ Grey
+Greys-stays_grey IsTarget old new greys index is =
+    elim (greys.only index) [
+      | inl same ↦ same ∙ is
+      | inr (target, was, grey) ↦ grey
+    ]
+
+-- what was white has the same shade after a grey object became black
+pub white_stays : (old shades : List Shade) (object : ℕ) → shade_at old object ≡ Grey → (index : ℕ) → shade_at old index ≡ White
+    → shade_at (set shades object Black) index ≡ shade_at shades index
+white_stays old shades object grey index was =
+    get_or-set_other shades object index Black White (λ e. white-grey (sym was ∙ ap (shade_at old) e ∙ grey))
+
+-- ---- the lowest that becomes grey
+
+-- where no shade changes it is the number itself
+pub IsLowest-none : (shades : List Shade) (next : ℕ) → IsLowest next shades shades next
+IsLowest-none shades next =
+    record {
+      no_higher = omega arith;
+      found = inl refl;
+      none_below = λ index lt became. white-grey (sym became.0 ∙ became.1);
+    }
+
+-- where one becomes grey, it is this one or the number, whichever is lower
+pub IsLowest-one : (shades : List Shade) (found next : ℕ) → found < length shades → shade_at shades found ≡ White
+    → IsLowest next shades (set shades found Grey) (min next found)
+IsLowest-one shades found next inside is =
+    record {
+      no_higher = omega arith;
+      found = elim (cases_lt found next) [
+        | inl lt ↦
+            (let least : found ≡ min next found = omega arith in
+            inr (subst (BecameGrey shades (set shades found Grey)) least (is, get_or-set_same shades found Grey White inside)))
+        | inr ge ↦ inl (omega arith)
+      ];
+      none_below = λ index lt became.
+          white-grey
+          (sym became.0 ∙ sym (get_or-set_other shades found index Grey White (λ e. absurd (omega (arith, e)))) ∙ became.1);
+    }
+
+module _ (next : ℕ) (old shades : List Shade) (low : ℕ) (lowest : IsLowest next old shades low) where
+  -- some became grey, and then others
+  pub IsLowest-then : (IsTarget IsOther : ℕ → Type 0) (new : List Shade) (lower : ℕ) → Greys IsTarget old shades
+      → Greys IsOther shades new → IsLowest low shades new lower → IsLowest next old new lower
+  IsLowest-then IsTarget IsOther new lower first second later =
+      record {
+        no_higher = omega (arith, lowest.no_higher, later.no_higher);
+        found = elim later.found [
+          | inl same ↦ elim lowest.found [
+            | inl is ↦ inl (same ∙ is)
+            | inr (white, grey) ↦
+                inr (subst (BecameGrey old new) (sym same) (white, Greys-stays_grey IsOther shades new second low grey))
+          ]
+          | inr (white, grey) ↦ inr (Greys-was_white IsTarget old shades first lower white, grey)
+        ];
+        none_below = λ index lt became. elim (second.only index) [
+          | inl same ↦ lowest.none_below index (omega (arith, lt, later.no_higher)) (became.0, sym same ∙ became.1)
+          | inr (target, white, grey) ↦ later.none_below index lt (white, grey)
+        ];
+      }
+
+  -- and then a grey object became black
+  pub IsLowest-blackened : (object : ℕ) → shade_at old object ≡ Grey → IsLowest next old (set shades object Black) low
+  IsLowest-blackened object is =
+      record {
+        no_higher = lowest.no_higher;
+        found = elim lowest.found [
+          | inl same ↦ inl same
+          | inr (white, grey) ↦ inr (white, white_stays old shades object is low white ∙ grey)
+        ];
+        none_below = λ index lt became.
+            lowest.none_below index lt (became.0, sym (white_stays old shades object is index became.0) ∙ became.1);
+      }
+
+-- ---- the slots of an object, one after the other
+
+module _ (memory : Memory) (chunk : List ℕ) where
+  -- the field names the object
+  abbrev pub IsTargetOf : ℕ → ℕ → Type 0
+  IsTargetOf k index = named_in memory chunk (Field k) ≡ Some index
+
+  -- what one field more names is named by it, or by a slot before
+  pub IsTargetBelow-next : (k index : ℕ) → IsTargetBelow memory chunk (k + 1) index
+      → IsTargetBelow memory chunk k index ⊎ IsTargetOf k index
+  IsTargetBelow-next k index named = by_slot named.slot named.below named.names
+    where
+      by_slot : (slot : Slot) → IsBelow (k + 1) slot → named_in memory chunk slot ≡ Some index
+          → IsTargetBelow memory chunk k index ⊎ IsTargetOf k index
+      by_slot ClassWord below names = inl (record { slot = ClassWord; below = tt; names = names })
+      by_slot (Field j) below names =
+          elim (cases_lt j k) [
+            | inl lt ↦ inl (record { slot = Field j; below = lt; names = names })
+            | inr ge ↦ (let same : j ≡ k = omega arith in inr (subst (λ (i : ℕ). IsTargetOf i index) same names))
+          ]
+
+  -- a slot before is one before the next
+  pub IsTargetBelow-more : (k index : ℕ) → IsTargetBelow memory chunk k index → IsTargetBelow memory chunk (k + 1) index
+  IsTargetBelow-more k index named = by_slot named.slot named.below named.names
+    where
+      by_slot : (slot : Slot) → IsBelow k slot → named_in memory chunk slot ≡ Some index
+          → IsTargetBelow memory chunk (k + 1) index
+      by_slot ClassWord below names = record { slot = ClassWord; below = tt; names = names }
+      by_slot (Field j) below names = record { slot = Field j; below = omega arith; names = names }
+
+  -- a slot is the class word or a traced field
+  pub IsTargetBelow-slot : (slot : Slot) (index : ℕ) → named_in memory chunk slot ≡ Some index
+      → IsTargetBelow memory chunk (traced chunk) index
+  IsTargetBelow-slot ClassWord index names = record { slot = ClassWord; below = tt; names = names }
+  IsTargetBelow-slot (Field k) index names =
+      option_and_then_some (named_by memory) (slot_word chunk (Field k)) index names
+      (λ word is names_it.
+      let held = cond_some (ltb k (traced chunk)) (slice_index (fields chunk) k) word is in
+      record { slot = Field k; below = ltb-true k (traced chunk) held.0; names = names })
+
+  -- without a field there is the class word alone
+  pub IsTargetBelow-none : (index : ℕ) → IsTargetBelow memory chunk 0 index → named_in memory chunk ClassWord ≡ Some index
+  IsTargetBelow-none index named = by_slot named.slot named.below named.names
+    where
+      by_slot : (slot : Slot) → IsBelow 0 slot → named_in memory chunk slot ≡ Some index → named_in memory chunk ClassWord ≡ Some index
+      by_slot ClassWord below names = names
+      by_slot (Field j) below names = absurd (omega arith)
+
+  -- the target of the class word became grey
+  pub Greys-class_word : (old new : List Shade) → Greys (λ index. named_in memory chunk ClassWord ≡ Some index) old new
+      → Greys (IsTargetBelow memory chunk 0) old new
+  Greys-class_word old new greys =
+      record {
+        sized = greys.sized;
+        targets = λ index target. greys.targets index (IsTargetBelow-none index target);
+        only = λ index. elim (greys.only index) [
+          | inl same ↦ inl same
+          | inr (names, white, grey) ↦ inr (record { slot = ClassWord; below = tt; names = names }, white, grey)
+        ];
+      }
+
+  -- the targets of the slots before became grey, and then that of the next field
+  pub Greys-next_field : (k : ℕ) (old shades new : List Shade) → Greys (IsTargetBelow memory chunk k) old shades
+      → Greys (IsTargetOf k) shades new → Greys (IsTargetBelow memory chunk (k + 1)) old new
+  Greys-next_field k old shades new first second =
+      Greys-then (IsTargetBelow memory chunk k) (IsTargetOf k) (IsTargetBelow memory chunk (k + 1))
+      (IsTargetBelow-next k) (IsTargetBelow-more k)
+      (λ index names. record { slot = Field k; below = omega arith; names = names }) old shades new first second
+
+module _ (memory : Memory) (object : ℕ) (chunk : List ℕ) (its : chunk ≡ chunk_words memory object) where
+  -- what an edge leads to is named by the class word or by a traced field
+  pub IsTargetBelow-edge : (index : ℕ) → HasEdge memory object index → IsTargetBelow memory chunk (traced chunk) index
+  IsTargetBelow-edge index edge =
+      IsTargetBelow-slot memory chunk edge.slot index
+      (subst (λ (words : List ℕ). named_in memory words edge.slot ≡ Some index) (sym its) edge.names)
+
+  -- and such a slot is an edge
+  pub HasEdge-below : (count index : ℕ) → object < object_count memory → IsTargetBelow memory chunk count index
+      → HasEdge memory object index
+  HasEdge-below count index inside named =
+      record {
+        inside = inside;
+        slot = named.slot;
+        names = subst (λ (words : List ℕ). named_in memory words named.slot ≡ Some index) its named.names;
+      }
+
+  -- the targets of all slots became grey, and then the object black
+  pub Blackens-after_slots : (count : ℕ) (old shades : List Shade) → object < object_count memory
+      → length old ≡ object_count memory → count ≡ traced chunk
+      → Greys (IsTargetBelow memory chunk count) old shades → Blackens (HasEdge memory object) object old (set shades object Black)
+  Blackens-after_slots count old shades inside sized all greys =
+      Blackens-after (IsTargetBelow memory chunk count) (HasEdge memory object) object old shades
+      (omega (arith, greys.sized, sized, inside))
+      (λ index edge. subst (λ (k : ℕ). IsTargetBelow memory chunk k index) (sym all) (IsTargetBelow-edge index edge))
+      (λ index. HasEdge-below count index inside) greys
