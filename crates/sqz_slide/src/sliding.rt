@@ -86,7 +86,8 @@ fn first_region(worker: u32, workers: Workers, regions: u32) -> u32
     (u64::from(worker) * u64::from(regions) / u64::from(workers.number())) as u32
 }
 
-/// The pieces of the worker with this number.
+/// The pieces of the worker with this number. It passes the gate before it takes any memory, and then before each region
+/// but its first.
 fn share<G: Gate>(
     alloc: Global,
     heap: &Heap,
@@ -106,12 +107,12 @@ fn share<G: Gate>(
     let count = regions.count();
     let from = first_region(worker, workers, count);
     let to = first_region(worker + 1, workers, count);
-    if from == to {
-        gate.pass(Phase::Slide, worker, 0);
-    }
+    gate.pass(Phase::Slide, worker, 0);
     let mut pieces = Vec::with_capacity(alloc, (to - from) as usize)?;
     for region in from..to {
-        gate.pass(Phase::Slide, worker, u64::from(region - from));
+        if region > from {
+            gate.pass(Phase::Slide, worker, u64::from(region - from));
+        }
         pieces.push(piece_of(alloc, heap, regions, forward, region)?)?;
     }
     Ok(pieces)
