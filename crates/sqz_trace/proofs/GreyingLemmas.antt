@@ -1,21 +1,21 @@
 -- Shades that change as an object is looked at.
-use Rattle.std.proofs.Common.{◌≡◌, ◌⊎◌, ℕ, ◌+◌, ◌<◌, true, List, length, slice_index, set, min, ltb, Some}
+use Rattle.std.proofs.Common.{◌≡◌, ◌⊎◌, ℕ, ◌+◌, ◌<◌, true, List, length, set, min, Some}
 use Rattle.std.proofs.Common.{refl, sym, ap, subst, ◌∙◌, arith, inl, inr}
-use Rattle.std.proofs.lemmas.Bool.{cases_order, cases_lt, ltb-true}
-use Rattle.std.proofs.lemmas.Option.{cond_some, option_and_then_some}
+use Rattle.std.proofs.lemmas.Bool.{cases_order, cases_lt}
 use Rattle.std.proofs.lemmas.List.{length-set, get_or-set_same, get_or-set_other}
-use Rattle.sqz_object.specs.Chunk.{fields}
-use Rattle.sqz_image.specs.declared.fault.Slot.{Slot}
 use Rattle.sqz_image.specs.declared.fault.Slot.TheVariants.{ClassWord, Field}
 use Rattle.sqz_image.specs.Objects.{Memory, object_count, chunk_words}
 use Rattle.sqz_trace.specs.declared.shades.Shade.{Shade}
 use Rattle.sqz_trace.specs.declared.shades.Shade.TheVariants.{White, Grey, Black}
-use Rattle.sqz_trace.specs.Slots.{slot_word, traced}
-use Rattle.sqz_trace.specs.Edges.{named_by, named_in, HasEdge}
+use Rattle.sqz_trace.specs.Slots.{traced}
+use Rattle.sqz_trace.specs.Edges.{named_in, HasEdge}
 use Rattle.sqz_trace.specs.Graph.{is_marked}
 use Rattle.sqz_trace.specs.Shades.{shade_at, marks_of}
-use Rattle.sqz_trace.specs.Greying.{Greys, Blackens, IsBelow, IsTargetBelow, BecameGrey, IsLowest}
+use Rattle.sqz_trace.specs.Targets.{IsTargetBelow}
+use Rattle.sqz_trace.specs.Greying.{Greys, Blackens, BecameGrey, IsLowest}
 use Rattle.sqz_trace.proofs.ShadeLemmas.{white-grey, marked-by, marked-same}
+use Rattle.sqz_trace.proofs.TargetLemmas.{IsTargetOf, IsTargetBelow-next, IsTargetBelow-more, IsTargetBelow-none}
+use Rattle.sqz_trace.proofs.TargetLemmas.{IsTargetBelow-edge, HasEdge-below}
 
 -- ---- targets that become grey
 
@@ -206,58 +206,13 @@ module _ (next : ℕ) (old shades : List Shade) (low : ℕ) (lowest : IsLowest n
 -- ---- the slots of an object, one after the other
 
 module _ (memory : Memory) (chunk : List ℕ) where
-  -- the field names the object
-  abbrev pub IsTargetOf : ℕ → ℕ → Type 0
-  IsTargetOf k index = named_in memory chunk (Field k) ≡ Some index
-
-  -- what one field more names is named by it, or by a slot before
-  pub IsTargetBelow-next : (k index : ℕ) → IsTargetBelow memory chunk (k + 1) index
-      → IsTargetBelow memory chunk k index ⊎ IsTargetOf k index
-  IsTargetBelow-next k index named = by_slot named.slot named.below named.names
-    where
-      by_slot : (slot : Slot) → IsBelow (k + 1) slot → named_in memory chunk slot ≡ Some index
-          → IsTargetBelow memory chunk k index ⊎ IsTargetOf k index
-      by_slot ClassWord below names = inl (record { slot = ClassWord; below = tt; names = names })
-      by_slot (Field j) below names =
-          elim (cases_lt j k) [
-            | inl lt ↦ inl (record { slot = Field j; below = lt; names = names })
-            | inr ge ↦ (let same : j ≡ k = omega arith in inr (subst (λ (i : ℕ). IsTargetOf i index) same names))
-          ]
-
-  -- a slot before is one before the next
-  pub IsTargetBelow-more : (k index : ℕ) → IsTargetBelow memory chunk k index → IsTargetBelow memory chunk (k + 1) index
-  IsTargetBelow-more k index named = by_slot named.slot named.below named.names
-    where
-      by_slot : (slot : Slot) → IsBelow k slot → named_in memory chunk slot ≡ Some index
-          → IsTargetBelow memory chunk (k + 1) index
-      by_slot ClassWord below names = record { slot = ClassWord; below = tt; names = names }
-      by_slot (Field j) below names = record { slot = Field j; below = omega arith; names = names }
-
-  -- a slot is the class word or a traced field
-  pub IsTargetBelow-slot : (slot : Slot) (index : ℕ) → named_in memory chunk slot ≡ Some index
-      → IsTargetBelow memory chunk (traced chunk) index
-  IsTargetBelow-slot ClassWord index names = record { slot = ClassWord; below = tt; names = names }
-  IsTargetBelow-slot (Field k) index names =
-      option_and_then_some (named_by memory) (slot_word chunk (Field k)) index names
-      (λ word is names_it.
-      let held = cond_some (ltb k (traced chunk)) (slice_index (fields chunk) k) word is in
-      record { slot = Field k; below = ltb-true k (traced chunk) held.0; names = names })
-
-  -- without a field there is the class word alone
-  pub IsTargetBelow-none : (index : ℕ) → IsTargetBelow memory chunk 0 index → named_in memory chunk ClassWord ≡ Some index
-  IsTargetBelow-none index named = by_slot named.slot named.below named.names
-    where
-      by_slot : (slot : Slot) → IsBelow 0 slot → named_in memory chunk slot ≡ Some index → named_in memory chunk ClassWord ≡ Some index
-      by_slot ClassWord below names = names
-      by_slot (Field j) below names = absurd (omega arith)
-
   -- the target of the class word became grey
   pub Greys-class_word : (old new : List Shade) → Greys (λ index. named_in memory chunk ClassWord ≡ Some index) old new
       → Greys (IsTargetBelow memory chunk 0) old new
   Greys-class_word old new greys =
       record {
         sized = greys.sized;
-        targets = λ index target. greys.targets index (IsTargetBelow-none index target);
+        targets = λ index target. greys.targets index (IsTargetBelow-none memory chunk index target);
         only = λ index. elim (greys.only index) [
           | inl same ↦ inl same
           | inr (names, white, grey) ↦ inr (record { slot = ClassWord; below = tt; names = names }, white, grey)
@@ -266,29 +221,13 @@ module _ (memory : Memory) (chunk : List ℕ) where
 
   -- the targets of the slots before became grey, and then that of the next field
   pub Greys-next_field : (k : ℕ) (old shades new : List Shade) → Greys (IsTargetBelow memory chunk k) old shades
-      → Greys (IsTargetOf k) shades new → Greys (IsTargetBelow memory chunk (k + 1)) old new
+      → Greys (IsTargetOf memory chunk k) shades new → Greys (IsTargetBelow memory chunk (k + 1)) old new
   Greys-next_field k old shades new first second =
-      Greys-then (IsTargetBelow memory chunk k) (IsTargetOf k) (IsTargetBelow memory chunk (k + 1))
-      (IsTargetBelow-next k) (IsTargetBelow-more k)
+      Greys-then (IsTargetBelow memory chunk k) (IsTargetOf memory chunk k) (IsTargetBelow memory chunk (k + 1))
+      (IsTargetBelow-next memory chunk k) (IsTargetBelow-more memory chunk k)
       (λ index names. record { slot = Field k; below = omega arith; names = names }) old shades new first second
 
 module _ (memory : Memory) (object : ℕ) (chunk : List ℕ) (its : chunk ≡ chunk_words memory object) where
-  -- what an edge leads to is named by the class word or by a traced field
-  pub IsTargetBelow-edge : (index : ℕ) → HasEdge memory object index → IsTargetBelow memory chunk (traced chunk) index
-  IsTargetBelow-edge index edge =
-      IsTargetBelow-slot memory chunk edge.slot index
-      (subst (λ (words : List ℕ). named_in memory words edge.slot ≡ Some index) (sym its) edge.names)
-
-  -- and such a slot is an edge
-  pub HasEdge-below : (count index : ℕ) → object < object_count memory → IsTargetBelow memory chunk count index
-      → HasEdge memory object index
-  HasEdge-below count index inside named =
-      record {
-        inside = inside;
-        slot = named.slot;
-        names = subst (λ (words : List ℕ). named_in memory words named.slot ≡ Some index) its named.names;
-      }
-
   -- the targets of all slots became grey, and then the object black
   pub Blackens-after_slots : (count : ℕ) (old shades : List Shade) → object < object_count memory
       → length old ≡ object_count memory → count ≡ traced chunk
@@ -296,5 +235,6 @@ module _ (memory : Memory) (object : ℕ) (chunk : List ℕ) (its : chunk ≡ ch
   Blackens-after_slots count old shades inside sized all greys =
       Blackens-after (IsTargetBelow memory chunk count) (HasEdge memory object) object old shades
       (omega (arith, greys.sized, sized, inside))
-      (λ index edge. subst (λ (k : ℕ). IsTargetBelow memory chunk k index) (sym all) (IsTargetBelow-edge index edge))
-      (λ index. HasEdge-below count index inside) greys
+      (λ index edge.
+      subst (λ (k : ℕ). IsTargetBelow memory chunk k index) (sym all) (IsTargetBelow-edge memory object chunk its index edge))
+      (λ index. HasEdge-below memory object chunk its count index inside) greys

@@ -8,5 +8,6 @@ pub mod DefectLemmas
 pub mod FirstDefectLemmas
 pub mod FinishingLemmas
 pub mod TurnLemmas
+pub mod TargetLemmas
 pub mod GreyingLemmas
 pub mod LawLemmas

@@ -103,7 +103,8 @@ module _ (IsTarget : ℕ → Type 0) (old shades : List Shade) (list longer : Li
             (is_marked-shade shades index ∙ ap has_mark (sym (white_stays old shades object grey index white))
             ∙ sym (is_marked-shade (set shades object Black) index) ∙ marked);
         only = λ index there.
-            ((listed.only index there).0, white_stays old shades object grey index (listed.only index there).0 ∙ (listed.only index there).1);
+            let was = (listed.only index there).0 in
+            (was, white_stays old shades object grey index was ∙ (listed.only index there).1);
         measure =
             omega (
               arith,

@@ -1,11 +1,7 @@
 -- What happens to shades as marking goes on: an object's white targets become grey, and it black.
-use Rattle.std.specs.Prelude.{◌≡◌, ◌⊎◌, ◌+◌, ◌<◌, ◌≤◌, ℕ, true, List, [], ◌∷◌, ◌++◌, length, Contains, Some}
-use Rattle.sqz_image.specs.Objects.{Memory}
-use Rattle.sqz_image.specs.declared.fault.Slot.{Slot}
-use Rattle.sqz_image.specs.declared.fault.Slot.TheVariants.{ClassWord, Field}
+use Rattle.std.specs.Prelude.{◌≡◌, ◌⊎◌, ◌+◌, ◌<◌, ◌≤◌, ℕ, true, List, [], ◌∷◌, ◌++◌, length, Contains}
 use Rattle.sqz_trace.specs.declared.shades.Shade.{Shade}
 use Rattle.sqz_trace.specs.declared.shades.Shade.TheVariants.{White, Grey, Black}
-use Rattle.sqz_trace.specs.Edges.{named_in}
 use Rattle.sqz_trace.specs.Graph.{is_marked}
 use Rattle.sqz_trace.specs.Shades.{shade_at, marks_of}
 
@@ -23,17 +19,6 @@ pub record Blackens (IsTarget : ℕ → Type 0) (object : ℕ) (old new : List S
   pub targets : (index : ℕ) → IsTarget index → is_marked (marks_of new) index ≡ true
   pub only : (index : ℕ) → (index ≡ object) ⊎ ((shade_at new index ≡ shade_at old index)
       ⊎ (IsTarget index × (shade_at old index ≡ White) × (shade_at new index ≡ Grey)))
-
--- a slot is the class word, or one of the first fields, so many of them
-abbrev pub IsBelow : ℕ → Slot → Type 0
-IsBelow count ClassWord = Unit {0}
-IsBelow count (Field index) = index < count
-
--- a slot of the chunk, among the class word and the first fields, so many of them, names it
-pub record IsTargetBelow (memory : Memory) (chunk : List ℕ) (count index : ℕ) : Type 0 where
-  pub slot : Slot
-  pub below : IsBelow count slot
-  pub names : named_in memory chunk slot ≡ Some index
 
 -- a white object became grey
 abbrev pub BecameGrey : List Shade → List Shade → ℕ → Type 0

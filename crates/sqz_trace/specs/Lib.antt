@@ -7,4 +7,5 @@ pub mod Live
 pub mod Defects
 pub mod Ranges
 pub mod Shades
+pub mod Targets
 pub mod Greying

@@ -1,6 +1,7 @@
 use Rattle.std.proofs.Common.{◌≡◌, ◌+◌, ◌∙◌, arith}
-use Rattle.sqz_trace.specs.Greying.{IsTargetBelow}
-use Rattle.sqz_trace.proofs.GreyingLemmas.{IsTargetOf, Greys-next_field, Blackens-after_slots, IsLowest-then, IsLowest-blackened}
+use Rattle.sqz_trace.specs.Targets.{IsTargetBelow}
+use Rattle.sqz_trace.proofs.TargetLemmas.{IsTargetOf}
+use Rattle.sqz_trace.proofs.GreyingLemmas.{Greys-next_field, Blackens-after_slots, IsLowest-then, IsLowest-blackened}
 use Rattle.sqz_trace.proofs.finishing.blacken.Goals as goal
 
 pub loop-k-preserved : goal.loop-k-preserved

@@ -1,5 +1,6 @@
 use Rattle.std.proofs.Common.{◌+◌}
-use Rattle.sqz_trace.specs.Greying.{Greys, IsTargetBelow, IsLowest}
+use Rattle.sqz_trace.specs.Targets.{IsTargetBelow}
+use Rattle.sqz_trace.specs.Greying.{Greys, IsLowest}
 use Rattle.sqz_trace.proofs.finishing.blacken.Given as goal
 
 abbrev pub invariant-loop-k : goal.invariant-loop-k

@@ -1,6 +1,7 @@
 use Rattle.std.proofs.Common.{◌≡◌, ◌∙◌, arith}
-use Rattle.sqz_trace.specs.Greying.{IsTargetBelow}
-use Rattle.sqz_trace.proofs.GreyingLemmas.{IsTargetOf, Greys-class_word, Greys-next_field, Blackens-after_slots}
+use Rattle.sqz_trace.specs.Targets.{IsTargetBelow}
+use Rattle.sqz_trace.proofs.TargetLemmas.{IsTargetOf}
+use Rattle.sqz_trace.proofs.GreyingLemmas.{Greys-class_word, Greys-next_field, Blackens-after_slots}
 use Rattle.sqz_trace.proofs.TurnLemmas.{IsListed-then, IsListed-room, IsListed-blackened}
 use Rattle.sqz_trace.proofs.turns.blacken_listed.Goals as goal
 
@@ -31,8 +32,8 @@ loop-k-preserved c =
 pub returns-clause-blackened : goal.returns-clause-blackened
 returns-clause-blackened c =
     let end : c.loop-k.k ≡ c.traced-k-end.result = omega (arith, c.loop-k-test.false, c.loop-k.auto.k-end) in
-    Blackens-after_slots c.args.heap.now c.args.object c.of-parent.result c.of-parent.ensures c.loop-k.k c.args.shades.now _ c.requires.object c.requires.sized
-    (end ∙ c.traced-k-end.ensures.traced) c.loop-k.invariant.greyed
+    Blackens-after_slots c.args.heap.now c.args.object c.of-parent.result c.of-parent.ensures c.loop-k.k c.args.shades.now _
+    c.requires.object c.requires.sized (end ∙ c.traced-k-end.ensures.traced) c.loop-k.invariant.greyed
 
 pub returns-clause-listed : goal.returns-clause-listed
 returns-clause-listed c =

@@ -1,6 +1,7 @@
 use Rattle.std.proofs.Common.{◌≡◌}
 use Rattle.std.specs.Prelude.{vec_capacity}
-use Rattle.sqz_trace.specs.Greying.{Greys, IsListed, IsTargetBelow}
+use Rattle.sqz_trace.specs.Targets.{IsTargetBelow}
+use Rattle.sqz_trace.specs.Greying.{Greys, IsListed}
 use Rattle.sqz_trace.proofs.turns.blacken_listed.Given as goal
 
 abbrev pub invariant-loop-k : goal.invariant-loop-k

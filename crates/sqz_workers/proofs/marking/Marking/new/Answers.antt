@@ -31,5 +31,5 @@ returns-clause-begun g c =
     let start : c.special.result ≡ first.start = same_Some _ _ (sym c.special.ensures.special ∙ first.is_special) in
     record {
       first = first;
-      alone = c.in_ok-push.ensures.items ∙ rw (c.in_ok-list.ensures.items, start) refl;
+      alone = rw (c.in_ok-push.ensures.items, c.in_ok-list.ensures.items, start) refl;
     }
