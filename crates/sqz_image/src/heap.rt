@@ -170,7 +170,7 @@ impl Heap {
         chunk.length - chunk.before - 1
     }
 
-    /// Field `k` of the object.
+    /// Field `k` of the object. The program goes over slices of fields, by `object`.
     pub fn field(&self, object: u32, k: u32) -> u32
         requires object { object < object_count self.now }
         requires field { k < length (fields (chunk_words self.now object)) }

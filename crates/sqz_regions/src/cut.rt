@@ -51,7 +51,7 @@ impl Cut {
         })
     }
 
-    /// Cuts at these words; no point is one region. Refused with `BadCut`, and the list is dropped, unless each is
+    /// Cuts at these words, which the program never asks for; no point is one region. Refused with `BadCut`, and the list is dropped, unless each is
     /// above the one before, and none above 2^30.
     pub fn at(list: Vec<u32>) -> Result<Cut, Fault>
         ensures cut { IfOk result (λ cut. cut ≡ At list.items) }

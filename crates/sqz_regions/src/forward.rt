@@ -44,8 +44,8 @@ impl Model for Forward {
 }
 
 impl Forward {
-    /// The places of the marked objects, by the bases of their regions. Built in several threads, in ranges of thousands of objects.
-    /// Fails for want of memory alone.
+    /// The places of the marked objects, by the bases of their regions. Where there are more than 4096 objects, and more
+    /// than one region, several threads build them: each takes whole regions. Fails for want of memory alone.
     pub fn build(
         rt: &(impl Threads + Sync),
         alloc: Global,

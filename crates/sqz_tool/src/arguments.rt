@@ -69,7 +69,7 @@ fn command<'a>(alloc: Global) -> Result<Command<'a>, AllocError>
         alloc,
         "region-words",
         "65536",
-        "How many words of the image a worker takes at a time, up to 2^30",
+        "How many words a region has, up to 2^30; workers that move objects share regions out",
     );
     let census = flag(
         alloc,

@@ -90,7 +90,8 @@ fn mark_targets(
     mark_all_named(heap, &fields[..traced], shades, worklist)
 }
 
-/// The reachable objects of a heap: a mark for each. Fails for want of memory alone.
+/// The reachable objects of a heap: a mark for each. The program marks by workers; this is the plain form, in one thread.
+/// Fails for want of memory alone.
 pub fn mark_plain(alloc: Global, heap: &Heap) -> Result<Marks, Fault>
     ensures reachable { IfOk result (λ marks. IsReachability heap.now marks) }
     ensures refused { IfErr result (λ fault. fault ≡ OutOfMemory) }
