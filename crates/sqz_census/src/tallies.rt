@@ -8,6 +8,7 @@ ghost use Rattle.sqz_census.specs.Tallies.{AreTallies, FitWords};
 use crate::classes::COMPACT_INDEXES;
 use crate::entries::{DEAD, Entry};
 use sqz_image::Heap;
+use sqz_image::laws::heap_bounds;
 use sqz_trace::Marks;
 use std::alloc::{AllocError, Global};
 
@@ -30,6 +31,7 @@ pub(crate) fn tallies_of(
     ensures tallies { IfOk result (λ tallies. AreTallies heap.now marks.now tallies.items) }
     ensures fit { IfOk result (λ tallies. FitWords tallies.items) }
 {
+    heap_bounds(heap);
     let none = Tally { count: 0, words: 0 };
     let mut tallies = vec![in alloc; none; (heap.len() + COMPACT_INDEXES) as usize]?;
     for entry in entries {

@@ -105,7 +105,6 @@ impl Heap {
     pub fn len(&self) -> u32
         ensures objects { result ≡ object_count self.now }
         ensures few { result < 2 ^ 30 }
-        ensures few_words { length (concat self.now.chunks) < 2 ^ 30 }
     {
         self.firsts.len() as u32
     }

@@ -12,6 +12,7 @@ ghost use Rattle.sqz_tool.specs.Headline.{IsCompaction, IsReport, HasDefectIn};
 use crate::plan::Plan;
 use crate::summary::Summary;
 use sqz_census::{census, print};
+use sqz_image::laws::heap_bounds;
 use sqz_image::{Fault, Heap, Image};
 use sqz_regions::{Forward, Regions, bases, live_words};
 use sqz_slide::{Pieces, slide};
@@ -47,6 +48,7 @@ pub(crate) fn compaction_of<T: Threads + Wait + Sync, G: Gate>(
     ensures refused { IfErr result (λ fault. (fault ≡ OutOfMemory) ⊎ HasDefectIn image.now fault) }
 {
     let heap = image.heap();
+    heap_bounds(heap);
     let marks = mark_locked(rt, alloc, heap, plan.workers, gate)?;
     if let Some(fault) = first_defect(rt, heap, &marks) {
         return Err(fault);

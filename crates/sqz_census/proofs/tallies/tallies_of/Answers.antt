@@ -22,7 +22,7 @@ overflow_add-tally c =
     let room =
     entry_room c.args.heap.now c.args.marks.now object inside c.loop-entry.tallies.items c.loop-entry.invariant _
     (c.requires.entries.each object inside) c.if-entry.true c.index_mut-tally.result.now c.index_mut-tally.ensures.value
-    c.len.ensures.few_words (omega (arith, inside, c.len.ensures.objects, c.len.ensures.few)) in
+    c.heap_bounds.ensures.words (omega (arith, inside, c.len.ensures.objects, c.len.ensures.few)) in
     omega (arith, room.0)
 
 pub overflow_add-tally-then-entry : goal.overflow_add-tally-then-entry
@@ -33,7 +33,7 @@ overflow_add-tally-then-entry c =
     let room =
     entry_room c.args.heap.now c.args.marks.now object inside c.loop-entry.tallies.items c.loop-entry.invariant _
     (c.requires.entries.each object inside) c.if-entry.true c.index_mut-tally.result.now c.index_mut-tally.ensures.value
-    c.len.ensures.few_words (omega (arith, inside, c.len.ensures.objects, c.len.ensures.few)) in
+    c.heap_bounds.ensures.words (omega (arith, inside, c.len.ensures.objects, c.len.ensures.few)) in
     omega (arith, room.1)
 
 pub loop-entry-preserved : goal.loop-entry-preserved
@@ -64,5 +64,5 @@ returns-clause-fit c =
     let all =
     AreTallies-all memory marks c.loop-entry.entry-index tallies c.requires.sized
     (omega (arith, c.loop-entry-test.false, c.requires.entries.sized)) c.loop-entry.invariant in
-    FitWords-tallies memory marks tallies c.requires.sized c.len.ensures.few_words
+    FitWords-tallies memory marks tallies c.requires.sized c.heap_bounds.ensures.words
     (omega (arith, c.len.ensures.objects, c.len.ensures.few)) all

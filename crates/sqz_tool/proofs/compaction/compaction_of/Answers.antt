@@ -17,7 +17,7 @@ pub overflow_mul-summary : goal.overflow_mul-summary
 overflow_mul-summary g c =
     let le = live_words-le-words c.heap-heap.result.now c.in_ok-marks.marks c.in_ok-marks.ensures.reachable.reached.sized in
     let live = rw c.deref-3.ensures.value at c.total.ensures in
-    omega (arith, live, c.in_ok-sums.ensures.whole, c.len.ensures.few_words, le)
+    omega (arith, live, c.in_ok-sums.ensures.whole, c.heap_bounds.ensures.words, le)
 
 pub returns-clause-compaction : goal.returns-clause-compaction
 returns-clause-compaction g c =
@@ -42,7 +42,7 @@ returns-clause-compaction g c =
       sound = sym (rw is at c.in_default.ensures);
       bytes = bytes_are image marks c.in_ok-pieces.pieces c.requires words c.unwrap-special.result c.special.result reachable found
           (same_Some _ _ (sym c.unwrap-special.ensures ∙ c.place.ensures.place ∙ special));
-      few = few_words image marks c.in_ok-pieces.pieces c.requires words (omega (arith, le, rw is at c.len.ensures.few_words));
+      few = few_words image marks c.in_ok-pieces.pieces c.requires words (omega (arith, le, rw is at c.heap_bounds.ensures.words));
       counted = same_summary (c.len.ensures.objects ∙ ap object_count is) kept c.header.ensures (ap (λ (n : ℕ). 4 * n) live);
       reported = report;
     }
