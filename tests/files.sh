@@ -30,6 +30,12 @@ run_after() {
   status=$?
 }
 
+# Runs the built program itself with these words. Where it does not end it is stopped, and the case fails.
+run_in_time() {
+  timeout 30 "$program" "$@" >printed 2>said
+  status=$?
+}
+
 # Runs the program with these words, where standard output is a device that takes nothing.
 run_to_full_device() {
   "$root/sqzcompact" "$@" >/dev/full 2>said
@@ -116,6 +122,32 @@ compacts_in_place() {
   wrote both "$2"
 }
 
+# The answer is the same by the plan that is taken where none is asked for, by one worker, and by many workers with as
+# many regions as there are words.
+compacts_by_each_plan() {
+  local image=$1 answer=$2 options
+  for options in '' '--workers 1' '--workers 64 --region-words 1'; do
+    rm -f out
+    # shellcheck disable=SC2086
+    run_in_time $options "$image" out
+    wrote out "$answer" || return
+  done
+}
+
+# The same with a census of so many rows, the last of which has these numbers of objects and of bytes.
+counts_by_each_plan() {
+  local image=$1 answer=$2 rows=$3 objects=$4 bytes=$5 options
+  for options in '' '--workers 1' '--workers 64 --region-words 1'; do
+    rm -f out
+    # shellcheck disable=SC2086
+    run_in_time --census $options "$image" out
+    tail -n 1 printed >total
+    [ "$(wc -l <printed)" -eq "$rows" ] && printf '%10d %12d total\n' "$objects" "$bytes" | cmp -s - total || return
+    : >printed
+    wrote out "$answer" || return
+  done
+}
+
 empties_old_file() {
   head -c 100000 /dev/zero >out
   run "$1" out
@@ -184,24 +216,52 @@ reports_limit_on_files() {
   faulted 3 'fault 17: cannot write the output' && head -c 65536 "$2" | cmp -s - out
 }
 
-# Makes a file of this name with an image: a class, an object of so many bytes, and the special objects
-# array, which names it. They have 28 bytes more. All is reachable, so the image is its own compaction.
+# Makes a file of this name with an image: a class, words of objects that are dead, an object of so many bytes, which
+# is the fourth word behind these, and the special objects array, which names it. What is not dead has 28 bytes more.
 make_image() {
+  local name=$1 bytes=$2 at
+  shift 2
+  at=$((0x100C + 4 * $#))
   {
-    put_words 6502 64 $(($2 + 28)) 0x1000 $(($2 + 0x1010)) 0 0 0 0 0 0 0 0 0 0 0
-    put_words 0x1007 $(($2 + 4)) 0x1000 0x800
-    head -c "$2" /dev/zero
-    put_words 0x320F 0x1000 0x100C
-  } >"$1"
+    put_words 6502 64 $((at + bytes + 16 - 0x1000)) 0x1000 $((at + bytes + 4)) 0 0 0 0 0 0 0 0 0 0 0
+    put_words 0x1007 "$@" $((bytes + 4)) 0x1000 0x800
+    yes 'a line of 22 letters' | head -c "$bytes"
+    put_words 0x320F 0x1000 $at
+  } >"$name"
 }
 
-# Prints words, the lowest byte of each first.
-put_words() {
-  local word
-  for word in "$@"; do
-    printf '%b' "$(printf '\\x%02x\\x%02x\\x%02x\\x%02x' \
-      $((word & 255)) $((word >> 8 & 255)) $((word >> 16 & 255)) $((word >> 24 & 255)))"
+# Makes a file of this name with an image: words of objects that are dead, so many classes of one word, an object of two
+# words of each class, an array that names all these, of the first class, and the special objects array, which names it.
+make_classes() {
+  local name=$1 count=$2 class object array place
+  local -a classes=() objects=() fields=()
+  shift 2
+  class=$((0x1000 + 4 * $#))
+  object=$((class + 4 * count + 4))
+  array=$((object + 8 * count + 4))
+  for ((place = 0; place < count; place++)); do
+    classes+=(0x1007)
+    objects+=($((class + 4 * place + 1)) 5)
+    fields+=($((object + 8 * place)))
   done
+  {
+    put_words 6502 64 $((array + 4 * count + 16 - 0x1000)) 0x1000 $((array + 4 * count + 4)) 0 0 0 0 0 0 0 0 0 0 0
+    put_words "$@" "${classes[@]}" "${objects[@]}" $((4 * count + 4)) $class 0x200 "${fields[@]}"
+    put_words 0x320F $class $array
+  } >"$name"
+}
+
+# Prints words in the byte order of the images that are made: the lowest byte of each first, or last.
+put_words() {
+  local word byte text=
+  for word in "$@"; do
+    case $order in
+    little) printf -v byte '\\x%02x' $((word & 255)) $((word >> 8 & 255)) $((word >> 16 & 255)) $((word >> 24 & 255)) ;;
+    big) printf -v byte '\\x%02x' $((word >> 24 & 255)) $((word >> 16 & 255)) $((word >> 8 & 255)) $((word & 255)) ;;
+    esac
+    text+=$byte
+  done
+  printf '%b' "$text"
 }
 
 # The address space may have $kib KiB.
@@ -379,7 +439,9 @@ if [ "$(id -u)" -ne 0 ]; then
   case_of 'reports an output without the right to write it' reports_output_without_right "$image"
 fi
 
-# Of the first the data are one block of 64 KiB, so that the limit cuts the last write short.
+# Of the first the data are one block of 64 KiB, so that the limit cuts the last write short. Where no object is dead an
+# image is its own compaction.
+order=little
 make_image one_block 65508
 make_image large2 $((2 << 20))
 make_image large16 $((16 << 20))
@@ -390,6 +452,19 @@ case_of 'reports want of memory for 2 MiB' reports_want_of_memory large2
 case_of 'reports want of memory for 16 MiB' reports_want_of_memory large16
 case_of 'compacts 2 MiB in four times their size' compacts_in_four_times_its_size large2
 case_of 'compacts 16 MiB in four times their size' compacts_in_four_times_its_size large16
+
+# Images with more words, regions, objects and classes than a table of 12, 20 or 22 bits would take, and one with more
+# workers than objects.
+case_of 'compacts three objects by each plan' compacts_by_each_plan "$image" "$answer"
+for order in little big; do
+  make_image large24 $((24 << 20)) 0x320F 1 1
+  make_image large24.compacted $((24 << 20))
+  case_of "compacts 24 MiB in $order-endian order by each plan" compacts_by_each_plan large24 large24.compacted
+  make_classes classes 5000 0x320F 1 1
+  make_classes classes.compacted 5000
+  case_of "counts 5000 classes in $order-endian order by each plan" \
+    counts_by_each_plan classes classes.compacted 5003 10002 $((4 * 20006))
+done
 
 echo "$passed passed, $failed failed"
 [ "$failed" -eq 0 ]

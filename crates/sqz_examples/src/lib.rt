@@ -4,7 +4,5 @@
 
 mod compacted;
 mod defects;
-#[cfg(test)]
-mod tests;
 mod unreadable;
 mod words;

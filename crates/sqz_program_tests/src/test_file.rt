@@ -40,11 +40,11 @@ impl<'a> TestFile<'a> {
 
     /// OUT, made or emptied.
     pub(crate) fn make_output(disk: &'a Disk<'a>) -> io::Result<Self> {
-        if !disk.behavior.makes {
+        let mut output = written(disk)?;
+        output.calls.makings = output.calls.makings.saturating_add(1);
+        if output.calls.makings <= disk.behavior.makings_fail {
             return Err(Error::from(ErrorKind::PermissionDenied));
         }
-        let mut output = written(disk)?;
-        output.made = true;
         output.bytes.clear();
         Ok(TestFile::Output { disk })
     }
@@ -72,6 +72,10 @@ impl Write for TestFile<'_> {
             return refuse();
         };
         let mut output = written(disk)?;
+        output.calls.writes = output.calls.writes.saturating_add(1);
+        if output.calls.writes <= disk.behavior.writes_fail {
+            return Err(Error::from(ErrorKind::Other));
+        }
         let room = disk.behavior.room.saturating_sub(output.bytes.len());
         if room == 0 && !from.is_empty() {
             return Err(Error::from(ErrorKind::StorageFull));
@@ -86,10 +90,12 @@ impl Write for TestFile<'_> {
         let TestFile::Output { disk } = self else {
             return refuse();
         };
-        if disk.behavior.flush_fails {
+        let mut output = written(disk)?;
+        output.calls.flushes = output.calls.flushes.saturating_add(1);
+        if output.calls.flushes <= disk.behavior.flushes_fail {
             return Err(Error::from(ErrorKind::Other));
         }
-        written(disk)?.flushed = true;
+        output.flushed = true;
         Ok(())
     }
 }

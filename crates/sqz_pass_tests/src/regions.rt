@@ -1,8 +1,11 @@
 //! Regions of small images, their live words and bases, and the places of their objects.
 
-use super::files::{DEAD_CYCLE, image_of};
-use sqz_image::Image;
+ghost use Rattle.std.specs.Prelude.{◌≡◌, length, IfOk};
+ghost use Rattle.sqz_image.specs.Objects.{object_count};
+
+use sqz_image::{Heap, Image};
 use sqz_regions::{Cut, Forward, Regions, bases, live_words};
+use sqz_test_images::{DEAD_CYCLE, image_of};
 use sqz_trace::mark_plain;
 use std::alloc::Global;
 use std::process::Abort;
@@ -19,28 +22,59 @@ const DEAD_CYCLE_PLACES: [Option<u32>; 6] = [
     Some(0x1014),
 ];
 
+/// Where the reachable objects of an image go.
+#[derive(Drop)]
+pub(crate) struct Placed {
+    /// How many live words each region has.
+    pub sums: Vec<u32>,
+    /// The first address of each region's live words.
+    pub bases: Vec<u64>,
+    pub forward: Forward,
+}
+
+/// The places of the reachable objects.
+pub(crate) fn places_of<R: Threads + Sync + AllocGlobal>(
+    rt: &R,
+    heap: &Heap,
+    regions: &Regions<'_>,
+) -> Result<Placed, Fail>
+    requires { regions.now.memory ≡ heap.now }
+    ensures { IfOk result (λ placed. length placed.forward ≡ object_count heap.now) }
+{
+    let marks = mark_plain(rt.alloc(), heap)?;
+    let sums = live_words(rt.alloc(), heap, regions, &marks)?;
+    let bases = bases(rt.alloc(), heap.base(), &sums)?;
+    let forward = Forward::build(rt, rt.alloc(), heap, regions, &marks, &bases)?;
+    Ok(Placed {
+        sums,
+        bases,
+        forward,
+    })
+}
+
 /// Asserts that under a cut the regions of an image have these live words and bases, and its objects
 /// these places.
 fn assert_places<R: Threads + Sync + Abort + AllocGlobal>(
     rt: &R,
     image: &Image,
     cut: &Cut,
-    wanted_sums: &[u32],
-    wanted_bases: &[u64],
+    sums: &[u32],
+    bases: &[u64],
     places: &[Option<u32>],
 ) -> Result<(), Fail> {
     let heap = image.heap();
-    let marks = mark_plain(rt.alloc(), heap)?;
     let regions = Regions::of(rt.alloc(), heap, cut)?;
-    assert_eq!(rt; regions.count() as usize, wanted_sums.len());
-    let sums = live_words(rt.alloc(), heap, &regions, &marks)?;
-    assert_eq!(rt; sums.as_slice(), wanted_sums);
-    let starts = bases(rt.alloc(), heap.base(), &sums)?;
-    assert_eq!(rt; starts.as_slice(), wanted_bases);
-    let forward = Forward::build(rt, rt.alloc(), heap, &regions, &marks, &starts)?;
+    assert_eq!(rt; regions.count() as usize, sums.len());
+    let placed = places_of(rt, heap, &regions)?;
+    assert_eq!(rt; placed.sums.as_slice(), sums);
+    assert_eq!(rt; placed.bases.as_slice(), bases);
     assert_eq!(rt; places.len(), heap.len() as usize);
     for (object, place) in places.iter().enumerate() {
-        assert_eq!(rt; forward.place(object as u32), *place, "object {object}");
+        assert_eq!(rt;
+            placed.forward.place(object as u32),
+            *place,
+            "object {object}"
+        );
     }
     Ok(())
 }

@@ -1,5 +1,5 @@
-//! A file system of two files: IN, which can be read, and OUT, which can be made and written. They fail
-//! where a test wants it, and the test sees what was done to OUT.
+//! A file system of two files: one that can be read, and one that can be made and written. They fail where
+//! a test wants it, and the test sees what was done to the second.
 
 use super::test_file::{TestFile, refuse};
 use std::alloc::{Allocator, Global};
@@ -13,38 +13,48 @@ use std::thread::Threads;
 /// The path of the file that can be read.
 pub(crate) const IN: &str = "in.image";
 
-/// The path of the file that can be made.
-pub(crate) const OUT: &str = "out.image";
-
 /// How the two files behave.
 #[derive(Clone, Copy)]
 pub(crate) struct Behavior {
+    /// The path of the file that can be made.
+    pub output: &'static str,
     /// How many bytes one read gives, and one write takes, at most.
     pub piece: usize,
     /// Whether the read behind the last byte of IN fails, in place of telling the end.
     pub read_fails: bool,
-    /// Whether OUT can be made.
-    pub makes: bool,
+    /// How many calls fail that are to make OUT. The next one makes it.
+    pub makings_fail: u32,
+    /// How many writes to OUT fail. The next one succeeds.
+    pub writes_fail: u32,
     /// How many bytes OUT takes. A write of more fails.
     pub room: usize,
-    /// Whether a flush fails.
-    pub flush_fails: bool,
+    /// How many flushes fail. The next one succeeds.
+    pub flushes_fail: u32,
 }
 
 /// Files that take all at once and never fail.
 pub(crate) const SOUND: Behavior = Behavior {
+    output: "out.image",
     piece: usize::MAX,
     read_fails: false,
-    makes: true,
+    makings_fail: 0,
+    writes_fail: 0,
     room: usize::MAX,
-    flush_fails: false,
+    flushes_fail: 0,
 };
+
+/// How often OUT was to be made, written and flushed, whether or not it failed.
+#[derive(Clone, Copy, PartialEq, Eq, Debug)]
+pub(crate) struct Calls {
+    pub makings: u32,
+    pub writes: u32,
+    pub flushes: u32,
+}
 
 /// What was done to OUT.
 #[derive(Drop)]
 pub(crate) struct Written {
-    /// Whether it was made.
-    pub made: bool,
+    pub calls: Calls,
     /// The bytes that it took.
     pub bytes: Vec<u8>,
     /// Whether a flush succeeded after the last write.
@@ -63,7 +73,11 @@ impl<'a> Disk<'a> {
     /// A disk with these bytes in IN, and without OUT.
     pub(crate) fn new(alloc: Global, input: &'a [u8], behavior: Behavior) -> Self {
         let output = Mutex::new(Written {
-            made: false,
+            calls: Calls {
+                makings: 0,
+                writes: 0,
+                flushes: 0,
+            },
             bytes: Vec::new(alloc),
             flushed: true,
         });
@@ -98,7 +112,7 @@ impl<'a, R> Files for TestFiles<'a, R> {
 
     fn open_file(&self, how: &OpenOptions, path: &str) -> io::Result<TestFile<'a>> {
         let is_output = how.asks_write() && how.asks_create() && how.asks_truncate();
-        if path == OUT && is_output {
+        if path == self.disk.behavior.output && is_output {
             return TestFile::make_output(self.disk);
         }
         if path == IN && how.asks_read() && !how.asks_write() {

@@ -1,0 +1,15 @@
+//! Tests of the passes over an image in memory, each called by itself.
+#![tactic(auto)]
+
+#[cfg(test)]
+mod gates;
+#[cfg(test)]
+mod marking;
+#[cfg(test)]
+mod regions;
+#[cfg(test)]
+mod sliding;
+#[cfg(test)]
+mod sliding_gates;
+#[cfg(test)]
+mod tracing;

@@ -1,0 +1,97 @@
+//! Marking under a lock: what is marked, and who takes turns, as a gate sees it.
+
+use super::gates::{Hold, TurnGate, turn_of};
+use super::tracing::{DEAD_CYCLE_MARKS, flags_of};
+use sqz_image::Image;
+use sqz_marks::Workers;
+use sqz_test_images::{DEAD_CYCLE, image_of};
+use sqz_workers::{Gate, OpenGate, Phase, mark_locked};
+use std::process::Abort;
+use std::sync::Wait;
+use std::test::Fail;
+use std::thread::Threads;
+
+/// Which objects of an image are marked by so many workers, who pass a gate.
+fn marked_by<R: Threads + Wait + Sync + AllocGlobal, G: Gate>(
+    rt: &R,
+    image: &Image,
+    workers: u32,
+    gate: &G,
+) -> Result<Vec<bool>, Fail> {
+    let heap = image.heap();
+    let marks = mark_locked(rt, rt.alloc(), heap, Workers::new(workers)?, gate)?;
+    Ok(flags_of(rt.alloc(), heap, &marks)?)
+}
+
+/// Asserts that so many workers, who pass a gate, mark the four reachable objects of an image of six.
+fn assert_marks<R: Threads + Wait + Sync + Abort + AllocGlobal, G: Gate>(
+    rt: &R,
+    workers: u32,
+    gate: &G,
+) -> Result<(), Fail> {
+    let image = image_of(rt.alloc(), &DEAD_CYCLE, 0x1024)?;
+    let flags = marked_by(rt, &image, workers, gate)?;
+    assert_eq!(rt;
+        flags.as_slice(),
+        DEAD_CYCLE_MARKS.as_slice(),
+        "with {workers} workers"
+    );
+    Ok(())
+}
+
+#[test]
+fn same_marks_by_any_number_of_workers(rt: HostRuntime) -> Result<(), Fail> {
+    for workers in [1, 2, 64] {
+        assert_marks(&rt, workers, &OpenGate)?;
+    }
+    Ok(())
+}
+
+/// A turn finds each of the four objects, and then 64 find none.
+#[test]
+fn worker_leaves_after_64_empty_turns(rt: HostRuntime) -> Result<(), Fail> {
+    let gate = TurnGate::new(Phase::Mark, &[]);
+    assert_marks(&rt, 1, &gate)?;
+    assert_eq!(rt; (gate.turns(0), gate.out_of_order()), (68, 0));
+    Ok(())
+}
+
+#[test]
+fn two_workers_mark_at_one_time(rt: HostRuntime) -> Result<(), Fail> {
+    let holds = [
+        Hold {
+            at: turn_of(0, 0),
+            until: turn_of(1, 0),
+        },
+        Hold {
+            at: turn_of(1, 0),
+            until: turn_of(0, 0),
+        },
+    ];
+    let gate = TurnGate::new(Phase::Mark, &holds);
+    assert_marks(&rt, 2, &gate)?;
+    assert_eq!(rt; (gate.met(), gate.missed()), (2, 0));
+    Ok(())
+}
+
+/// While one worker is held at its first turn the other one finds all objects, and takes its last turn. So the one that
+/// is held had not begun to work.
+#[test]
+fn each_worker_marks_while_the_other_is_held(rt: HostRuntime) -> Result<(), Fail> {
+    for (held, other) in [(0, 1), (1, 0)] {
+        let holds = [Hold {
+            at: turn_of(held, 0),
+            until: turn_of(other, 67),
+        }];
+        let gate = TurnGate::new(Phase::Mark, &holds);
+        assert_marks(&rt, 2, &gate)?;
+        assert_eq!(rt;
+            (gate.met(), gate.missed()),
+            (1, 0),
+            "worker {held} is held"
+        );
+        assert_eq!(rt; (gate.turns(held), gate.turns(other)), (64, 68));
+        assert_eq!(rt; gate.out_of_order(), 0);
+    }
+    Ok(())
+}

@@ -1,0 +1,125 @@
+//! The pieces of small images, and their words one by one.
+
+ghost use Rattle.std.specs.Prelude.{◌≡◌, ◌<◌, length};
+ghost use Rattle.sqz_image.specs.Objects.{object_count};
+
+use super::regions::places_of;
+use sqz_image::{Heap, Image};
+use sqz_marks::Workers;
+use sqz_regions::{Cut, Forward, Regions};
+use sqz_slide::{Pieces, moved_word, slide};
+use sqz_test_images::{DEAD_CYCLE, DEAD_CYCLE_ANSWER, image_of};
+use sqz_workers::{Gate, OpenGate};
+use std::alloc::{AllocError, Global};
+use std::process::Abort;
+use std::test::Fail;
+use std::thread::Threads;
+
+/// The pieces of an image that is cut at these words, moved by so many workers, who pass a gate.
+pub(crate) fn slid<R: Threads + Sync + AllocGlobal, G: Gate>(
+    rt: &R,
+    image: &Image,
+    points: &[u32],
+    workers: u32,
+    gate: &G,
+) -> Result<Pieces, Fail> {
+    let heap = image.heap();
+    let cut = Cut::at(points.to_vec(rt.alloc())?)?;
+    let regions = Regions::of(rt.alloc(), heap, &cut)?;
+    let forward = places_of(rt, heap, &regions)?.forward;
+    let workers = Workers::new(workers)?;
+    Ok(slide(rt, rt.alloc(), heap, &regions, &forward, workers, gate)?)
+}
+
+/// The words of all pieces.
+fn joined(alloc: Global, pieces: &[Vec<u32>]) -> Result<Vec<u32>, AllocError> {
+    let mut words = Vec::new(alloc);
+    for piece in pieces {
+        words.extend_from_slice(piece)?;
+    }
+    Ok(words)
+}
+
+/// Asserts that pieces have so many words each, and together these.
+pub(crate) fn assert_pieces<R: Abort + AllocGlobal>(
+    rt: &R,
+    pieces: &Pieces,
+    sizes: &[usize],
+    wanted: &[u32],
+) -> Result<(), Fail> {
+    let pieces = pieces.as_slice();
+    assert_eq!(rt; pieces.len(), sizes.len());
+    for (piece, size) in pieces.iter().zip(sizes) {
+        assert_eq!(rt; piece.len(), *size);
+    }
+    let words = joined(rt.alloc(), pieces)?;
+    assert_eq!(rt; words.as_slice(), wanted);
+    Ok(())
+}
+
+/// The words of an object after the move, one by one, put behind others.
+fn put_moved_words(
+    words: &mut Vec<u32>,
+    heap: &Heap,
+    forward: &Forward,
+    object: u32,
+) -> Result<(), AllocError>
+    requires object { object < object_count heap.now }
+    requires one_each { length forward.now ≡ object_count heap.now }
+{
+    for k in 0..heap.chunk(object).length {
+        words.push(moved_word(heap, forward, object, k))?;
+    }
+    Ok(())
+}
+
+/// The words of the reachable objects after the move, one by one.
+fn moved_words<R: Threads + Sync + AllocGlobal>(
+    rt: &R,
+    heap: &Heap,
+    cut: &Cut,
+) -> Result<Vec<u32>, Fail> {
+    let regions = Regions::of(rt.alloc(), heap, cut)?;
+    let placed = places_of(rt, heap, &regions)?;
+    let mut words = Vec::new(rt.alloc());
+    for object in 0..heap.len() {
+        if placed.forward.place(object).is_some() {
+            put_moved_words(&mut words, heap, &placed.forward, object)?;
+        }
+    }
+    Ok(words)
+}
+
+#[test]
+fn dead_cycle_in_three_pieces(rt: HostRuntime) -> Result<(), Fail> {
+    let image = image_of(rt.alloc(), &DEAD_CYCLE, 0x1024)?;
+    for workers in [1, 2, 64] {
+        let pieces = slid(&rt, &image, &[1, 3], workers, &OpenGate)?;
+        assert_pieces(&rt, &pieces, &[1, 2, 5], &DEAD_CYCLE_ANSWER)?;
+    }
+    Ok(())
+}
+
+#[test]
+fn region_of_dead_objects_alone(rt: HostRuntime) -> Result<(), Fail> {
+    let image = image_of(rt.alloc(), &[0x1007, 0x320F, 1, 1, 0x320B, 0x1000], 0x1010)?;
+    let pieces = slid(&rt, &image, &[1, 4], 4, &OpenGate)?;
+    assert_pieces(&rt, &pieces, &[1, 0, 2], &[0x1007, 0x320B, 0x1000])
+}
+
+#[test]
+fn class_words_and_headers_of_three_words(rt: HostRuntime) -> Result<(), Fail> {
+    let words = [
+        0x1007, 0x320F, 1, 1, 0x100B, 1, 0x1011, 0x109, 1, 8, 0x1010, 0x208, 0x101C, 0x320F,
+        0x1000, 0x102C,
+    ];
+    let wanted = [
+        0x1007, 0x100B, 1, 0x1005, 0x109, 1, 8, 0x1004, 0x208, 0x1010, 0x320F, 0x1000, 0x1020,
+    ];
+    let image = image_of(rt.alloc(), &words, 0x1034)?;
+    let pieces = slid(&rt, &image, &[9], 2, &OpenGate)?;
+    assert_pieces(&rt, &pieces, &[6, 7], &wanted)?;
+    let one_by_one = moved_words(&rt, image.heap(), &Cut::every(1)?)?;
+    assert_eq!(rt; one_by_one.as_slice(), wanted.as_slice());
+    Ok(())
+}

@@ -1,0 +1,154 @@
+//! The program, over files that give and take little at a time, and files that fail.
+
+use super::images::{compacted_image, large_image, whole_image};
+use super::programs::{Ended, assert_ended, run_program};
+use super::test_files::{Behavior, Calls, Disk, IN, SOUND, TestFiles, Written};
+use std::alloc::Global;
+use std::process::Abort;
+use std::sync::Wait;
+use std::test::Fail;
+use std::thread::Threads;
+
+/// What is printed where the image cannot be written.
+const NOT_WRITTEN: &str = "fault 17: cannot write the output\n";
+
+/// How the program ended with this image in IN, and what it did to OUT.
+fn run_over<R: Threads + Wait + Sync + Drop>(
+    rt: &R,
+    alloc: Global,
+    image: &[u8],
+    behavior: Behavior,
+) -> Result<(Ended, Written), Fail> {
+    let disk = Disk::new(alloc, image, behavior);
+    let files = TestFiles { disk: &disk, rt };
+    let ended = run_program(&files, alloc, &[IN, behavior.output])?;
+    Ok((ended, disk.into_written()))
+}
+
+/// Asserts that the program writes this to OUT and flushes it, and prints nothing.
+fn assert_writes<R: Threads + Wait + Sync + Abort + AllocGlobal + Drop>(
+    rt: &R,
+    image: &[u8],
+    behavior: Behavior,
+    wanted: &[u8],
+) -> Result<(), Fail> {
+    let (ended, written) = run_over(rt, rt.alloc(), image, behavior)?;
+    assert_ended(rt, &ended, 0, "");
+    assert!(rt; written.bytes.as_slice() == wanted && written.flushed);
+    Ok(())
+}
+
+/// Asserts that the program ends with 3 and this line where IN has the image of three objects, or a front of so many bytes
+/// of it. Answers what it did to OUT.
+fn assert_fails<R: Threads + Wait + Sync + Abort + AllocGlobal + Drop>(
+    rt: &R,
+    count: usize,
+    behavior: Behavior,
+    line: &str,
+) -> Result<Written, Fail> {
+    let mut image = whole_image(rt.alloc())?;
+    image.truncate(count);
+    let (ended, written) = run_over(rt, rt.alloc(), &image, behavior)?;
+    assert_ended(rt, &ended, 3, line);
+    Ok(written)
+}
+
+#[test]
+fn one_byte_at_a_time(rt: HostRuntime) -> Result<(), Fail> {
+    let behavior = Behavior { piece: 1, ..SOUND };
+    let image = whole_image(rt.alloc())?;
+    assert_writes(&rt, &image, behavior, &compacted_image(rt.alloc())?)
+}
+
+#[test]
+fn path_that_ends_with_a_space(rt: HostRuntime) -> Result<(), Fail> {
+    let behavior = Behavior {
+        output: "out.image ",
+        ..SOUND
+    };
+    let image = whole_image(rt.alloc())?;
+    assert_writes(&rt, &image, behavior, &compacted_image(rt.alloc())?)
+}
+
+#[test]
+fn several_blocks(rt: HostRuntime) -> Result<(), Fail> {
+    let image = large_image(rt.alloc(), true)?;
+    let wanted = large_image(rt.alloc(), false)?;
+    for piece in [usize::MAX, 50_000] {
+        assert_writes(&rt, &image, Behavior { piece, ..SOUND }, &wanted)?;
+    }
+    Ok(())
+}
+
+#[test]
+fn file_is_full(rt: HostRuntime) -> Result<(), Fail> {
+    for room in [0, 1, 64, 75] {
+        let written = assert_fails(&rt, 88, Behavior { room, ..SOUND }, NOT_WRITTEN)?;
+        assert_eq!(rt; written.calls.makings, 1);
+        let mut wanted = compacted_image(rt.alloc())?;
+        wanted.truncate(room);
+        assert_eq!(rt; written.bytes, wanted);
+    }
+    Ok(())
+}
+
+/// A write that would succeed is not tried again.
+#[test]
+fn first_write_fails(rt: HostRuntime) -> Result<(), Fail> {
+    let behavior = Behavior {
+        writes_fail: 1,
+        ..SOUND
+    };
+    let written = assert_fails(&rt, 88, behavior, NOT_WRITTEN)?;
+    let calls = Calls {
+        makings: 1,
+        writes: 1,
+        flushes: 0,
+    };
+    assert_eq!(rt; written.calls, calls);
+    Ok(())
+}
+
+/// A file that could be made is not tried again.
+#[test]
+fn file_is_not_made(rt: HostRuntime) -> Result<(), Fail> {
+    let behavior = Behavior {
+        makings_fail: 1,
+        ..SOUND
+    };
+    let written = assert_fails(&rt, 88, behavior, NOT_WRITTEN)?;
+    let calls = Calls {
+        makings: 1,
+        writes: 0,
+        flushes: 0,
+    };
+    assert_eq!(rt; written.calls, calls);
+    Ok(())
+}
+
+/// A flush that would succeed is not tried again.
+#[test]
+fn first_flush_fails(rt: HostRuntime) -> Result<(), Fail> {
+    let behavior = Behavior {
+        flushes_fail: 1,
+        ..SOUND
+    };
+    let written = assert_fails(&rt, 88, behavior, NOT_WRITTEN)?;
+    assert_eq!(rt; written.calls.flushes, 1);
+    assert_eq!(rt; written.bytes, compacted_image(rt.alloc())?);
+    Ok(())
+}
+
+#[test]
+fn read_fails(rt: HostRuntime) -> Result<(), Fail> {
+    let behavior = Behavior {
+        read_fails: true,
+        ..SOUND
+    };
+    for count in [88, 40, 0] {
+        let line = "fault 16: cannot read the image\n";
+        let written = assert_fails(&rt, count, behavior, line)?;
+        assert_eq!(rt; written.calls.makings, 0, "after {count} bytes");
+    }
+    Ok(())
+}

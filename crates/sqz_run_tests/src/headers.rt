@@ -1,0 +1,69 @@
+//! Files that are refused for what their headers say, in either byte order: nothing is written.
+
+use super::runs::assert_refused;
+use sqz_image::Fault;
+use sqz_object::Order;
+use sqz_test_images::put_words;
+use std::alloc::{AllocError, Global};
+use std::test::Fail;
+
+/// The first four header words of a file: its version, the sizes of header and data, and the base.
+type Stated = [u32; 4];
+
+/// What those of a sound file say.
+const SOUND: Stated = [6502, 64, 24, 0x1000];
+
+/// The header words that follow these, and the data words.
+const REST: [u32; 18] = [
+    0x1010, 0, 0, 0, 0, 0, 0, 0, 0, 0, 0, 0, 0x1007, 0x320F, 1, 1, 0x320B, 0x1000,
+];
+
+/// The first so many bytes of a file of 88 whose header says this.
+fn file_that_states(
+    alloc: Global,
+    order: Order,
+    stated: &Stated,
+    length: usize,
+) -> Result<Vec<u8>, AllocError> {
+    let mut file = Vec::new(alloc);
+    put_words(&mut file, order, stated)?;
+    put_words(&mut file, order, &REST)?;
+    file.truncate(length);
+    Ok(file)
+}
+
+#[test]
+fn first_fault_of_a_header(rt: HostRuntime) -> Result<(), Fail> {
+    let some = [
+        (SOUND, 0, Fault::TooShort),
+        (SOUND, 63, Fault::TooShort),
+        ([6504, 64, 24, 0x1000], 88, Fault::BadVersion),
+        ([6502, 68, 24, 0x1000], 88, Fault::BadHeaderSize),
+        ([6502, 64, 22, 0x1000], 88, Fault::BadDataSize),
+        ([6502, 64, 24, 0x1002], 88, Fault::BadBase),
+        ([6502, 64, 24, 0xFFFF_FFEC], 88, Fault::BadBase),
+        (SOUND, 87, Fault::Truncated),
+        (SOUND, 64, Fault::Truncated),
+        ([6504, 64, 24, 0x1000], 63, Fault::TooShort),
+        ([6504, 68, 24, 0x1000], 88, Fault::BadVersion),
+        ([6502, 68, 22, 0x1000], 88, Fault::BadHeaderSize),
+        ([6502, 64, 22, 0x1002], 88, Fault::BadDataSize),
+        ([6502, 64, 24, 0x1002], 87, Fault::BadBase),
+    ];
+    for (stated, length, fault) in &some {
+        for order in [Order::Little, Order::Big] {
+            let file = file_that_states(rt.alloc(), order, stated, *length)?;
+            assert_refused(&rt, file, *fault)?;
+        }
+    }
+    Ok(())
+}
+
+#[test]
+fn behind_512_bytes(rt: HostRuntime) -> Result<(), Fail> {
+    let mut file = Vec::new(rt.alloc());
+    file.resize(512, 0x23)?;
+    put_words(&mut file, Order::Little, &SOUND)?;
+    put_words(&mut file, Order::Little, &REST)?;
+    assert_refused(&rt, file, Fault::BadVersion)
+}

@@ -1,0 +1,19 @@
+//! Tests of whole runs over images in memory.
+#![tactic(auto)]
+
+#[cfg(test)]
+mod censuses;
+#[cfg(test)]
+mod compacted;
+#[cfg(test)]
+mod defects;
+#[cfg(test)]
+mod devices;
+#[cfg(test)]
+mod headers;
+#[cfg(test)]
+mod plans;
+#[cfg(test)]
+mod runs;
+#[cfg(test)]
+mod unreadable;

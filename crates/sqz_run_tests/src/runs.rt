@@ -1,0 +1,160 @@
+//! A run over a file in memory, and what it is to do.
+
+ghost use Rattle.std.specs.Prelude.{◌<◌, length};
+
+use sqz_image::{Fault, MemorySink, MemorySource};
+use sqz_marks::Workers;
+use sqz_object::Order;
+use sqz_regions::Cut;
+use sqz_test_images::file_of;
+use sqz_tool::{Plan, Summary, run};
+use sqz_workers::OpenGate;
+use std::alloc::Global;
+use std::process::Abort;
+use std::sync::Wait;
+use std::test::Fail;
+use std::thread::Threads;
+
+/// How the devices of a run behave: at which call each fails, if at all, and how many bytes those take that are
+/// written to.
+#[derive(Clone, Copy)]
+pub(crate) struct Devices {
+    pub source_fails: Option<u64>,
+    pub image_fails: Option<u64>,
+    pub image_room: u32,
+    pub census_fails: Option<u64>,
+    pub census_room: u32,
+}
+
+/// Devices that do not fail.
+pub(crate) const SOUND: Devices = Devices {
+    source_fails: None,
+    image_fails: None,
+    image_room: 4096,
+    census_fails: None,
+    census_room: 4096,
+};
+
+/// What a run answers, and the bytes that it wrote.
+#[derive(Drop)]
+pub(crate) struct Outcome {
+    pub answer: Result<Summary, Fault>,
+    pub image: Vec<u8>,
+    pub census: Vec<u8>,
+}
+
+/// A plan with two workers and regions of 65536 words.
+pub(crate) fn plan_of(census: bool) -> Result<Plan, Fault> {
+    Ok(Plan {
+        workers: Workers::new(2)?,
+        cut: Cut::every(65_536)?,
+        census,
+    })
+}
+
+/// A run over a file.
+pub(crate) fn run_over<R: Threads + Wait + Sync>(
+    rt: &R,
+    alloc: Global,
+    plan: &Plan,
+    file: Vec<u8>,
+    devices: &Devices,
+) -> Result<Outcome, Fail> {
+    let mut source = MemorySource::new(file, 40, devices.source_fails);
+    let mut sink = MemorySink::new(alloc, devices.image_room, devices.image_fails)?;
+    let mut report = MemorySink::new(alloc, devices.census_room, devices.census_fails)?;
+    let answer = run(
+        rt,
+        alloc,
+        plan,
+        &mut source,
+        &mut sink,
+        &mut report,
+        &OpenGate,
+    );
+    Ok(Outcome {
+        answer,
+        image: Vec::from_slice(alloc, sink.contents())?,
+        census: Vec::from_slice(alloc, report.contents())?,
+    })
+}
+
+/// Asserts that a run over a file writes this image and no census.
+pub(crate) fn assert_writes<R: Threads + Wait + Sync + Abort + AllocGlobal>(
+    rt: &R,
+    file: Vec<u8>,
+    wanted: &[u8],
+) -> Result<Summary, Fail> {
+    let outcome = run_over(rt, rt.alloc(), &plan_of(false)?, file, &SOUND)?;
+    assert_eq!(rt; outcome.image.as_slice(), wanted);
+    assert!(rt; outcome.census.is_empty());
+    Ok(outcome.answer?)
+}
+
+/// Asserts that a run over a file is refused with this fault, and writes nothing.
+pub(crate) fn assert_refused<R: Threads + Wait + Sync + Abort + AllocGlobal>(
+    rt: &R,
+    file: Vec<u8>,
+    fault: Fault,
+) -> Result<(), Fail> {
+    let outcome = run_over(rt, rt.alloc(), &plan_of(true)?, file, &SOUND)?;
+    assert_eq!(rt; outcome.answer, Err(fault));
+    assert!(rt; outcome.image.is_empty() && outcome.census.is_empty());
+    Ok(())
+}
+
+/// Data words from an address on, and the address of their special objects array.
+#[derive(Clone, Copy)]
+pub(crate) struct Data<'a> {
+    pub base: u32,
+    pub words: &'a [u32],
+    pub special: u32,
+}
+
+/// Data words from the address 0x1000 on.
+pub(crate) const fn data_of(words: &[u32], special: u32) -> Data<'_> {
+    Data {
+        base: 0x1000,
+        words,
+        special,
+    }
+}
+
+/// The bytes of a file with these data.
+pub(crate) fn file_with<R: Abort + AllocGlobal>(
+    rt: &R,
+    order: Order,
+    data: Data<'_>,
+) -> Result<Vec<u8>, Fail> {
+    assert!(rt; data.words.len() < 1000);
+    Ok(file_of(rt.alloc(), order, data.base, data.words, data.special)?)
+}
+
+/// Asserts that data are compacted to others, in either byte order.
+pub(crate) fn assert_compacts<R: Threads + Wait + Sync + Abort + AllocGlobal>(
+    rt: &R,
+    data: Data<'_>,
+    answer: Data<'_>,
+) -> Result<(), Fail> {
+    for order in [Order::Little, Order::Big] {
+        let file = file_with(rt, order, data)?;
+        let wanted = file_with(rt, order, answer)?;
+        assert_writes(rt, file, &wanted)?;
+    }
+    Ok(())
+}
+
+/// Asserts that a run over words from the address 0x1000 on is refused with this fault in either byte
+/// order, and writes nothing.
+pub(crate) fn assert_words_refused<R: Threads + Wait + Sync + Abort + AllocGlobal>(
+    rt: &R,
+    words: &[u32],
+    special: u32,
+    fault: Fault,
+) -> Result<(), Fail> {
+    for order in [Order::Little, Order::Big] {
+        let file = file_with(rt, order, data_of(words, special))?;
+        assert_refused(rt, file, fault)?;
+    }
+    Ok(())
+}

@@ -1,0 +1,8 @@
+//! Small images for tests: their words, their files, and as they are read.
+#![tactic(auto)]
+
+mod files;
+mod words;
+
+pub use files::{file_of, image_of, put_words};
+pub use words::{DEAD_CYCLE, DEAD_CYCLE_ANSWER, NAME, class_words};
