@@ -29,6 +29,18 @@ pub(crate) struct Hold {
     pub until: Turn,
 }
 
+/// Holds each of two workers at its first turn until the other one has come to its own.
+pub(crate) const MEETING: [Hold; 2] = [
+    Hold {
+        at: Turn { worker: 0, turn: 0 },
+        until: Turn { worker: 1, turn: 0 },
+    },
+    Hold {
+        at: Turn { worker: 1, turn: 0 },
+        until: Turn { worker: 0, turn: 0 },
+    },
+];
+
 /// A gate for one phase.
 #[derive(Drop)]
 pub(crate) struct TurnGate<'a> {

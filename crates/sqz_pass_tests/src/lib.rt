@@ -12,4 +12,6 @@ mod sliding;
 #[cfg(test)]
 mod sliding_gates;
 #[cfg(test)]
+mod sliding_memory;
+#[cfg(test)]
 mod tracing;

@@ -1,6 +1,6 @@
 //! Marking under a lock: what is marked, and who takes turns, as a gate sees it.
 
-use super::gates::{Hold, TurnGate, turn_of};
+use super::gates::{Hold, MEETING, TurnGate, turn_of};
 use super::tracing::{DEAD_CYCLE_MARKS, flags_of};
 use sqz_image::Image;
 use sqz_marks::Workers;
@@ -58,17 +58,7 @@ fn worker_leaves_after_64_empty_turns(rt: HostRuntime) -> Result<(), Fail> {
 
 #[test]
 fn two_workers_mark_at_one_time(rt: HostRuntime) -> Result<(), Fail> {
-    let holds = [
-        Hold {
-            at: turn_of(0, 0),
-            until: turn_of(1, 0),
-        },
-        Hold {
-            at: turn_of(1, 0),
-            until: turn_of(0, 0),
-        },
-    ];
-    let gate = TurnGate::new(Phase::Mark, &holds);
+    let gate = TurnGate::new(Phase::Mark, &MEETING);
     assert_marks(&rt, 2, &gate)?;
     assert_eq!(rt; (gate.met(), gate.missed()), (2, 0));
     Ok(())

@@ -15,7 +15,29 @@ use std::process::Abort;
 use std::test::Fail;
 use std::thread::Threads;
 
-/// The pieces of an image that is cut at these words, moved by so many workers, who pass a gate.
+/// The pieces of a heap under a cut, moved by so many workers, who pass a gate.
+pub(crate) fn slid_by<R: Threads + Sync + AllocGlobal, G: Gate>(
+    rt: &R,
+    heap: &Heap,
+    cut: &Cut,
+    workers: u32,
+    gate: &G,
+) -> Result<Pieces, Fail> {
+    let workers = Workers::new(workers)?;
+    let regions = Regions::of(rt.alloc(), heap, cut)?;
+    let placed = places_of(rt, heap, &regions)?;
+    Ok(slide(
+        rt,
+        rt.alloc(),
+        heap,
+        &regions,
+        &placed.forward,
+        workers,
+        gate,
+    )?)
+}
+
+/// The pieces of an image that is cut at these words.
 pub(crate) fn slid<R: Threads + Sync + AllocGlobal, G: Gate>(
     rt: &R,
     image: &Image,
@@ -23,12 +45,8 @@ pub(crate) fn slid<R: Threads + Sync + AllocGlobal, G: Gate>(
     workers: u32,
     gate: &G,
 ) -> Result<Pieces, Fail> {
-    let heap = image.heap();
     let cut = Cut::at(points.to_vec(rt.alloc())?)?;
-    let regions = Regions::of(rt.alloc(), heap, &cut)?;
-    let forward = places_of(rt, heap, &regions)?.forward;
-    let workers = Workers::new(workers)?;
-    Ok(slide(rt, rt.alloc(), heap, &regions, &forward, workers, gate)?)
+    slid_by(rt, image.heap(), &cut, workers, gate)
 }
 
 /// The words of all pieces.

@@ -1,6 +1,6 @@
 //! Sliding, as a gate sees it: who takes turns, and when.
 
-use super::gates::{Hold, TurnGate, turn_of};
+use super::gates::{Hold, MEETING, TurnGate, turn_of};
 use super::sliding::{assert_pieces, slid};
 use sqz_test_images::{DEAD_CYCLE, DEAD_CYCLE_ANSWER, image_of};
 use sqz_workers::Phase;
@@ -23,17 +23,7 @@ fn assert_slides<R: Threads + Sync + Abort + AllocGlobal>(
 
 #[test]
 fn two_workers_slide_at_one_time(rt: HostRuntime) -> Result<(), Fail> {
-    let holds = [
-        Hold {
-            at: turn_of(0, 0),
-            until: turn_of(1, 0),
-        },
-        Hold {
-            at: turn_of(1, 0),
-            until: turn_of(0, 0),
-        },
-    ];
-    let gate = TurnGate::new(Phase::Slide, &holds);
+    let gate = TurnGate::new(Phase::Slide, &MEETING);
     assert_slides(&rt, &gate)?;
     assert_eq!(rt; (gate.met(), gate.missed()), (2, 0));
     Ok(())

@@ -1,0 +1,86 @@
+//! Sliding takes memory behind the gate alone, as the size of the process tells.
+
+use super::sliding::slid_by;
+use sqz_image::{Image, read_image};
+use sqz_object::Order;
+use sqz_regions::Cut;
+use sqz_test_images::put_words;
+use sqz_workers::{Gate, Phase};
+use std::alloc::Global;
+use std::fs::File;
+use std::io::Read;
+use std::rt::Files;
+use std::sync::atomic::{AtomicU64, Ordering};
+use std::test::Fail;
+
+/// How many bytes the large object has. Of so many that are asked for at once the process becomes larger.
+const MANY: u32 = 40 << 20;
+
+/// An image with an object of many bytes, from its second word on, and a special objects array that names it.
+fn large_image(alloc: Global) -> Result<Image, Fail> {
+    let special = 0x1010 + MANY;
+    let order = Order::Little;
+    let mut file = Vec::new(alloc);
+    put_words(&mut file, order, &[6502, 64, MANY + 28, 0x1000, special])?;
+    put_words(&mut file, order, &[0; 11])?;
+    put_words(&mut file, order, &[0x1007, MANY + 4, 0x1000, 0x800])?;
+    file.resize(80 + MANY as usize, 7)?;
+    put_words(&mut file, order, &[0x320F, 0x1000, 0x100C])?;
+    Ok(read_image(alloc, &file)?)
+}
+
+/// How many pages the process has.
+fn pages<R: Files>(rt: &R) -> u64 {
+    let mut text = [0; 32];
+    let Ok(mut file) = File::open(rt, "/proc/self/statm") else {
+        return 0;
+    };
+    if file.read(&mut text).is_err() {
+        return 0;
+    }
+    let mut pages: u64 = 0;
+    for digit in text {
+        if !digit.is_ascii_digit() {
+            return pages;
+        }
+        pages = pages.wrapping_mul(10).wrapping_add(u64::from(digit & 15));
+    }
+    pages
+}
+
+/// A gate that notes how large the process is at the first two turns.
+#[derive(Drop)]
+struct SizeGate<'a, R> {
+    rt: &'a R,
+    sizes: [AtomicU64; 2],
+}
+
+impl<R: Files + Sync> Gate for SizeGate<'_, R> {
+    fn pass(&self, phase: Phase, _worker: u32, turn: u64) {
+        if phase == Phase::Slide
+            && let Some(size) = self.sizes.get(turn as usize)
+        {
+            size.store(pages(self.rt), Ordering::SeqCst);
+        }
+    }
+}
+
+/// The room for the list of pieces, 60 MiB, and the first piece, 40 MiB, are taken behind the first turn and before the
+/// second.
+#[test]
+fn first_turn_is_before_all_memory(rt: HostRuntime) -> Result<(), Fail> {
+    let image = large_image(rt.alloc())?;
+    let gate = SizeGate {
+        rt: &rt,
+        sizes: [AtomicU64::new(0), AtomicU64::new(0)],
+    };
+    slid_by(&rt, image.heap(), &Cut::every(4)?, 1, &gate)?;
+    let [first, second] = &gate.sizes;
+    let first = first.load(Ordering::SeqCst);
+    let more = second.load(Ordering::SeqCst).saturating_sub(first);
+    assert!(rt;
+        first > 0 && more >= (95 << 20) / 4096,
+        "{first} pages, and {more} more"
+    );
+    Ok(())
+}
