@@ -15,6 +15,9 @@ fn wants_two_paths(rt: HostRuntime) -> Result<(), Fail> {
         let ended = run_program(&rt, rt.alloc(), words)?;
         assert_eq!(rt; ended.exit, 2, "at {words:?}");
         assert!(rt; ended.out.is_empty() && !ended.err.is_empty());
+        // it is said once
+        let (first, second) = ended.err.split_at(ended.err.len() / 2);
+        assert!(rt; first != second, "at {words:?}");
     }
     Ok(())
 }

@@ -10,6 +10,8 @@ mod files;
 #[cfg(test)]
 mod images;
 #[cfg(test)]
+mod plans;
+#[cfg(test)]
 mod programs;
 #[cfg(test)]
 mod refused;
