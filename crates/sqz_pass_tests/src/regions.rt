@@ -7,7 +7,6 @@ use sqz_image::{Heap, Image};
 use sqz_regions::{Cut, Forward, Regions, bases, live_words};
 use sqz_test_images::{DEAD_CYCLE, image_of};
 use sqz_trace::mark_plain;
-use std::alloc::Global;
 use std::process::Abort;
 use std::test::Fail;
 use std::thread::Threads;
@@ -79,55 +78,50 @@ fn assert_places<R: Threads + Sync + Abort + AllocGlobal>(
     Ok(())
 }
 
-/// The cut at these words.
-fn cut_at(alloc: Global, points: &[u32]) -> Result<Cut, Fail> {
-    Ok(Cut::at(points.to_vec(alloc)?)?)
+/// The same, cut at these words.
+fn assert_places_at<R: Threads + Sync + Abort + AllocGlobal>(
+    rt: &R,
+    image: &Image,
+    points: &[u32],
+    sums: &[u32],
+    bases: &[u64],
+    places: &[Option<u32>],
+) -> Result<(), Fail> {
+    let cut = Cut::at(points.to_vec(rt.alloc())?)?;
+    assert_places(rt, image, &cut, sums, bases, places)
 }
 
 #[test]
-fn dead_cycle_cut_at_two_words(rt: HostRuntime) -> Result<(), Fail> {
+fn dead_cycle(rt: HostRuntime) -> Result<(), Fail> {
     let image = image_of(rt.alloc(), &DEAD_CYCLE, 0x1024)?;
-    let cut = cut_at(rt.alloc(), &[1, 3])?;
+    let places = DEAD_CYCLE_PLACES.as_slice();
     let bases = [0x1000, 0x1004, 0x100C];
-    assert_places(&rt, &image, &cut, &[1, 2, 5], &bases, &DEAD_CYCLE_PLACES)
-}
-
-#[test]
-fn dead_cycle_cut_at_each_word(rt: HostRuntime) -> Result<(), Fail> {
-    let image = image_of(rt.alloc(), &DEAD_CYCLE, 0x1024)?;
+    assert_places_at(&rt, &image, &[1, 3], &[1, 2, 5], &bases, places)?;
     let sums = [1, 2, 0, 0, 0, 2, 0, 0, 0, 3, 0, 0];
     let bases = [
         0x1000, 0x1004, 0x100C, 0x100C, 0x100C, 0x100C, 0x1014, 0x1014, 0x1014, 0x1014, 0x1020,
         0x1020,
     ];
-    assert_places(
-        &rt,
-        &image,
-        &Cut::every(1)?,
-        &sums,
-        &bases,
-        &DEAD_CYCLE_PLACES,
-    )
+    assert_places(&rt, &image, &Cut::every(1)?, &sums, &bases, places)
 }
 
+/// The third object has six words, of which three are header words.
 #[test]
 fn cut_points_inside_objects(rt: HostRuntime) -> Result<(), Fail> {
-    let mut words = [0x1007, 0x320F, 1, 1, 0x100, 0x1000, 0x200].to_vec(rt.alloc())?;
-    words.resize(70, 1)?;
-    words.extend_from_slice(&[0x320F, 0x1000, 0x1018])?;
-    assert_eq!(rt; words.len(), 73);
-    let image = image_of(rt.alloc(), &words, 0x1118)?;
-    let places = [Some(0x1000), None, Some(0x100C), Some(0x110C)];
-    let inside = cut_at(rt.alloc(), &[2, 6, 40])?;
-    let bases = [0x1000, 0x1004, 0x110C, 0x110C];
-    assert_places(&rt, &image, &inside, &[1, 66, 0, 3], &bases, &places)?;
-    let first_and_last_words = cut_at(rt.alloc(), &[4, 69, 1 << 30])?;
-    let bases = [0x1000, 0x1004, 0x110C, 0x1118];
-    assert_places(
+    let words = [
+        0x1007, 0x320F, 1, 1, 0x10, 0x1000, 0x200, 1, 1, 1, 0x320F, 0x1000, 0x1018,
+    ];
+    let image = image_of(rt.alloc(), &words, 0x1028)?;
+    let places = [Some(0x1000), None, Some(0x100C), Some(0x101C)];
+    let bases = [0x1000, 0x1004, 0x101C, 0x101C];
+    assert_places_at(&rt, &image, &[2, 6, 8], &[1, 6, 0, 3], &bases, &places)?;
+    let first_and_last_words = [4, 9, 1 << 30];
+    let bases = [0x1000, 0x1004, 0x101C, 0x1028];
+    assert_places_at(
         &rt,
         &image,
         &first_and_last_words,
-        &[1, 66, 3, 0],
+        &[1, 6, 3, 0],
         &bases,
         &places,
     )
@@ -137,9 +131,8 @@ fn cut_points_inside_objects(rt: HostRuntime) -> Result<(), Fail> {
 fn one_object(rt: HostRuntime) -> Result<(), Fail> {
     let image = image_of(rt.alloc(), &[0x3207], 0x1000)?;
     let places = [Some(0x1000)];
-    assert_places(&rt, &image, &Cut::every(1)?, &[1], &[0x1000], &places)?;
-    let behind = cut_at(rt.alloc(), &[5])?;
-    assert_places(&rt, &image, &behind, &[1, 0], &[0x1000, 0x1004], &places)
+    assert_places_at(&rt, &image, &[1], &[1, 0], &[0x1000, 0x1004], &places)?;
+    assert_places_at(&rt, &image, &[5], &[1, 0], &[0x1000, 0x1004], &places)
 }
 
 #[test]
@@ -147,10 +140,7 @@ fn free_chunks_at_the_end(rt: HostRuntime) -> Result<(), Fail> {
     let words = [0x1007, 0x320B, 0x1000, 6, 0xA, 1];
     let image = image_of(rt.alloc(), &words, 0x1004)?;
     let places = [Some(0x1000), Some(0x1004)];
-    let whole = cut_at(rt.alloc(), &[])?;
-    assert_places(&rt, &image, &whole, &[3], &[0x1000], &places)?;
-    let sums = [1, 2, 0];
+    assert_places_at(&rt, &image, &[], &[3], &[0x1000], &places)?;
     let bases = [0x1000, 0x1004, 0x100C];
-    let cut = cut_at(rt.alloc(), &[1, 3])?;
-    assert_places(&rt, &image, &cut, &sums, &bases, &places)
+    assert_places_at(&rt, &image, &[1, 3], &[1, 2, 0], &bases, &places)
 }
