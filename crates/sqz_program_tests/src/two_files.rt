@@ -92,41 +92,27 @@ fn file_is_full(rt: HostRuntime) -> Result<(), Fail> {
     Ok(())
 }
 
-/// A write that would succeed is not tried again.
+/// What failed is not tried again, though it would succeed.
 #[test]
-fn first_write_fails(rt: HostRuntime) -> Result<(), Fail> {
-    let behavior = Behavior {
-        writes_fail: 1,
-        ..SOUND
-    };
-    let written = assert_fails(&rt, 88, behavior, NOT_WRITTEN)?;
-    let calls = Calls {
-        makings: 1,
-        writes: 1,
-        flushes: 0,
-    };
-    assert_eq!(rt; written.calls, calls);
+fn making_or_first_write_fails(rt: HostRuntime) -> Result<(), Fail> {
+    for (makings_fail, writes_fail) in [(1, 0), (0, 1)] {
+        let behavior = Behavior {
+            makings_fail,
+            writes_fail,
+            ..SOUND
+        };
+        let written = assert_fails(&rt, 88, behavior, NOT_WRITTEN)?;
+        let calls = Calls {
+            makings: 1,
+            writes: writes_fail,
+            flushes: 0,
+        };
+        assert_eq!(rt; written.calls, calls);
+    }
     Ok(())
 }
 
-/// A file that could be made is not tried again.
-#[test]
-fn file_is_not_made(rt: HostRuntime) -> Result<(), Fail> {
-    let behavior = Behavior {
-        makings_fail: 1,
-        ..SOUND
-    };
-    let written = assert_fails(&rt, 88, behavior, NOT_WRITTEN)?;
-    let calls = Calls {
-        makings: 1,
-        writes: 0,
-        flushes: 0,
-    };
-    assert_eq!(rt; written.calls, calls);
-    Ok(())
-}
-
-/// A flush that would succeed is not tried again.
+/// The same of a flush.
 #[test]
 fn first_flush_fails(rt: HostRuntime) -> Result<(), Fail> {
     let behavior = Behavior {
