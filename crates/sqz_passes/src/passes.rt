@@ -17,11 +17,13 @@ use sqz_trace::{Marks, first_defect};
 use sqz_workers::{OpenGate, mark_locked};
 use std::alloc::Global;
 use std::fs::File;
-use std::io;
 use std::rt::Files;
 use std::sync::Wait;
 use std::thread::Threads;
 use std::time::Clock;
+
+/// The device that the image is written to: it takes all bytes and keeps none.
+const NOWHERE: &str = "/dev/null";
 
 /// What is run.
 #[derive(Drop)]
@@ -77,7 +79,7 @@ fn print_run<R: Files + Threads + Wait + Sync + Clock + Print>(
 }
 
 /// Prints how long the passes take behind marking.
-fn print_moving<R: Threads + Sync + Clock + Print>(
+fn print_moving<R: Files + Threads + Sync + Clock + Print>(
     rt: &R,
     alloc: Global,
     work: &Work<'_>,
@@ -104,7 +106,7 @@ fn print_moving<R: Threads + Sync + Clock + Print>(
     watch.lap(rt)?;
     let _text = print(alloc, &rows)?;
     watch.lap(rt)?;
-    let mut sink = WriteSink::new(io::sink());
+    let mut sink = WriteSink::new(File::create(rt, NOWHERE)?);
     write_image(image, heap.special(), pieces.as_slice(), &mut sink)?;
     watch.lap(rt)?;
     Ok(())
