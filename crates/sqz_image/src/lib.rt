@@ -35,6 +35,3 @@ pub use reading::read_image;
 pub use write_sink::WriteSink;
 pub use write_whole::write_all;
 pub use writing::write_image;
-
-#[cfg(test)]
-mod tests;

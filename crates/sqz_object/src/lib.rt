@@ -15,6 +15,3 @@ pub use chunk::{Chunk, ChunkFault, Kind, chunk_at};
 pub use order::Order;
 pub use value::{Value, value_of};
 pub use word::{put_word, word_at};
-
-#[cfg(test)]
-mod tests;

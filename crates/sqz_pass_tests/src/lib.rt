@@ -1,6 +1,8 @@
-//! Tests of the passes over an image in memory, each called by itself.
+//! Tests of words, devices and the passes over an image in memory, each called by itself.
 #![tactic(auto)]
 
+#[cfg(test)]
+mod devices;
 #[cfg(test)]
 mod gates;
 #[cfg(test)]
@@ -15,3 +17,5 @@ mod sliding_gates;
 mod sliding_memory;
 #[cfg(test)]
 mod tracing;
+#[cfg(test)]
+mod words;

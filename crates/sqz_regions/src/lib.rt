@@ -12,6 +12,3 @@ pub use forward::Forward;
 pub use region_bases::bases;
 pub use regions::Regions;
 pub use sums::live_words;
-
-#[cfg(test)]
-mod tests;

@@ -1,0 +1,118 @@
+//! Devices that pass calls on: what goes through them, and what does not once they failed.
+
+use sqz_image::{Fault, ReadSource, Sink, Source, WriteSink, read_all, write_all};
+use std::io::{Cursor, ErrorKind, Read, Write};
+use std::test::Fail;
+
+/// Bytes that tell where they stand.
+const BYTES: [u8; 16] = [0, 1, 2, 3, 4, 5, 6, 7, 8, 9, 10, 11, 12, 13, 14, 15];
+
+#[test]
+fn passes_a_reader_on_to_a_writer(rt: HostRuntime) -> Result<(), Fail> {
+    let mut source = ReadSource::new(Cursor::new(BYTES.as_slice()));
+    let file = read_all(rt.alloc(), &mut source)?;
+    assert!(rt; !source.failed());
+    let mut copy = Vec::new(rt.alloc());
+    let mut sink = WriteSink::new(&mut copy);
+    write_all(&mut sink, &file)?;
+    assert!(rt; !sink.failed());
+    assert_eq!(rt; copy.as_slice(), BYTES.as_slice());
+    Ok(())
+}
+
+/// Refuses every call.
+#[derive(Drop)]
+struct Broken(u32);
+
+impl Read for Broken {
+    fn read(&mut self, _into: &mut [u8]) -> std::io::Result<usize> {
+        self.0 = self.0.saturating_add(1);
+        Err(ErrorKind::Interrupted.into())
+    }
+}
+
+impl Write for Broken {
+    fn write(&mut self, _from: &[u8]) -> std::io::Result<usize> {
+        self.0 = self.0.saturating_add(1);
+        Ok(0)
+    }
+
+    fn flush(&mut self) -> std::io::Result<()> {
+        self.0 = self.0.saturating_add(1);
+        Ok(())
+    }
+}
+
+/// Takes all bytes, and does not pass them on.
+#[derive(Drop)]
+struct Stuck;
+
+impl Write for Stuck {
+    fn write(&mut self, from: &[u8]) -> std::io::Result<usize> {
+        Ok(from.len())
+    }
+
+    fn flush(&mut self) -> std::io::Result<()> {
+        Err(ErrorKind::Other.into())
+    }
+}
+
+#[test]
+fn a_failed_device_calls_nobody(rt: HostRuntime) {
+    let mut reader = Broken(0);
+    let mut source = ReadSource::new(&mut reader);
+    assert!(rt; source.read(&mut [0; 4]).is_err());
+    assert!(rt; source.read(&mut [0; 4]).is_err());
+    assert!(rt; source.failed());
+    assert_eq!(rt; reader.0, 1);
+
+    let mut writer = Broken(0);
+    let mut sink = WriteSink::new(&mut writer);
+    assert!(rt; matches!(write_all(&mut sink, &[1]), Err(Fault::WriteFailed)));
+    assert!(rt; sink.write(&[1]).is_err());
+    assert!(rt; sink.flush().is_err());
+    assert_eq!(rt; writer.0, 1);
+
+    let mut sink = WriteSink::new(Stuck);
+    assert!(rt; matches!(write_all(&mut sink, &[1]), Err(Fault::WriteFailed)));
+    assert!(rt; sink.failed());
+}
+
+/// Fails at the first write, and would take all bytes at each later one.
+#[derive(Drop)]
+struct FailsOnce {
+    writes: u32,
+    error: ErrorKind,
+}
+
+impl Write for FailsOnce {
+    fn write(&mut self, from: &[u8]) -> std::io::Result<usize> {
+        self.writes = self.writes.saturating_add(1);
+        if self.writes == 1 {
+            Err(self.error.into())
+        } else {
+            Ok(from.len())
+        }
+    }
+
+    fn flush(&mut self) -> std::io::Result<()> {
+        Ok(())
+    }
+}
+
+#[test]
+fn a_failed_first_write_is_not_tried_again(rt: HostRuntime) {
+    for error in [ErrorKind::Interrupted, ErrorKind::StorageFull] {
+        let mut writer = FailsOnce { writes: 0, error };
+        let mut sink = WriteSink::new(&mut writer);
+        assert!(rt; sink.write(&[1, 2]).is_err());
+        assert!(rt; sink.failed());
+        assert_eq!(rt; writer.writes, 1);
+
+        let mut writer = FailsOnce { writes: 0, error };
+        let mut sink = WriteSink::new(&mut writer);
+        assert!(rt; matches!(write_all(&mut sink, &[1, 2]), Err(Fault::WriteFailed)));
+        assert!(rt; sink.failed());
+        assert_eq!(rt; writer.writes, 1);
+    }
+}
