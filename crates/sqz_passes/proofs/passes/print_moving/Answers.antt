@@ -1,6 +1,6 @@
-use Rattle.std.proofs.Common.{arith}
+use Rattle.std.proofs.Common.{ap, arith, length}
 use Rattle.sqz_regions.proofs.SumLemmas.{live_words-le-words}
-use Rattle.sqz_tool.proofs.CompactionLemmas.{few_words}
+use Rattle.sqz_slide.proofs.LengthLemmas.{length-moved_objects}
 use Rattle.sqz_passes.proofs.passes.print_moving.Goals as goal
 
 pub write_image-requires : goal.write_image-requires
@@ -12,7 +12,5 @@ write_image-requires g c =
     let whole = c.in_ok-pieces.ensures.whole marks c.in_ok-forward.ensures.places (rw is sized) in
     let words = rw is at whole in
     let le = live_words-le-words image.memory marks sized in
-    record {
-      few = rw c.as_slice.ensures
-          (few_words image marks c.in_ok-pieces.pieces c.requires.chunks words (omega (arith, le, rw is at c.heap_bounds.ensures.words)));
-    }
+    let same = length-moved_objects image.memory marks c.requires.chunks in
+    record { few = rw c.as_slice.ensures (omega (arith, ap length words, same, le, rw is at c.heap_bounds.ensures.words)) }
