@@ -1,25 +1,32 @@
 //! Command lines that are no plan, and the help.
 
 use super::programs::{assert_ended, run_program};
+use std::process::Abort;
+use std::rt::Files;
+use std::sync::Wait;
 use std::test::Fail;
+use std::thread::Threads;
+
+/// Asserts that the program ends with 2 at these words, and says why on standard error, once.
+fn assert_not_taken<R: Threads + Wait + Sync + Abort + AllocGlobal + Files>(
+    rt: &R,
+    words: &[&str],
+) -> Result<(), Fail> {
+    let ended = run_program(rt, rt.alloc(), words)?;
+    let count = words.len();
+    assert_eq!(rt; ended.exit, 2, "at {count} words");
+    assert!(rt; ended.out.is_empty() && !ended.err.is_empty());
+    let (first, second) = ended.err.split_at(ended.err.len() / 2);
+    assert!(rt; first != second, "at {count} words");
+    Ok(())
+}
 
 #[test]
 fn wants_two_paths(rt: HostRuntime) -> Result<(), Fail> {
-    let some: [&[&str]; 4] = [
-        &[],
-        &["whole.image"],
-        &["whole.image", "never.image", "more"],
-        &["--other", "whole.image", "never.image"],
-    ];
-    for words in some {
-        let ended = run_program(&rt, rt.alloc(), words)?;
-        assert_eq!(rt; ended.exit, 2, "at {words:?}");
-        assert!(rt; ended.out.is_empty() && !ended.err.is_empty());
-        // it is said once
-        let (first, second) = ended.err.split_at(ended.err.len() / 2);
-        assert!(rt; first != second, "at {words:?}");
-    }
-    Ok(())
+    assert_not_taken(&rt, &[])?;
+    assert_not_taken(&rt, &["whole.image"])?;
+    assert_not_taken(&rt, &["whole.image", "never.image", "more"])?;
+    assert_not_taken(&rt, &["--other", "whole.image", "never.image"])
 }
 
 #[test]
