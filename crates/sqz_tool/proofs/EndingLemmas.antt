@@ -9,11 +9,11 @@ use Rattle.sqz_image.specs.declared.fault.Fault.TheVariants.{OutOfMemory, ReadFa
 use Rattle.sqz_image.specs.Devices.{SinkState}
 use Rattle.sqz_image.specs.Numbers.{number_of_fault}
 use Rattle.sqz_tool.specs.declared.summary.Summary.{Summary}
-use Rattle.sqz_tool.specs.CommandLine.{command_line}
+use Rattle.sqz_command.specs.CommandLine.{command_line}
 use Rattle.sqz_tool.specs.Endings.{EndsWhole, EndsFaulty}
-use Rattle.sqz_tool.specs.Exits.{exit_of, exit_of_number}
+use Rattle.sqz_command.specs.Exits.{exit_of, exit_of_number}
 use Rattle.sqz_tool.specs.FileRuns.{CompactsFiles, RefusesFiles}
-use Rattle.sqz_tool.specs.Lines.{PrintsFault}
+use Rattle.sqz_command.specs.Lines.{PrintsFault}
 use Rattle.sqz_tool.specs.Plans.{AsksForCensus}
 
 -- no fault ends the program as done

@@ -14,7 +14,7 @@ use Rattle.sqz_trace.proofs.DefectLemmas.{first_defect-number}
 use Rattle.sqz_tool.specs.declared.summary.Summary.{Summary}
 use Rattle.sqz_tool.specs.Compacted.{compacted}
 use Rattle.sqz_tool.specs.Verdict.{IsAccepted, HasDefect, IsRefused}
-use Rattle.sqz_tool.specs.Exits.{exit_of}
+use Rattle.sqz_command.specs.Exits.{exit_of}
 use Rattle.sqz_tool.specs.Headline.{IsCompaction, HasDefectIn, Sinks, Reports, Compacts, RefusesFile, Refuses}
 
 -- ---- the refusals of a file

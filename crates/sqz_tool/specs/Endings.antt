@@ -4,10 +4,10 @@ use Rattle.clap.specs.Words.{Text, fault_of, matches_of}
 use Rattle.sqz_image.specs.declared.fault.Fault.{Fault}
 use Rattle.sqz_image.specs.Devices.{SinkState}
 use Rattle.sqz_tool.specs.declared.summary.Summary.{Summary}
-use Rattle.sqz_tool.specs.CommandLine.{command_line}
-use Rattle.sqz_tool.specs.Exits.{exit_of}
+use Rattle.sqz_command.specs.CommandLine.{command_line}
+use Rattle.sqz_command.specs.Exits.{exit_of}
 use Rattle.sqz_tool.specs.FileRuns.{CompactsFiles, RefusesFiles}
-use Rattle.sqz_tool.specs.Lines.{PrintsFault}
+use Rattle.sqz_command.specs.Lines.{PrintsFault}
 use Rattle.sqz_tool.specs.Plans.{AsksForCensus}
 
 -- the words were taken

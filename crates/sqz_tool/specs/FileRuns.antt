@@ -1,13 +1,10 @@
 -- Runs from one file to another, of which contracts see no bytes unless the files tell them.
-use Rattle.std.specs.Prelude.{ℕ, Bool, List, Option, None, false}
+use Rattle.std.specs.Prelude.{ℕ, Bool, List, Option}
 use Rattle.sqz_image.specs.declared.fault.Fault.{Fault}
 use Rattle.sqz_image.specs.Devices.{SourceState, SinkState, new_source}
+use Rattle.sqz_command.specs.OutputFiles.{new_output}
 use Rattle.sqz_tool.specs.declared.summary.Summary.{Summary}
 use Rattle.sqz_tool.specs.Headline.{Compacts, Refuses, sinks}
-
--- a file that is not made yet, and was not written to
-abbrev pub new_output : SinkState
-new_output = record { contents = None; writes = 0; unflushed = false; failed = false }
 
 -- a run over what some file had left, to a file that was not made yet, and to the sink of its census: it succeeded
 pub record CompactsFiles (census : Bool) (old new : SinkState) (summary : Summary) : Type 0 where

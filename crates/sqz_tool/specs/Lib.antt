@@ -2,10 +2,5 @@ pub mod Compacted
 pub mod Verdict
 pub mod Headline
 pub mod FileRuns
-pub mod CommandLine
-pub mod Exits
-pub mod OutputFiles
-pub mod Lines
-pub mod FaultTexts
 pub mod Plans
 pub mod Endings

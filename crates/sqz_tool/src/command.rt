@@ -1,23 +1,16 @@
 //! The program.
 
 ghost use Rattle.std.specs.Prelude.{◌≡◌, ◌≢◌, ◌⊎◌, ◌<◌, ◌≤◌, [], map, string_bytes, IfErr, IsOk, MatchResult};
-ghost use Rattle.clap.specs.Words.{fault_of, kind_of, matches_of};
-ghost use Rattle.clap.specs.declared.error.kind.ErrorKind.TheVariants as kinds;
-ghost use Rattle.sqz_image.specs.declared.fault.Fault.TheVariants.{OutOfMemory};
-ghost use Rattle.sqz_tool.specs.CommandLine.{command_line};
+ghost use Rattle.clap.specs.Words.{fault_of, matches_of};
+ghost use Rattle.sqz_command.specs.CommandLine.{command_line};
+ghost use Rattle.sqz_command.specs.Exits.{IsExitBy, exit_of};
+ghost use Rattle.sqz_command.specs.Lines.{PrintsFault};
 ghost use Rattle.sqz_tool.specs.Endings.{AreTaken, EndsFaulty, EndsWhole};
-ghost use Rattle.sqz_tool.specs.Exits.{IsExitBy, exit_of, exit_of_kind};
-ghost use Rattle.sqz_tool.specs.Lines.{PrintsFault};
 ghost use Rattle.sqz_tool.specs.Plans.{AsksForCensus, AsksForPlan};
 
-use crate::arguments::read_arguments;
 use crate::compact_files::compact;
-use crate::exits::{BAD_ARGUMENTS, DONE, exit_of};
-use crate::fault_line::fault_line;
-use crate::printing::{print, print_bytes};
 use crate::summary::Summary;
-use clap::Error;
-use clap::error::ErrorKind;
+use sqz_command::{DONE, explain, read_arguments, refuse};
 use sqz_image::{Fault, Sink};
 use sqz_workers::OpenGate;
 use std::alloc::Global;
@@ -73,34 +66,5 @@ fn finish<E: Sink>(outcome: Result<Summary, Fault>, err: &mut E) -> u8
     match outcome {
         Ok(_) => DONE,
         Err(fault) => refuse(&fault, err),
-    }
-}
-
-/// Prints the line of a fault, and answers what the program is to end with.
-pub fn refuse<E: Sink>(fault: &Fault, err: &mut E) -> u8
-    ensures exit { result ≡ exit_of fault.now }
-    ensures line { PrintsFault (E.state err.old) (E.state err.new) fault.now }
-{
-    print_bytes(err, fault_line(fault).as_slice());
-    exit_of(fault)
-}
-
-/// Prints what is said in place of arguments, and answers what the program is to end with.
-fn explain<C: Sink, E: Sink>(error: &Error, out: &mut C, err: &mut E) -> u8
-    ensures exit { result ≡ exit_of_kind (kind_of error.now) }
-    ensures memory { kind_of error.now ≡ kinds.OutOfMemory → PrintsFault (E.state err.old) (E.state err.new) OutOfMemory }
-    ensures silent { result ≡ 0 → err.new ≡ err.old }
-    ensures quiet { 0 < result → out.new ≡ out.old }
-{
-    match error.kind() {
-        ErrorKind::OutOfMemory => refuse(&Fault::OutOfMemory, err),
-        ErrorKind::DisplayHelp | ErrorKind::DisplayVersion => {
-            print(out, error);
-            DONE
-        }
-        _ => {
-            print(err, error);
-            BAD_ARGUMENTS
-        }
     }
 }

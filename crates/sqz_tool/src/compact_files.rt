@@ -7,11 +7,11 @@ ghost use Rattle.sqz_tool.specs.FileRuns.{CompactsFiles, RefusesFiles};
 ghost use Rattle.sqz_tool.specs.Headline.{Compacts, Refuses, sinks};
 ghost use Rattle.sqz_tool.specs.Plans.{IsWorkers, IsRegion};
 
-use crate::arguments::Arguments;
 use crate::opened::Opened;
 use crate::plan::Plan;
 use crate::running::run;
 use crate::summary::Summary;
+use sqz_command::Arguments;
 use sqz_image::{Fault, ReadSource, Sink};
 use sqz_workers::Gate;
 use std::alloc::Global;

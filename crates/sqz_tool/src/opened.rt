@@ -3,12 +3,11 @@
 ghost use Rattle.std.specs.Prelude.{◌≡◌, ◌⊎◌, IfOk, IfErr};
 ghost use Rattle.sqz_image.specs.declared.fault.Fault.TheVariants.{ReadFailed, BadWorkers, BadCut};
 ghost use Rattle.sqz_regions.specs.Regions.{Every};
-ghost use Rattle.sqz_tool.specs.FileRuns.{new_output};
+ghost use Rattle.sqz_command.specs.OutputFiles.{new_output};
 ghost use Rattle.sqz_tool.specs.Plans.{IsWorkers, IsRegion};
 
-use crate::arguments::Arguments;
-use crate::output_file::OutputFile;
 use crate::plan::Plan;
+use sqz_command::{Arguments, OutputFile};
 use sqz_image::{Fault, Sink};
 use std::fs::File;
 use std::rt::Files;

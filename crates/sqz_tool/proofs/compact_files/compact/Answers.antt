@@ -1,6 +1,6 @@
 use Rattle.std.proofs.Common.{ap}
 use Rattle.std.proofs.lemmas.Result.{IfErr-weaker}
-use Rattle.sqz_tool.specs.Exits.{exit_of}
+use Rattle.sqz_command.specs.Exits.{exit_of}
 use Rattle.sqz_tool.proofs.RunLemmas.{Refuses-exit}
 use Rattle.sqz_tool.proofs.compact_files.compact.Goals as goal
 

@@ -2,8 +2,8 @@
 
 ghost use Rattle.std.specs.Prelude.{◌≡◌, ◌+◌, ◌<◌, ◌≤◌, ◌++◌, [], length, codes};
 ghost use Rattle.arrayvec.specs.ArrayVec.{array_vec_len};
-ghost use Rattle.sqz_tool.specs.Lines.{HasNoEnd, IsFaultLine};
-ghost use Rattle.sqz_tool.specs.FaultTexts.{two_digits};
+ghost use Rattle.sqz_command.specs.Lines.{HasNoEnd, IsFaultLine};
+ghost use Rattle.sqz_command.specs.FaultTexts.{two_digits};
 
 use arrayvec::ArrayVec;
 use sqz_image::Fault;
@@ -25,7 +25,7 @@ struct Text {
 
 impl Model for Text {
     ghost use Rattle.std.specs.Prelude.{ℕ, List};
-    ghost use Rattle.sqz_tool.specs.Lines.{HasNoEnd};
+    ghost use Rattle.sqz_command.specs.Lines.{HasNoEnd};
 
     ghost Value = { List ℕ };
 

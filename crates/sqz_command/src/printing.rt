@@ -1,6 +1,6 @@
 //! Text to a sink.
 
-ghost use Rattle.sqz_tool.specs.Lines.{Prints};
+ghost use Rattle.sqz_command.specs.Lines.{Prints};
 
 use sqz_image::{Sink, write_all};
 use std::fmt;

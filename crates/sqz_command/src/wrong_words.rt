@@ -1,7 +1,7 @@
 //! Words of the command line that are no text.
 
 ghost use Rattle.std.specs.Prelude.{◌≡◌, codes};
-ghost use Rattle.sqz_tool.specs.Lines.{Prints};
+ghost use Rattle.sqz_command.specs.Lines.{Prints};
 
 use crate::exits::BAD_ARGUMENTS;
 use crate::printing::print_bytes;

@@ -9,7 +9,7 @@ use Rattle.sqz_image.specs.declared.fault.Fault.TheVariants.{BadSpecialObjects, 
 use Rattle.sqz_image.specs.declared.fault.Fault.TheVariants.{BadPointer, OutOfMemory, ReadFailed, WriteFailed}
 use Rattle.sqz_image.specs.declared.fault.Fault.TheVariants.{BadWorkers, BadCut, BadWeak, NoNil}
 use Rattle.sqz_image.specs.Numbers.{number_of_fault}
-use Rattle.sqz_tool.specs.FaultTexts.{two_digits}
+use Rattle.sqz_command.specs.FaultTexts.{two_digits}
 
 pub decimal-number_of_fault : (fault : Fault) → decimal (number_of_fault fault) ≡ two_digits (number_of_fault fault)
 unfolding digits

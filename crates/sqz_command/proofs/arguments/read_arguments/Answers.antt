@@ -1,8 +1,8 @@
 use Rattle.std.proofs.Common.{◌≡◌, ◌∙◌, ap, rules, sym}
 use Rattle.std.specs.Prelude.{codes, option_map}
 use Rattle.std.proofs.lemmas.Option.{same_Some}
-use Rattle.sqz_tool.proofs.CommandLineLemmas.{first_is, flag_read, none_refused, number_read, one_is}
-use Rattle.sqz_tool.proofs.arguments.read_arguments.Goals as goal
+use Rattle.sqz_command.proofs.CommandLineLemmas.{first_is, flag_read, none_refused, number_read, one_is}
+use Rattle.sqz_command.proofs.arguments.read_arguments.Goals as goal
 
 pub unwrap-requires-3 : goal.unwrap-requires-3
 unwrap-requires-3 c =

@@ -21,9 +21,9 @@ use Rattle.clap.proofs.CallerLemmas.{required_in_chain}
 use Rattle.clap.proofs.CallerReads.{signed_reads}
 use Rattle.clap.proofs.WalkLemmas.{first_value-rows, one_text-rows}
 use Rattle.clap.proofs.OnLiterals.{clap_on_literals}
-use Rattle.sqz_tool.specs.CommandLine.{GivesAll, HasNumber, IsFlag, IsNumber, IsRequired, command_line, number_parser}
+use Rattle.sqz_command.specs.CommandLine.{GivesAll, HasNumber, IsFlag, IsNumber, IsRequired, command_line, number_parser}
 use Rattle.clap.specs.declared.builder.value_parser.ValueParser.TheVariants as vp
-use Rattle.sqz_tool.proofs.ArgumentLemmas.{default_in_chain, distinct_by_names, read_in_chain}
+use Rattle.sqz_command.proofs.ArgumentLemmas.{default_in_chain, distinct_by_names, read_in_chain}
 
 -- the matches of the command line can be computed
 pub command_line_simple : is_simple command_line ≡ true

@@ -3,7 +3,7 @@
 ghost use Rattle.std.specs.Prelude.{◌≡◌, ◌↔◌, IfOk, IsTrue, Some, codes, map, string_bytes};
 ghost use Rattle.clap.specs.Words.{FailsBy, IsParsedFrom, app_of, fault_of, first_of, matches_of, one_of};
 ghost use Rattle.clap.specs.declared.parser.matches.ArgMatches.{ArgMatches};
-ghost use Rattle.sqz_tool.specs.CommandLine.{GivesAll, IsFlag, IsNumber, IsRequired, ReadsNumber, command_line};
+ghost use Rattle.sqz_command.specs.CommandLine.{GivesAll, IsFlag, IsNumber, IsRequired, ReadsNumber, command_line};
 
 use clap::{Arg, ArgAction, Command, Error, value_parser};
 use std::alloc::{AllocError, Global};
@@ -26,7 +26,7 @@ pub struct Arguments<'a> {
 /// Reads the words of a command line, of which the first is the program's name.
 ///
 /// Fails with what is to be printed: the help, where it was asked for, or what is wrong.
-pub(crate) fn read_arguments<'a>(alloc: Global, words: &'a [String]) -> Result<Arguments<'a>, Error>
+pub fn read_arguments<'a>(alloc: Global, words: &'a [String]) -> Result<Arguments<'a>, Error>
     ensures input { IfOk result (λ arguments.
         first_of (codes "IN") (matches_of command_line (map string_bytes words.entry.now)) ≡ Some arguments.input.now) }
     ensures output { IfOk result (λ arguments.

@@ -1,12 +1,12 @@
 //! What the program ends with.
 
 ghost use Rattle.std.specs.Prelude.{◌≡◌};
-ghost use Rattle.sqz_tool.specs.Exits.{exit_of};
+ghost use Rattle.sqz_command.specs.Exits.{exit_of};
 
 use sqz_image::Fault;
 
 /// The image was written.
-pub(crate) const DONE: u8 = 0;
+pub const DONE: u8 = 0;
 
 /// The image is at fault.
 pub(crate) const BAD_IMAGE: u8 = 1;

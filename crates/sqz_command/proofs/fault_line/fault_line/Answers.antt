@@ -1,5 +1,5 @@
-use Rattle.sqz_tool.proofs.FaultLineLemmas.{decimal-number_of_fault}
-use Rattle.sqz_tool.proofs.fault_line.fault_line.Goals as goal
+use Rattle.sqz_command.proofs.FaultLineLemmas.{decimal-number_of_fault}
+use Rattle.sqz_command.proofs.fault_line.fault_line.Goals as goal
 
 pub returns : goal.returns
 returns c =

@@ -1,7 +1,7 @@
 use Rattle.std.proofs.Common.{rules}
 use Rattle.std.proofs.lemmas.Result.{IfOk-weaker}
-use Rattle.sqz_tool.proofs.CommandLineLemmas.{all_given, shape_is}
-use Rattle.sqz_tool.proofs.arguments.command.Goals as goal
+use Rattle.sqz_command.proofs.CommandLineLemmas.{all_given, shape_is}
+use Rattle.sqz_command.proofs.arguments.command.Goals as goal
 
 pub returns-clause-shape : goal.returns-clause-shape
 returns-clause-shape c = IfOk-weaker c.arg-5.result _ _ (λ made added.

@@ -3,8 +3,7 @@
 ghost use Rattle.std.specs.Prelude.{◌≡◌, ◌<◌, ◌≤◌, None, false, length, IfOk, OnOk, OnErr};
 ghost use Rattle.std.specs.Io.KnownBytes.{Keeps, WriteAppends};
 ghost use Rattle.sqz_image.specs.Devices.{SinkState};
-ghost use Rattle.sqz_tool.specs.FileRuns.{new_output};
-ghost use Rattle.sqz_tool.specs.OutputFiles.{known_bytes};
+ghost use Rattle.sqz_command.specs.OutputFiles.{known_bytes, new_output};
 
 use sqz_image::{DeviceFault, Sink};
 use std::fs::File;
@@ -14,9 +13,10 @@ use std::rt::Files;
 
 /// A file that the first write makes, or empties. Until then nothing is done to what has its path.
 #[derive(Drop)]
-pub(crate) struct OutputFile<'a, T: Files> {
+pub struct OutputFile<'a, T: Files> {
     rt: &'a T,
-    path: &'a str,
+    /// The path of the file.
+    pub path: &'a str,
     file: Option<T::File>,
     writes: u64,
     unflushed: bool,
@@ -26,7 +26,7 @@ pub(crate) struct OutputFile<'a, T: Files> {
 
 impl<'a, T: Files> OutputFile<'a, T> {
     /// The file with this path, which is not made yet.
-    pub(crate) fn new(rt: &'a T, path: &'a str) -> Self
+    pub fn new(rt: &'a T, path: &'a str) -> Self
         ensures not_made { ⟦<OutputFile<'a, T> as Sink>⟧.state result ≡ new_output }
         ensures path { result.path.now ≡ path.entry.now }
     {

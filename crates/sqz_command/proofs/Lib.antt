@@ -1,0 +1,3 @@
+mod ArgumentLemmas
+mod CommandLineLemmas
+mod FaultLineLemmas

@@ -1,0 +1,5 @@
+pub mod CommandLine
+pub mod Exits
+pub mod OutputFiles
+pub mod Lines
+pub mod FaultTexts
