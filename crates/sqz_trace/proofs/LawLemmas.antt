@@ -2,7 +2,7 @@
 use Rattle.std.proofs.Common.{◌≡◌, ◌≢◌, ℕ, zero, suc, ◌<◌, ◌≤◌, Bool, true, false, List, [], ◌∷◌, length, set}
 use Rattle.std.proofs.Common.{refl, sym, ap, subst, ◌∙◌, arith, inl, inr}
 use Rattle.std.specs.Prelude.{replicate}
-use Rattle.std.proofs.lemmas.Bool.{cases_order, cases_lt}
+use Rattle.std.proofs.lemmas.Bool.{cases_order, cases_lt, cases_eq}
 use Rattle.std.proofs.lemmas.List.{length-set, length-replicate, map-set, get_or-set_same, get_or-set_other}
 use Rattle.sqz_trace.specs.declared.shades.Shade.{Shade}
 use Rattle.sqz_trace.specs.declared.shades.Shade.TheVariants.{White, Grey, Black}
@@ -79,6 +79,38 @@ module _ (graph : Graph) where
               | inl same ↦ marked-by new index Black (ap (shade_at new) same ∙ step.black) refl
               | inr (inl same) ↦ marked-same old new index same marked
               | inr (inr (edge, white, now)) ↦ marked-by new index Grey now refl
+            ]
+
+  -- it holds after a reachable object got a shade that is marked, where black tells that all it has an edge to is marked
+  pub AreLawful-set : (object : ℕ) (shade : Shade) (old : List Shade) → AreLawful graph old → object < length old → has_mark shade ≡ true
+      → IsReachable graph object → (shade ≡ Black → (to : ℕ) → graph.Edge object to → is_marked (marks_of old) to ≡ true)
+      → AreLawful graph (set old object shade)
+  AreLawful-set object shade old lawful inside marked reached targets =
+      record {
+        sized = length-set old object shade ∙ lawful.sized;
+        has_start = keeps graph.start lawful.has_start;
+        sound = λ index is. elim (cases_eq index object) [
+          | inl same ↦ subst (IsReachable graph) (sym same) reached
+          | inr differs ↦ lawful.sound index (marked-same (set old object shade) old index (sym (other index differs)) is)
+        ];
+        along = λ from to black edge. elim (cases_eq from object) [
+          | inl same ↦ keeps to
+              (targets (sym here ∙ sym (ap (shade_at (set old object shade)) same) ∙ black) to
+              (subst (λ (i : ℕ). graph.Edge i to) same edge))
+          | inr differs ↦ keeps to (lawful.along from to (sym (other from differs) ∙ black) edge)
+        ];
+      } where
+        here : shade_at (set old object shade) object ≡ shade
+        here = get_or-set_same old object shade White inside
+
+        other : (index : ℕ) → index ≢ object → shade_at (set old object shade) index ≡ shade_at old index
+        other index differs = get_or-set_other old object index shade White differs
+
+        keeps : (index : ℕ) → is_marked (marks_of old) index ≡ true → is_marked (marks_of (set old object shade)) index ≡ true
+        keeps index was =
+            elim (cases_eq index object) [
+              | inl same ↦ marked-by (set old object shade) index shade (ap (shade_at (set old object shade)) same ∙ here) marked
+              | inr differs ↦ marked-same old (set old object shade) index (other index differs) was
             ]
 
   -- a shade that is marked and not grey is black

@@ -1,0 +1,326 @@
+-- Each event leaves a lawful state lawful. The rule of the mark table and the law of legal runs both rest on these.
+use Rattle.std.proofs.Common.{◌≡◌, ◌≢◌, ◌⊎◌, ℕ, ◌+◌, ◌-◌, ◌<◌, ◌≤◌, true, List, [], ◌∷◌, ◌++◌, length, set, get_or, refl, sym, ap, subst, ◌∙◌, arith, inl, inr}
+use Rattle.std.proofs.lemmas.Bool.{cases_eq, cases_lt}
+use Rattle.std.proofs.lemmas.List.{length-set, get_or-set_same, get_or-set_other, get_or_append_left, get_or_push, get_or_past, length_push}
+use Rattle.std.proofs.lemmas.List.Sums.{sum_by-set, sum_by_push, get_or-le-sum_by}
+use Rattle.std.specs.List.{sum_by}
+use Rattle.sqz_trace.specs.declared.shades.Shade.{Shade}
+use Rattle.sqz_trace.specs.declared.shades.Shade.TheVariants.{White, Grey, Black}
+use Rattle.sqz_trace.specs.Graph.{is_marked}
+use Rattle.sqz_trace.specs.Shades.{shade_at, has_mark, marks_of, AreLawful}
+use Rattle.sqz_trace.proofs.ReachabilityLemmas.{IsReachable-next}
+use Rattle.sqz_trace.proofs.ShadeLemmas.{white-grey, white-black, grey-black, marked-by, marked-same, is_marked-shade}
+use Rattle.sqz_trace.proofs.LawLemmas.{AreLawful-set}
+use Rattle.sqz_marks.specs.declared.view.View.{View}
+use Rattle.sqz_marks.specs.Core.{Marking, State, HasSeen, HasBlackened, times, spent, pass_at, looked, claimed, greyed, blackened, kept_of, part_of, joined}
+use Rattle.sqz_marks.specs.Core.{Event, Look, Claim, Blacken, Split, Join, Meets, after}
+use Rattle.sqz_marks.specs.Lawful.{KnowsTruth, IsLawful, wins, times_won, times_blackened, total_weight}
+use Rattle.sqz_marks.proofs.TimesLemmas.{times-same, times-other, times-more, times-append}
+use Rattle.sqz_marks.proofs.ViewLemmas.{AreDarker, AreDarker-same, weight-seen, KnowsTruth-darker, KnowsTruth-spent, KnowsTruth-part}
+use Rattle.sqz_marks.proofs.ViewLemmas.{KnowsTruth-seen, KnowsTruth-won, KnowsTruth-blackened, KnowsTruth-kept, KnowsTruth-joined}
+
+-- shades of which one object got another shade
+module _ (shades : List Shade) (object : ℕ) (shade : Shade) (inside : object < length shades) where
+  shade-same : shade_at (set shades object shade) object ≡ shade
+  shade-same = get_or-set_same shades object shade White inside
+
+  shade-other : (other : ℕ) → other ≢ object → shade_at (set shades object shade) other ≡ shade_at shades other
+  shade-other other differs = get_or-set_other shades object other shade White differs
+
+  -- they are darker where the shade is
+  AreDarker-set : has_mark shade ≡ true → (shade_at shades object ≡ Black → shade ≡ Black) → AreDarker shades (set shades object shade)
+  AreDarker-set marked black =
+      record {
+        marked = λ other was. elim (cases_eq other object) [
+          | inl same ↦ marked-by (set shades object shade) other shade (ap (shade_at (set shades object shade)) same ∙ shade-same) marked
+          | inr differs ↦ marked-same shades (set shades object shade) other (shade-other other differs) was
+        ];
+        black = λ other was. elim (cases_eq other object) [
+          | inl same ↦ ap (shade_at (set shades object shade)) same ∙ shade-same ∙ black (sym (ap (shade_at shades) same) ∙ was)
+          | inr differs ↦ shade-other other differs ∙ was
+        ];
+      }
+
+module _ (marking : Marking) (state : State) (pass : ℕ) (inside : pass < length state.passes) (lawful : IsLawful marking state) where
+  abbrev pub passes : List View
+  passes = state.passes
+
+  abbrev pub view : View
+  view = pass_at state.passes pass
+
+  its : KnowsTruth state.shades view
+  its = lawful.truth pass
+
+  -- one pass learned something, and objects got darker
+  pub IsLawful-changed : (shades : List Shade) (now : View) → AreLawful marking.graph shades → AreDarker state.shades shades
+      → KnowsTruth shades now → now.weight ≡ view.weight
+      → ((object : ℕ) → times object now.won + wins (shade_at state.shades object) ≡ times object view.won + wins (shade_at shades object))
+      → ((object : ℕ) → times object view.blackened ≤ times object now.blackened)
+      → ((object : ℕ) → shade_at shades object ≡ Black → (shade_at state.shades object ≡ Black) ⊎ HasBlackened now object)
+      → IsLawful marking record { shades = shades; passes = set passes pass now }
+  IsLawful-changed shades now law darker truth weight won grows black =
+      record {
+        shades = law;
+        won = λ object.
+            let was = lawful.won object in let change = won object in
+            let total = sum_by-set (λ v. times object v.won) passes pass now spent inside in omega (arith, was, change, total);
+        black = λ object is.
+            let total = sum_by-set (λ v. times object v.blackened) passes pass now spent inside in
+            let part = get_or-le-sum_by (λ v. times object v.blackened) passes pass spent inside in
+            elim (black object is) [
+              | inl was ↦ omega (arith, lawful.black object was, grows object, total, part)
+              | inr known ↦ omega (arith, known, total, part)
+            ];
+        truth = λ other. elim (cases_eq other pass) [
+          | inl same ↦ subst (KnowsTruth shades)
+              (sym (ap (pass_at (set passes pass now)) same ∙ get_or-set_same passes pass now spent inside)) truth
+          | inr differs ↦ subst (KnowsTruth shades) (sym (get_or-set_other passes pass other now spent differs))
+              (KnowsTruth-darker state.shades shades (pass_at passes other) darker (lawful.truth other))
+        ];
+        weights =
+            let total = sum_by-set (λ v. v.weight) passes pass now spent inside in omega (arith, lawful.weights, total, weight);
+      }
+
+  -- a look at an object
+  pub IsLawful-look : (object : ℕ) → 1 ≤ view.weight → IsLawful marking (after state pass (Look object))
+  IsLawful-look object weight = by_shade (shade_at state.shades object) refl
+    where
+      same : (object : ℕ) → (shade : Shade) → shade_at state.shades object ≡ shade → has_mark shade ≡ true → is_marked (marks_of state.shades) object ≡ true
+      same object shade is marked = marked-by state.shades object shade is marked
+
+      known : (now : View) → KnowsTruth state.shades now → now.weight ≡ view.weight → now.won ≡ view.won
+          → ((object : ℕ) → times object view.blackened ≤ times object now.blackened)
+          → IsLawful marking record { shades = state.shades; passes = set passes pass now }
+      known now truth weight won grows =
+          IsLawful-changed state.shades now lawful.shades (AreDarker-same state.shades) truth weight
+          (λ other. ap (λ list. times other list + wins (shade_at state.shades other)) won) grows (λ other black. inl black)
+
+      by_shade : (shade : Shade) → shade_at state.shades object ≡ shade
+          → IsLawful marking record { shades = state.shades; passes = set passes pass (looked object shade view) }
+      by_shade White is = known view its refl refl (λ other. omega arith)
+      by_shade Grey is =
+          known (claimed object Grey view) (KnowsTruth-seen state.shades view its object weight (same object Grey is refl)) refl refl
+          (λ other. omega arith)
+      by_shade Black is =
+          known (looked object Black view)
+          (KnowsTruth-blackened state.shades (claimed object Grey view)
+          (KnowsTruth-seen state.shades view its object weight (same object Black is refl)) object weight is)
+          refl refl (λ other. times-more other object view.blackened)
+
+  -- a claim of an object
+  pub IsLawful-claim : (parent object : ℕ) → HasSeen view parent → object < marking.graph.count → marking.graph.Edge parent object
+      → IsLawful marking (after state pass (Claim parent object))
+  IsLawful-claim parent object seen lt edge = by_shade (shade_at state.shades object) refl
+    where
+      old : List Shade
+      old = state.shades
+
+      within : object < length old
+      within = subst (λ n. object < n) (sym lawful.shades.sized) lt
+
+      weight : 1 ≤ view.weight
+      weight = weight-seen old view parent its seen
+
+      is_grey : (shade : Shade) → has_mark (greyed shade) ≡ true
+      is_grey White = refl
+      is_grey Grey = refl
+      is_grey Black = refl
+
+      was_black : (shade : Shade) → greyed shade ≡ Black → shade ≡ Black
+      was_black White e = absurd (grey-black e)
+      was_black Grey e = absurd (grey-black e)
+      was_black Black e = refl
+
+      law : (shade : Shade) → shade_at old object ≡ shade → AreLawful marking.graph (set old object (greyed shade))
+      law shade is =
+          AreLawful-set marking.graph object (greyed shade) old lawful.shades within (is_grey shade)
+          (IsReachable-next marking.graph parent object (lawful.shades.sound parent (its.seen parent seen)) edge)
+          (λ black to edge. lawful.shades.along object to (is ∙ was_black shade black) edge)
+
+      darker : (shade : Shade) → shade_at old object ≡ shade → AreDarker old (set old object (greyed shade))
+      darker shade is =
+          AreDarker-set old object (greyed shade) within (is_grey shade)
+          (λ black. subst (λ (s : Shade). greyed s ≡ Black) (sym black ∙ is) refl)
+
+      marked : (shade : Shade) → shade_at old object ≡ shade → is_marked (marks_of (set old object (greyed shade))) object ≡ true
+      marked shade is =
+          marked-by (set old object (greyed shade)) object (greyed shade) (shade-same old object (greyed shade) within) (is_grey shade)
+
+      stays_black : (shade : Shade) → shade_at old object ≡ shade → (other : ℕ) → shade_at (set old object (greyed shade)) other ≡ Black
+          → shade_at old other ≡ Black
+      stays_black shade is other now =
+          elim (cases_eq other object) [
+            | inl same ↦ ap (shade_at old) same ∙ is
+                ∙ was_black shade (sym (shade-same old object (greyed shade) within) ∙ sym (ap (shade_at (set old object (greyed shade))) same) ∙ now)
+            | inr differs ↦ sym (shade-other old object (greyed shade) within other differs) ∙ now
+          ]
+
+      found : (shade : Shade) → shade_at old object ≡ shade → greyed shade ≡ shade
+          → IsLawful marking record { shades = set old object (greyed shade); passes = set passes pass (claimed object Grey view) }
+      found shade is stays =
+          IsLawful-changed (set old object (greyed shade)) (claimed object Grey view) (law shade is) (darker shade is)
+          (KnowsTruth-seen (set old object (greyed shade)) view
+          (KnowsTruth-darker old (set old object (greyed shade)) view (darker shade is) its) object weight (marked shade is))
+          refl
+          (λ other. ap (λ s. times other view.won + wins s) (sym (elim (cases_eq other object) [
+            | inl same ↦ ap (shade_at (set old object (greyed shade))) same ∙ shade-same old object (greyed shade) within ∙ stays
+                ∙ sym is ∙ sym (ap (shade_at old) same)
+            | inr differs ↦ shade-other old object (greyed shade) within other differs
+          ])))
+          (λ other. omega arith)
+          (λ other is_black. inl (stays_black shade is other is_black))
+
+      by_shade : (shade : Shade) → shade_at old object ≡ shade
+          → IsLawful marking record { shades = set old object (greyed shade); passes = set passes pass (claimed object shade view) }
+      by_shade White is =
+          IsLawful-changed (set old object Grey) (claimed object White view) (law White is) (darker White is)
+          (KnowsTruth-won (set old object Grey) view
+          (KnowsTruth-darker old (set old object Grey) view (darker White is) its) object weight (marked White is))
+          refl
+          (λ other. elim (cases_eq other object) [
+            | inl same ↦ subst (λ (o : ℕ). times o (object ∷ view.won) + wins (shade_at old o) ≡ times o view.won + wins (shade_at (set old object Grey) o))
+                (sym same)
+                (let was : wins (shade_at old object) ≡ 0 = ap wins is in
+                let now : wins (shade_at (set old object Grey) object) ≡ 1 = ap wins (shade-same old object Grey within) in
+                omega (arith, was, now, times-same object view.won))
+            | inr differs ↦
+                (let same : wins (shade_at (set old object Grey) other) ≡ wins (shade_at old other) =
+                ap wins (shade-other old object Grey within other differs) in
+                omega (arith, same, times-other other object view.won differs))
+          ])
+          (λ other. omega arith)
+          (λ other is_black. inl (stays_black White is other is_black))
+      by_shade Grey is = found Grey is refl
+      by_shade Black is = found Black is refl
+
+  -- an object becomes black
+  pub IsLawful-blacken : (object : ℕ) → HasSeen view object → object < marking.graph.count
+      → ((target : ℕ) → marking.graph.Edge object target → HasSeen view target)
+      → IsLawful marking (after state pass (Blacken object))
+  IsLawful-blacken object seen lt targets =
+      IsLawful-changed (set old object Black) (blackened object view)
+      (AreLawful-set marking.graph object Black old lawful.shades within refl (lawful.shades.sound object marked)
+      (λ e to edge. its.seen to (targets to edge)))
+      darker
+      (KnowsTruth-blackened (set old object Black) view (KnowsTruth-darker old (set old object Black) view darker its) object
+      (weight-seen old view object its seen) (shade-same old object Black within))
+      refl
+      (λ other. elim (cases_eq other object) [
+        | inl same ↦ ap (λ n. times other view.won + n) (subst (λ (o : ℕ). wins (shade_at old o) ≡ wins (shade_at (set old object Black) o)) (sym same)
+            (won_once (shade_at old object) (sym (is_marked-shade old object) ∙ marked)
+            ∙ sym (ap wins (shade-same old object Black within))))
+        | inr differs ↦ ap (λ s. times other view.won + wins s) (sym (shade-other old object Black within other differs))
+      ])
+      (λ other. times-more other object view.blackened)
+      (λ other black. elim (cases_eq other object) [
+        | inl same ↦ inr (subst (λ (o : ℕ). 0 < times o (object ∷ view.blackened)) (sym same) (omega (arith, times-same object view.blackened)))
+        | inr differs ↦ inl (sym (shade-other old object Black within other differs) ∙ black)
+      ])
+    where
+      old : List Shade
+      old = state.shades
+
+      within : object < length old
+      within = subst (λ n. object < n) (sym lawful.shades.sized) lt
+
+      marked : is_marked (marks_of old) object ≡ true
+      marked = its.seen object seen
+
+      darker : AreDarker old (set old object Black)
+      darker = AreDarker-set old object Black within refl (λ black. refl)
+
+      won_once : (shade : Shade) → has_mark shade ≡ true → wins shade ≡ 1
+      won_once White e = absurd cc
+      won_once Grey e = refl
+      won_once Black e = refl
+
+  -- a pass gives a part of its weight to a new one
+  pub IsLawful-split : (weight : ℕ) → 1 ≤ weight → weight < view.weight → IsLawful marking (after state pass (Split weight))
+  IsLawful-split weight some below =
+      record {
+        shades = lawful.shades;
+        won = λ object.
+            let push = sum_by_push (λ v. times object v.won) rest (part_of weight) in
+            let total = sum_by-set (λ v. times object v.won) passes pass (kept_of weight view) spent inside in
+            omega (arith, push, total, lawful.won object);
+        black = λ object is.
+            let push = sum_by_push (λ v. times object v.blackened) rest (part_of weight) in
+            let total = sum_by-set (λ v. times object v.blackened) passes pass (kept_of weight view) spent inside in
+            omega (arith, push, total, lawful.black object is);
+        truth = λ other. elim (cases_lt other (length rest)) [
+          | inl lt ↦ subst (KnowsTruth state.shades) (sym (get_or_append_left rest (part_of weight ∷ []) spent other lt)) (of_rest other)
+          | inr ge ↦ elim (cases_eq other (length rest)) [
+            | inl same ↦ subst (KnowsTruth state.shades) (sym (get_or_push rest (part_of weight) spent other (sym same)))
+                (KnowsTruth-part state.shades weight some)
+            | inr differs ↦ subst (KnowsTruth state.shades) (sym (get_or_past (rest ++ part_of weight ∷ []) other spent (past other ge differs)))
+                (KnowsTruth-spent state.shades)
+          ]
+        ];
+        weights =
+            let push = sum_by_push (λ v. v.weight) rest (part_of weight) in
+            let total = sum_by-set (λ v. v.weight) passes pass (kept_of weight view) spent inside in
+            omega (arith, push, total, lawful.weights, below);
+      } where
+        rest : List View
+        rest = set passes pass (kept_of weight view)
+
+        past : (other : ℕ) → length rest ≤ other → other ≢ length rest → length (rest ++ part_of weight ∷ []) ≤ other
+        past other ge differs = cases_past (cases_lt (length rest) other)
+          where
+            cases_past : (length rest < other) ⊎ (other ≤ length rest) → length (rest ++ part_of weight ∷ []) ≤ other
+            cases_past (inl lt) = omega (arith, length_push rest (part_of weight), lt)
+            cases_past (inr le) = absurd (differs (omega arith))
+
+        of_rest : (other : ℕ) → KnowsTruth state.shades (pass_at rest other)
+        of_rest other =
+            elim (cases_eq other pass) [
+              | inl same ↦ subst (KnowsTruth state.shades)
+                  (sym (ap (pass_at rest) same ∙ get_or-set_same passes pass (kept_of weight view) spent inside))
+                  (KnowsTruth-kept state.shades view its weight below)
+              | inr differs ↦ subst (KnowsTruth state.shades) (sym (get_or-set_other passes pass other (kept_of weight view) spent differs))
+                  (lawful.truth other)
+            ]
+
+  -- a pass takes in another
+  pub IsLawful-join : (other : ℕ) → other ≢ pass → other < length passes → 1 ≤ (pass_at passes other).weight
+      → IsLawful marking (after state pass (Join other))
+  IsLawful-join other differs lt weight =
+      record {
+        shades = lawful.shades;
+        won = λ object. of_total (λ v. times object v.won) refl (times-append object view.won theirs.won) ∙ lawful.won object;
+        black = λ object is.
+            subst (λ n. 0 < n) (sym (of_total (λ v. times object v.blackened) refl (times-append object view.blackened theirs.blackened)))
+            (lawful.black object is);
+        truth = λ third. elim (cases_eq third other) [
+          | inl same ↦ subst (KnowsTruth state.shades)
+              (sym (ap (pass_at (set one other spent)) same ∙ get_or-set_same one other spent spent in_one)) (KnowsTruth-spent state.shades)
+          | inr third_differs ↦ subst (KnowsTruth state.shades) (sym (get_or-set_other one other third spent spent third_differs)) (of_one third)
+        ];
+        weights = of_total (λ v. v.weight) refl refl ∙ lawful.weights;
+      } where
+        theirs : View
+        theirs = pass_at passes other
+
+        one : List View
+        one = set passes pass (joined view theirs)
+
+        in_one : other < length one
+        in_one = omega (arith, lt, length-set passes pass (joined view theirs))
+
+        of_total : (f : View → ℕ) → f spent ≡ 0 → f (joined view theirs) ≡ f view + f theirs
+            → sum_by f (set one other spent) ≡ sum_by f passes
+        of_total f none both =
+            let first = sum_by-set f passes pass (joined view theirs) spent inside in
+            let second = sum_by-set f one other spent spent in_one in
+            let same : f (get_or one other spent) ≡ f theirs = ap f (get_or-set_other passes pass other (joined view theirs) spent differs) in
+            omega (arith, first, second, same, none, both)
+
+        of_one : (third : ℕ) → KnowsTruth state.shades (pass_at one third)
+        of_one third =
+            elim (cases_eq third pass) [
+              | inl same ↦ subst (KnowsTruth state.shades)
+                  (sym (ap (pass_at one) same ∙ get_or-set_same passes pass (joined view theirs) spent inside))
+                  (KnowsTruth-joined state.shades view its theirs (lawful.truth other) weight)
+              | inr differs ↦ subst (KnowsTruth state.shades) (sym (get_or-set_other passes pass third (joined view theirs) spent differs))
+                  (lawful.truth third)
+            ]

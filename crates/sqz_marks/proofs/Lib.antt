@@ -1,0 +1,4 @@
+pub mod TimesLemmas
+pub mod ViewLemmas
+pub mod EventLemmas
+pub mod RunLemmas

@@ -1,0 +1,95 @@
+-- Marking begins in a lawful state, and each legal run leads to one.
+use Rattle.std.proofs.Common.{◌≡◌, ◌≢◌, ℕ, zero, suc, ◌+◌, ◌<◌, ◌≤◌, List, [], ◌∷◌, length, set, refl, sym, ap, subst, ◌∙◌, arith, inl, inr}
+use Rattle.std.specs.Prelude.{replicate}
+use Rattle.std.proofs.lemmas.Bool.{cases_eq}
+use Rattle.std.proofs.lemmas.List.{length-replicate, get_or-set_same, get_or-set_other}
+use Rattle.sqz_trace.specs.declared.shades.Shade.{Shade}
+use Rattle.sqz_trace.specs.declared.shades.Shade.TheVariants.{White, Grey, Black}
+use Rattle.sqz_trace.specs.Graph.{MarksReachable}
+use Rattle.sqz_trace.specs.Shades.{shade_at, marks_of}
+use Rattle.sqz_trace.proofs.ShadeLemmas.{white-black, grey-black, marked-by}
+use Rattle.sqz_trace.proofs.LawLemmas.{AreLawful-first, MarksReachable-finished}
+use Rattle.sqz_marks.specs.declared.view.View.{View}
+use Rattle.sqz_marks.specs.Core.{Marking, State, times, HasWon, HasSeen, spent, pass_at, first_view, opening, LeadsTo, IsLegalRun}
+use Rattle.sqz_marks.specs.Core.{Event, Look, Claim, Blacken, Split, Join, Meets, after}
+use Rattle.sqz_marks.specs.Lawful.{KnowsTruth, IsLawful, wins, times_won, times_blackened, total_weight}
+use Rattle.sqz_marks.proofs.TimesLemmas.{times-same, times-other, times-either}
+use Rattle.sqz_marks.proofs.ViewLemmas.{KnowsTruth-spent}
+use Rattle.sqz_marks.proofs.EventLemmas.{IsLawful-look, IsLawful-claim, IsLawful-blacken, IsLawful-split, IsLawful-join}
+
+module _ (marking : Marking) where
+  -- the state in which marking begins
+  pub IsLawful-opening : marking.graph.start < marking.graph.count → 1 ≤ marking.workers → IsLawful marking (opening marking)
+  IsLawful-opening inside some =
+      record {
+        shades = AreLawful-first marking.graph inside;
+        won = λ object. elim (cases_eq object start) [
+          | inl same ↦ subst (λ (o : ℕ). times_won views o ≡ wins (shade_at shades o)) (sym same)
+              (let one : wins (shade_at shades start) ≡ 1 = ap wins grey in omega (arith, times-same start [], one))
+          | inr differs ↦
+              (let none : wins (shade_at shades object) ≡ 0 = ap wins (white object differs) in
+              omega (arith, times-other object start [] differs, none))
+        ];
+        black = λ object black. elim (cases_eq object start) [
+          | inl same ↦ absurd (grey-black (sym grey ∙ sym (ap (shade_at shades) same) ∙ black))
+          | inr differs ↦ absurd (white-black (sym (white object differs) ∙ black))
+        ];
+        truth = knows;
+        weights = omega arith;
+      } where
+        start : ℕ
+        start = marking.graph.start
+
+        shades : List Shade
+        shades = set (replicate marking.graph.count White) start Grey
+
+        views : List View
+        views = first_view marking.workers start ∷ []
+
+        grey : shade_at shades start ≡ Grey
+        grey =
+            get_or-set_same (replicate marking.graph.count White) start Grey White
+            (omega (arith, inside, length-replicate marking.graph.count White))
+
+        all_white : (count index : ℕ) → shade_at (replicate count White) index ≡ White
+        all_white zero index = refl
+        all_white (suc count) zero = refl
+        all_white (suc count) (suc index) = all_white count index
+
+        white : (object : ℕ) → object ≢ start → shade_at shades object ≡ White
+        white object differs =
+            get_or-set_other (replicate marking.graph.count White) start object Grey White differs
+            ∙ all_white marking.graph.count object
+
+        knows : (pass : ℕ) → KnowsTruth shades (pass_at views pass)
+        knows zero =
+            record {
+              won = λ object won. won;
+              seen = λ object seen. elim (times-either object start [] seen) [
+                | inl same ↦ marked-by shades object Grey (ap (shade_at shades) same ∙ grey) refl
+                | inr none ↦ absurd (omega arith)
+              ];
+              blackened = λ object none. absurd (omega arith);
+              idle = λ e. absurd (omega arith);
+            }
+        knows (suc pass) = KnowsTruth-spent shades
+
+  -- the state after an event whose condition is met
+  pub IsLawful-after : (state : State) (pass : ℕ) (event : Event) → pass < length state.passes → IsLawful marking state
+      → Meets marking state pass event → IsLawful marking (after state pass event)
+  IsLawful-after state pass (Look object) inside lawful meets = IsLawful-look marking state pass inside lawful object meets.0
+  IsLawful-after state pass (Claim parent object) inside lawful meets =
+      IsLawful-claim marking state pass inside lawful parent object meets.0 meets.1 meets.2
+  IsLawful-after state pass (Blacken object) inside lawful meets =
+      IsLawful-blacken marking state pass inside lawful object meets.0 meets.1 meets.2
+  IsLawful-after state pass (Split weight) inside lawful meets =
+      IsLawful-split marking state pass inside lawful weight meets.0 meets.1
+  IsLawful-after state pass (Join other) inside lawful meets =
+      IsLawful-join marking state pass inside lawful other meets.0 meets.1 meets.2
+
+  -- the state to which a legal run leads
+  pub IsLawful-led : (from : State) (run : List (ℕ × Event)) (to : State) → IsLawful marking from → LeadsTo marking from run to
+      → IsLawful marking to
+  IsLawful-led from [] to lawful same = subst (IsLawful marking) same lawful
+  IsLawful-led from ((pass, event) ∷ run) to lawful leads =
+      IsLawful-led (after from pass event) run to (IsLawful-after from pass event leads.0 lawful leads.1) leads.2

@@ -1,0 +1,43 @@
+-- What holds of the state of marking between any two events, in whatever order they come.
+use Rattle.std.specs.Prelude.{◌≡◌, ℕ, ◌<◌, true, List, length, sum_by}
+use Rattle.sqz_trace.specs.declared.shades.Shade.{Shade}
+use Rattle.sqz_trace.specs.declared.shades.Shade.TheVariants.{White, Grey, Black}
+use Rattle.sqz_trace.specs.Graph.{is_marked}
+use Rattle.sqz_trace.specs.Shades.{shade_at, marks_of, AreLawful}
+use Rattle.sqz_marks.specs.declared.view.View.{View}
+use Rattle.sqz_marks.specs.Core.{Marking, State, times, HasWon, HasSeen, HasBlackened, pass_at, spent}
+
+-- how often an object of this shade was won
+abbrev pub wins : Shade → ℕ
+wins White = 0
+wins Grey = 1
+wins Black = 1
+
+-- how often all passes together won an object, and how often they know it to be black
+abbrev pub times_won : List View → ℕ → ℕ
+times_won passes object = sum_by (λ view. times object view.won) passes
+
+abbrev pub times_blackened : List View → ℕ → ℕ
+times_blackened passes object = sum_by (λ view. times object view.blackened) passes
+
+-- the weight of all passes together
+abbrev pub total_weight : List View → ℕ
+total_weight passes = sum_by (λ view. view.weight) passes
+
+-- what a pass knows is so: what it won it has seen, what it has seen is marked, and what it blackened is black; a pass without weight
+-- knows nothing
+pub record KnowsTruth (shades : List Shade) (view : View) : Type 0 where
+  pub won : (object : ℕ) → HasWon view object → HasSeen view object
+  pub seen : (object : ℕ) → HasSeen view object → is_marked (marks_of shades) object ≡ true
+  pub blackened : (object : ℕ) → HasBlackened view object → shade_at shades object ≡ Black
+  pub idle : view.weight ≡ 0 → view ≡ spent
+
+-- the start is marked, what is marked is reachable, and what a black object has an edge to is marked; one pass won each marked object,
+-- once, and none an unmarked one; some pass knows each black object to be black; passes know what is so; and all weights together are
+-- the number of workers
+pub record IsLawful (marking : Marking) (state : State) : Type 0 where
+  pub shades : AreLawful marking.graph state.shades
+  pub won : (object : ℕ) → times_won state.passes object ≡ wins (shade_at state.shades object)
+  pub black : (object : ℕ) → shade_at state.shades object ≡ Black → 0 < times_blackened state.passes object
+  pub truth : (pass : ℕ) → KnowsTruth state.shades (pass_at state.passes pass)
+  pub weights : total_weight state.passes ≡ marking.workers

@@ -1,0 +1,95 @@
+-- The mark table and its passes as contracts see them, what its words mean, and what each step tells its pass.
+use Rattle.std.specs.Prelude.{◌≡◌, ℕ, zero, suc, ◌<◌, ◌≤◌, nat_lt, if◌then◌else◌, List, map, Option, Some, None, unwrap_or}
+use Rattle.atomic_table.specs.Table.{Step, Me}
+use Rattle.atomic_table.specs.Table.{State as TableState}
+use Rattle.atomic_table.specs.Seated.{TableId}
+use Rattle.sqz_image.specs.declared.fault.Slot.{Slot}
+use Rattle.sqz_image.specs.Objects.{Memory, object_count, chunk_words, find}
+use Rattle.sqz_trace.specs.declared.shades.Shade.{Shade}
+use Rattle.sqz_trace.specs.declared.shades.Shade.TheVariants.{White, Grey, Black}
+use Rattle.sqz_regions.specs.Regions.{Regioning}
+use Rattle.sqz_marks.specs.declared.view.View.{View}
+use Rattle.sqz_marks.specs.Core.{Marking, marking_of, times, HasSeen, HasBlackened, looked, claimed, blackened}
+use Rattle.sqz_marks.specs.Lawful.{IsLawful}
+
+-- a mark table: which one it is, the object memory and its cut, and how many workers share it
+pub record SharedMarks : Type 0 where
+  pub table : TableId
+  pub heap : Regioning
+  pub workers : ℕ
+
+-- a pass: which table's it is, how many workers share that, and what it knows
+pub record HeldPass : Type 0 where
+  pub table : TableId
+  pub workers : ℕ
+  pub view : View
+
+-- a pass of this table
+abbrev pub IsPassOf : SharedMarks → HeldPass → Type 0
+IsPassOf marks pass = (pass.table ≡ marks.table) × (pass.workers ≡ marks.workers)
+
+-- the same pass, which knows this
+abbrev pub knowing : HeldPass → View → HeldPass
+knowing pass view = record { table = pass.table; workers = pass.workers; view = view }
+
+-- what a pass had seen it still has seen
+abbrev pub KeepsSeen : View → View → Type 0
+KeepsSeen old new = (object : ℕ) → HasSeen old object → HasSeen new object
+
+-- the chunk is that of an object that the pass has seen
+pub record IsSeenChunk (memory : Memory) (view : View) (chunk : List ℕ) : Type 0 where
+  pub object : ℕ
+  pub inside : object < object_count memory
+  pub seen : HasSeen view object
+  pub its : chunk ≡ chunk_words memory object
+
+-- the special objects array
+abbrev pub start_of : Memory → ℕ
+start_of memory = unwrap_or (find memory memory.special) 0
+
+-- what a table of this memory marks
+abbrev pub marking_in : Regioning → ℕ → Marking
+marking_in heap workers = marking_of heap workers (start_of heap.memory)
+
+-- the word of an object says its shade
+abbrev pub number_of : Shade → ℕ
+number_of White = 0
+number_of Grey = 1
+number_of Black = 2
+
+abbrev pub shade_of : ℕ → Shade
+shade_of zero = White
+shade_of (suc zero) = Grey
+shade_of (suc (suc more)) = Black
+
+-- between any two steps the words say shades, and these and the passes are a lawful state
+pub record IsKept (marking : Marking) {S : Type 0} (table : TableState S View) : Type 0 where
+  pub shades : List Shade
+  pub words : table.words ≡ map number_of shades
+  pub lawful : IsLawful marking record { shades = shades; passes = table.views }
+  pub few : marking.workers ≤ 64
+
+module _ {S : Type 0} where
+  -- a look tells the shade
+  pub record Looked (step : Step S) (before : Me S View) (found : ℕ) (after : Me S View) : Type 0 where
+    pub small : found ≤ 2
+    pub knows : after ≡ (looked step.word (shade_of found) before.0, before.1)
+    pub unseen : HasSeen before.0 step.word → 1 ≤ found
+    pub black : HasBlackened before.0 step.word → found ≡ 2
+
+  -- a claim tells the shade that was found
+  pub record Claimed (step : Step S) (before : Me S View) (found : ℕ) (after : Me S View) : Type 0 where
+    pub knows : after ≡ (claimed step.word (shade_of found) before.0, before.1)
+    pub unseen : HasSeen before.0 step.word → 1 ≤ found
+
+  abbrev pub Blackened : Step S → Me S View → ℕ → Me S View → Type 0
+  Blackened step before found after = after ≡ (blackened step.word before.0, before.1)
+
+  -- a pass has no more weight than all together
+  abbrev pub Weighed : Step S → Me S View → ℕ → Me S View → Type 0
+  Weighed step before found after = (after ≡ before) × (before.0.weight ≤ 64)
+
+-- what a pass that is all workers' share knows of an object's shade
+abbrev pub shade_known : View → ℕ → Shade
+shade_known view object =
+    if nat_lt 0 (times object view.blackened) then Black else (if nat_lt 0 (times object view.won) then Grey else White)

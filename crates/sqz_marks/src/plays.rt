@@ -1,0 +1,94 @@
+//! The rule of the mark table, and what its steps do to what passes know.
+
+ghost use Rattle.std.specs.Prelude.{ℕ};
+
+use crate::view::View;
+use crate::workers::Workers;
+use atomic_table::{Join, Play, Split, TableRule};
+use sqz_regions::Regions;
+use std::marker::{Brand, PhantomData};
+use std::snapshot::Snapshot;
+
+/// What the rule is told once: the regions, and with them the heap, and the workers.
+pub(crate) type Key<'a> = (Snapshot<Regions<'a>>, Workers);
+
+/// The words and the passes are a lawful state of marking.
+pub(crate) struct MarkingRule;
+
+impl<'a> TableRule<(), View, Key<'a>> for MarkingRule {
+    ghost use Rattle.sqz_marks.specs.Core.{first_view};
+    ghost use Rattle.sqz_marks.specs.Table.{IsKept, marking_in, start_of};
+
+    ghost holds = { λ key. IsKept (marking_in key.0.value key.1) };
+
+    ghost first = { λ key. first_view key.1 (start_of key.0.value.memory) };
+}
+
+/// A look at an object.
+pub(crate) struct Look;
+
+impl Play<(), View> for Look {
+    ghost use Rattle.sqz_marks.specs.Table.{Looked};
+
+    ghost then = { Looked };
+}
+
+/// A claim of an object.
+pub(crate) struct Claiming;
+
+impl Play<(), View> for Claiming {
+    ghost use Rattle.sqz_marks.specs.Table.{Claimed};
+
+    ghost then = { Claimed };
+}
+
+/// An object becomes black.
+pub(crate) struct Blacken;
+
+impl Play<(), View> for Blacken {
+    ghost use Rattle.sqz_marks.specs.Table.{Blackened};
+
+    ghost then = { Blackened };
+}
+
+/// A pass learns that its weight is that of workers.
+pub(crate) struct Weigh;
+
+impl Play<(), View> for Weigh {
+    ghost use Rattle.sqz_marks.specs.Table.{Weighed};
+
+    ghost then = { Weighed };
+}
+
+/// The weight that a pass gives up.
+pub(crate) trait Share {
+    ghost weight: { ℕ };
+}
+
+impl Share for Brand {
+    ghost weight = { 1 };
+}
+
+/// A part of a pass's weight goes to a new pass.
+pub(crate) struct Parting<W> {
+    share: PhantomData<W>,
+}
+
+impl<W: Share> Split<View> for Parting<W> {
+    ghost use Rattle.sqz_marks.specs.Core.{kept_of, part_of};
+
+    ghost left = { kept_of W.weight };
+
+    ghost right = { λ view. part_of W.weight };
+}
+
+/// A pass takes in another.
+pub(crate) struct Joining;
+
+impl Join<View> for Joining {
+    ghost use Rattle.sqz_marks.specs.Core.{joined, spent};
+
+    ghost both = { joined };
+
+    ghost spent = { spent };
+}

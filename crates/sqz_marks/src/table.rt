@@ -1,0 +1,247 @@
+//! The table of marks that workers share without waiting.
+
+ghost use Rattle.std.specs.Prelude.{◌≡◌, ◌≢◌, ◌⊎◌, ℕ, ◌<◌, ◌≤◌, ◌==◌, length, Option, Some, None, IfOk, IfErr, IfSome};
+ghost use Rattle.sqz_image.specs.declared.fault.Fault.TheVariants.{OutOfMemory};
+ghost use Rattle.sqz_image.specs.Objects.{object_count};
+ghost use Rattle.sqz_trace.specs.declared.shades.Shade.TheVariants.{White, Grey, Black};
+ghost use Rattle.sqz_trace.specs.Edges.{HasEdge, named_in, target};
+ghost use Rattle.sqz_trace.specs.Graph.{is_marked};
+ghost use Rattle.sqz_trace.specs.Shades.{shade_at, marks_of, AreLawfulOf};
+ghost use Rattle.sqz_marks.specs.Core.{HasSeen, HasBlackened, times, first_view, looked, blackened, kept_of, part_of, joined};
+ghost use Rattle.sqz_marks.specs.Lawful.{wins};
+ghost use Rattle.sqz_marks.specs.Table.{IsPassOf, knowing, KeepsSeen, IsSeenChunk, start_of, shade_known};
+ghost use Rattle.sqz_marks.specs.Claims.{IsClaim};
+
+use crate::pass::Pass;
+use crate::plays::{Blacken, Claiming, Joining, Key, Look, MarkingRule, Parting, Share, Weigh};
+use crate::view::View;
+use crate::workers::Workers;
+use atomic_table::Table;
+use sqz_image::{Fault, Heap, Slot};
+use sqz_regions::Regions;
+use sqz_trace::{Shade, Shades, TracedObject};
+use std::alloc::Global;
+use std::marker::{Brand, Model};
+use std::snapshot::Snapshot;
+
+/// A word for each object of a heap, which says its shade and changes in single atomic steps. Workers share it by `&`,
+/// each with a pass of its own; no call waits.
+#[derive(Drop)]
+pub struct MarkTable<'a> {
+    heap: &'a Heap,
+    regions: &'a Regions<'a>,
+    workers: Workers,
+    table: Table<(), View, Key<'a>, MarkingRule, Global>,
+}
+
+impl<'a> Model for MarkTable<'a> {
+    ghost use Rattle.std.specs.Prelude.{◌≡◌, Some};
+    ghost use Rattle.sqz_image.specs.Objects.{object_count, find};
+    ghost use Rattle.sqz_marks.specs.Table.{SharedMarks, start_of};
+
+    ghost Value = { SharedMarks };
+
+    ghost view = { λ marks. record { table = marks.table.shared.table_id; heap = marks.regions.now; workers = marks.workers } };
+
+    ghost invariant = { λ marks. (marks.heap.now ≡ marks.regions.now.memory)
+        × (marks.table.shared.key.0.value ≡ marks.regions.now) × (marks.table.shared.key.1 ≡ marks.workers)
+        × (marks.table.shared.table_id.words ≡ object_count marks.regions.now.memory) × (marks.table.shared.table_id.slots ≡ 0)
+        × (find marks.regions.now.memory marks.regions.now.memory.special ≡ Some (start_of marks.regions.now.memory)) };
+}
+
+/// What a claim found.
+#[derive(Clone, Copy, Debug, PartialEq, Eq)]
+pub enum Claim {
+    /// The object was white. It is grey now, and no other pass wins it.
+    Won(u32),
+    /// The object was marked before.
+    Seen(u32),
+    /// The slot names no object.
+    Nothing,
+}
+
+/// What is left of a mark table when all have marked.
+#[derive(Drop)]
+pub struct Closed {
+    /// The shade of each object, as `finish` takes them.
+    pub shades: Shades,
+}
+
+impl<'a> MarkTable<'a> {
+    /// The table at which marking begins, and the pass that is all workers' share: the special objects array is grey and
+    /// won by it, all else white. Takes 8 bytes for each object, and as much again while it is made. Fails for want of
+    /// memory alone.
+    pub fn new(
+        alloc: Global,
+        heap: &'a Heap,
+        regions: &'a Regions<'a>,
+        workers: Workers,
+    ) -> Result<(Self, Pass), Fault>
+        requires { regions.now.memory ≡ heap.now }
+        ensures table { IfOk result (λ made. (made.0.heap ≡ regions.now) × (made.0.workers ≡ workers)) }
+        ensures pass { IfOk result (λ made. IsPassOf made.0 made.1 × (made.1.view ≡ first_view workers (start_of heap.now))) }
+        ensures refused { IfErr result (λ fault. fault ≡ OutOfMemory) }
+    {
+        let mut words = vec![in alloc; 0u64; heap.len() as usize]?;
+        words[heap.special() as usize] = 1;
+        let key = (Snapshot::of(regions), workers);
+        let (table, seat) = Table::of_words(alloc, &words, &key)?;
+        let pass = Pass {
+            seat,
+            weight: workers.number(),
+            workers,
+        };
+        Ok((
+            MarkTable {
+                heap,
+                regions,
+                workers,
+                table,
+            },
+            pass,
+        ))
+    }
+
+    /// The shade of an object. What the pass has seen marked is never white, and what it knows to be black is black; of
+    /// what it has not seen the answer may be old.
+    pub fn look(&self, pass: &mut Pass, object: u32) -> Shade
+        requires of { IsPassOf self.now pass.old }
+        requires inside { object < object_count self.now.heap.memory }
+        ensures step { pass.new ≡ knowing pass.old (looked object result pass.old.view) }
+        ensures unseen { HasSeen pass.old.view object → result ≢ White }
+        ensures black { HasBlackened pass.old.view object → result ≡ Black }
+        ensures keeps { KeepsSeen pass.old.view pass.new.view }
+    {
+        shade_of(self.table.shared.load::<Look>(&mut pass.seat, object as usize))
+    }
+
+    /// Makes the object that a slot of a parent names grey, if it is white. The pass has seen the parent marked.
+    pub fn claim(&self, pass: &mut Pass, parent: u32, slot: Slot) -> Claim
+        requires of { IsPassOf self.now pass.old }
+        requires inside { parent < object_count self.now.heap.memory }
+        requires seen { HasSeen pass.old.view parent }
+        ensures claim { IsClaim (target self.now.heap.memory parent slot) pass.old pass.new result }
+        ensures keeps { KeepsSeen pass.old.view pass.new.view }
+    {
+        self.claim_of(pass, &TracedObject::of(self.heap, parent), slot)
+    }
+
+    /// The same of a parent whose header was read once.
+    pub fn claim_of(&self, pass: &mut Pass, parent: &TracedObject<'_>, slot: Slot) -> Claim
+        requires of { IsPassOf self.now pass.old }
+        requires seen { IsSeenChunk self.now.heap.memory pass.old.view parent.now }
+        ensures claim { IsClaim (named_in self.now.heap.memory parent.now slot) pass.old pass.new result }
+        ensures keeps { KeepsSeen pass.old.view pass.new.view }
+    {
+        let Some(object) = parent.target(self.heap, slot) else {
+            return Claim::Nothing;
+        };
+        match self.table.shared.fetch_max::<Claiming>(&mut pass.seat, object as usize, 1) {
+            0 => Claim::Won(object),
+            _ => Claim::Seen(object),
+        }
+    }
+
+    /// Makes an object black. The pass has seen it marked, and all objects to which it has an edge.
+    pub fn blacken(&self, pass: &mut Pass, object: u32)
+        requires of { IsPassOf self.now pass.old }
+        requires inside { object < object_count self.now.heap.memory }
+        requires seen { HasSeen pass.old.view object }
+        requires targets { (target : ℕ) → HasEdge self.now.heap.memory object target → HasSeen pass.old.view target }
+        ensures step { pass.new ≡ knowing pass.old (blackened object pass.old.view) }
+    {
+        self.table.shared.fetch_max::<Blacken>(&mut pass.seat, object as usize, 2);
+    }
+
+    /// Gives a part of the pass's weight to a new pass, which knows nothing.
+    pub fn split_off(&self, pass: &mut Pass, weight: u32) -> Pass
+        requires of { IsPassOf self.now pass.old }
+        requires some { 1 ≤ weight }
+        requires rest { weight < pass.old.view.weight }
+        ensures kept { pass.new ≡ knowing pass.old (kept_of weight pass.old.view) }
+        ensures part { result ≡ knowing pass.old (part_of weight) }
+    {
+        let seat = self.part::<Brand>(pass, weight);
+        pass.weight -= weight;
+        Pass {
+            seat,
+            weight,
+            workers: pass.workers,
+        }
+    }
+
+    /// Cuts a pass in two: the first keeps what it knows and the rest of the weight, the second has this weight.
+    pub fn split(&self, mut pass: Pass, weight: u32) -> (Pass, Pass)
+        requires of { IsPassOf self.now pass }
+        requires some { 1 ≤ weight }
+        requires rest { weight < pass.view.weight }
+        ensures kept { result.0 ≡ knowing pass (kept_of weight pass.view) }
+        ensures part { result.1 ≡ knowing pass (part_of weight) }
+    {
+        let part = self.split_off(&mut pass, weight);
+        (pass, part)
+    }
+
+    /// Takes in another pass: what it knows, and its weight.
+    pub fn join_into(&self, pass: &mut Pass, other: Pass)
+        requires of { IsPassOf self.now pass.old }
+        requires other { IsPassOf self.now other }
+        ensures joined { pass.new ≡ knowing pass.old (joined pass.old.view other.view) }
+    {
+        let Pass { seat, weight, workers: _ } = other;
+        self.table.shared.join_seat::<Joining>(&mut pass.seat, seat);
+        self.table.shared.load::<Weigh>(&mut pass.seat, 0);
+        pass.weight += weight;
+    }
+
+    /// Makes two passes one, which knows what both know, and has the weight of both.
+    pub fn join(&self, mut pass: Pass, other: Pass) -> Pass
+        requires of { IsPassOf self.now pass }
+        requires other { IsPassOf self.now other }
+        ensures joined { result ≡ knowing pass (joined pass.view other.view) }
+    {
+        self.join_into(&mut pass, other);
+        pass
+    }
+
+    /// Ends the marking by the pass that is all workers' share, and gives the shades. Refused for want of memory alone; table
+    /// and pass come back as they were.
+    pub fn close(self, alloc: Global, pass: Pass) -> Result<Closed, (Self, Pass)>
+        requires of { IsPassOf self pass }
+        requires whole { pass.view.weight ≡ self.workers }
+        ensures shades { IfOk result (λ closed. (object : ℕ) → shade_at closed.shades.items object ≡ shade_known pass.view object) }
+        ensures once { IfOk result (λ closed. (object : ℕ) → times object pass.view.won ≡ wins (shade_at closed.shades.items object)) }
+        ensures seen { IfOk result (λ closed. (object : ℕ) → HasSeen pass.view object → is_marked (marks_of closed.shades.items) object ≡ true) }
+        ensures lawful { IfOk result (λ closed. AreLawfulOf self.entry.heap.memory closed.shades.items) }
+        ensures refused { IfErr result (λ back. (back.0 ≡ self.entry) × (back.1 ≡ pass)) }
+    {
+        let Ok(mut shades) = vec![in alloc; Shade::White; self.heap.len() as usize] else {
+            return Err((self, pass));
+        };
+        let MarkTable { heap: _, regions: _, workers: _, table } = self;
+        let Pass { seat, weight: _, workers: _ } = pass;
+        let closed = table.close_with(seat);
+        for object in 0..shades.len() {
+            shades[object] = shade_of(closed.word(object));
+        }
+        closed.free();
+        Ok(Closed { shades })
+    }
+
+    /// The seat of a new pass.
+    fn part<W: Share>(&self, pass: &mut Pass, weight: u32) -> Seat<(), View>
+    {
+        self.table.shared.split_seat::<Parting<W>>(&mut pass.seat)
+    }
+}
+
+/// The shade that a word says.
+fn shade_of(word: u64) -> Shade
+    ensures { result ≡ shade_of word }
+{
+    match word {
+        0 => Shade::White,
+        1 => Shade::Grey,
+        _ => Shade::Black,
+    }
+}

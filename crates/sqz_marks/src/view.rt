@@ -1,0 +1,15 @@
+//! What a pass knows.
+
+use std::collections::LinkedList;
+
+/// What a pass knows, in contracts alone: no value of it is made. Objects are named by index.
+pub struct View {
+    /// How many workers' share of the marking the pass is.
+    pub weight: u32,
+    /// The objects that it made grey.
+    pub won: LinkedList<u32>,
+    /// Objects that it knows to be marked.
+    pub seen: LinkedList<u32>,
+    /// Objects that it knows to be black.
+    pub blackened: LinkedList<u32>,
+}
