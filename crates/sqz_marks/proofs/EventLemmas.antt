@@ -1,5 +1,5 @@
 -- Each event leaves a lawful state lawful. The rule of the mark table and the law of legal runs both rest on these.
-use Rattle.std.proofs.Common.{◌≡◌, ◌≢◌, ◌⊎◌, ℕ, ◌+◌, ◌-◌, ◌<◌, ◌≤◌, true, List, [], ◌∷◌, ◌++◌, length, set, get_or, refl, sym, ap, subst, ◌∙◌, arith, inl, inr}
+use Rattle.std.proofs.Common.{◌≡◌, ◌≢◌, ◌⊎◌, ℕ, ◌+◌, ◌<◌, ◌≤◌, true, List, [], ◌∷◌, ◌++◌, length, set, get_or, refl, sym, ap, subst, ◌∙◌, arith, inl, inr}
 use Rattle.std.proofs.lemmas.Bool.{cases_eq, cases_lt}
 use Rattle.std.proofs.lemmas.List.{length-set, get_or-set_same, get_or-set_other, get_or_append_left, get_or_push, get_or_past, length_push}
 use Rattle.std.proofs.lemmas.List.Sums.{sum_by-set, sum_by_push, get_or-le-sum_by}
@@ -9,12 +9,12 @@ use Rattle.sqz_trace.specs.declared.shades.Shade.TheVariants.{White, Grey, Black
 use Rattle.sqz_trace.specs.Graph.{is_marked}
 use Rattle.sqz_trace.specs.Shades.{shade_at, has_mark, marks_of, AreLawful}
 use Rattle.sqz_trace.proofs.ReachabilityLemmas.{IsReachable-next}
-use Rattle.sqz_trace.proofs.ShadeLemmas.{white-grey, white-black, grey-black, marked-by, marked-same, is_marked-shade}
+use Rattle.sqz_trace.proofs.ShadeLemmas.{grey-black, marked-by, marked-same, is_marked-shade}
 use Rattle.sqz_trace.proofs.LawLemmas.{AreLawful-set}
 use Rattle.sqz_marks.specs.declared.view.View.{View}
 use Rattle.sqz_marks.specs.Core.{Marking, State, HasSeen, HasBlackened, times, spent, pass_at, looked, claimed, greyed, blackened, kept_of, part_of, joined}
-use Rattle.sqz_marks.specs.Core.{Event, Look, Claim, Blacken, Split, Join, Meets, after}
-use Rattle.sqz_marks.specs.Lawful.{KnowsTruth, IsLawful, wins, times_won, times_blackened, total_weight}
+use Rattle.sqz_marks.specs.Core.{Look, Claim, Blacken, Split, Join, after}
+use Rattle.sqz_marks.specs.Lawful.{KnowsTruth, IsLawful, wins}
 use Rattle.sqz_marks.proofs.TimesLemmas.{times-same, times-other, times-more, times-append}
 use Rattle.sqz_marks.proofs.ViewLemmas.{AreDarker, AreDarker-same, weight-seen, KnowsTruth-darker, KnowsTruth-spent, KnowsTruth-part}
 use Rattle.sqz_marks.proofs.ViewLemmas.{KnowsTruth-seen, KnowsTruth-won, KnowsTruth-blackened, KnowsTruth-kept, KnowsTruth-joined}

@@ -2,3 +2,6 @@ pub mod TimesLemmas
 pub mod ViewLemmas
 pub mod EventLemmas
 pub mod RunLemmas
+pub mod StepLemmas
+pub mod CallLemmas
+pub mod KeptLemmas

@@ -1,18 +1,17 @@
 -- Marking begins in a lawful state, and each legal run leads to one.
-use Rattle.std.proofs.Common.{◌≡◌, ◌≢◌, ℕ, zero, suc, ◌+◌, ◌<◌, ◌≤◌, List, [], ◌∷◌, length, set, refl, sym, ap, subst, ◌∙◌, arith, inl, inr}
+use Rattle.std.proofs.Common.{◌≡◌, ◌≢◌, ℕ, zero, suc, ◌<◌, ◌≤◌, List, [], ◌∷◌, length, set, refl, sym, ap, subst, ◌∙◌, arith, inl, inr}
 use Rattle.std.specs.Prelude.{replicate}
 use Rattle.std.proofs.lemmas.Bool.{cases_eq}
 use Rattle.std.proofs.lemmas.List.{length-replicate, get_or-set_same, get_or-set_other}
 use Rattle.sqz_trace.specs.declared.shades.Shade.{Shade}
-use Rattle.sqz_trace.specs.declared.shades.Shade.TheVariants.{White, Grey, Black}
-use Rattle.sqz_trace.specs.Graph.{MarksReachable}
-use Rattle.sqz_trace.specs.Shades.{shade_at, marks_of}
+use Rattle.sqz_trace.specs.declared.shades.Shade.TheVariants.{White, Grey}
+use Rattle.sqz_trace.specs.Shades.{shade_at}
 use Rattle.sqz_trace.proofs.ShadeLemmas.{white-black, grey-black, marked-by}
-use Rattle.sqz_trace.proofs.LawLemmas.{AreLawful-first, MarksReachable-finished}
+use Rattle.sqz_trace.proofs.LawLemmas.{AreLawful-first}
 use Rattle.sqz_marks.specs.declared.view.View.{View}
-use Rattle.sqz_marks.specs.Core.{Marking, State, times, HasWon, HasSeen, spent, pass_at, first_view, opening, LeadsTo, IsLegalRun}
+use Rattle.sqz_marks.specs.Core.{Marking, State, pass_at, first_view, opening, LeadsTo}
 use Rattle.sqz_marks.specs.Core.{Event, Look, Claim, Blacken, Split, Join, Meets, after}
-use Rattle.sqz_marks.specs.Lawful.{KnowsTruth, IsLawful, wins, times_won, times_blackened, total_weight}
+use Rattle.sqz_marks.specs.Lawful.{KnowsTruth, IsLawful, wins, times_won}
 use Rattle.sqz_marks.proofs.TimesLemmas.{times-same, times-other, times-either}
 use Rattle.sqz_marks.proofs.ViewLemmas.{KnowsTruth-spent}
 use Rattle.sqz_marks.proofs.EventLemmas.{IsLawful-look, IsLawful-claim, IsLawful-blacken, IsLawful-split, IsLawful-join}

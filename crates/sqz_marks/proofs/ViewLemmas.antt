@@ -1,14 +1,13 @@
 -- What passes know stays so as objects get darker, and what a step tells them is so.
-use Rattle.std.proofs.Common.{◌≡◌, ◌⊎◌, ℕ, zero, suc, ◌<◌, ◌≤◌, true, List, ◌∷◌, refl, sym, subst, arith, inl, inr}
+use Rattle.std.proofs.Common.{◌≡◌, ℕ, zero, suc, ◌<◌, ◌≤◌, true, List, ◌∷◌, refl, sym, subst, arith, inl, inr}
 use Rattle.sqz_trace.specs.declared.shades.Shade.{Shade}
 use Rattle.sqz_trace.specs.declared.shades.Shade.TheVariants.{White, Grey, Black}
 use Rattle.sqz_trace.specs.Graph.{is_marked}
 use Rattle.sqz_trace.specs.Shades.{shade_at, marks_of}
-use Rattle.sqz_trace.proofs.ShadeLemmas.{marked-by}
 use Rattle.sqz_marks.specs.declared.view.View.{View}
-use Rattle.sqz_marks.specs.Core.{times, HasWon, HasSeen, HasBlackened, spent, looked, claimed, blackened, kept_of, part_of, joined}
+use Rattle.sqz_marks.specs.Core.{times, HasWon, HasSeen, spent, claimed, blackened, kept_of, part_of, joined}
 use Rattle.sqz_marks.specs.Lawful.{KnowsTruth}
-use Rattle.sqz_marks.proofs.TimesLemmas.{times-same, times-other, times-more, times-either, times-append, times-in_two}
+use Rattle.sqz_marks.proofs.TimesLemmas.{times-same, times-more, times-either, times-append, times-in_two}
 
 -- what is marked stays marked, and what is black stays black
 pub record AreDarker (old new : List Shade) : Type 0 where

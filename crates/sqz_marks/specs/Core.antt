@@ -24,7 +24,7 @@ marking_of heap workers start =
       graph = graph_from start heap.memory;
       region = region_at heap.cut heap.memory;
       words = λ object. length (chunk_words heap.memory object);
-      workers = workers
+      workers = workers;
     }
 
 -- the shades of the objects, and what each pass knows
@@ -118,27 +118,27 @@ abbrev pub after : State → ℕ → Event → State
 after state pass (Look object) =
     record {
       shades = state.shades;
-      passes = slice_set state.passes pass (looked object (shade_at state.shades object) (pass_at state.passes pass))
+      passes = slice_set state.passes pass (looked object (shade_at state.shades object) (pass_at state.passes pass));
     }
 after state pass (Claim parent object) =
     record {
       shades = slice_set state.shades object (greyed (shade_at state.shades object));
-      passes = slice_set state.passes pass (claimed object (shade_at state.shades object) (pass_at state.passes pass))
+      passes = slice_set state.passes pass (claimed object (shade_at state.shades object) (pass_at state.passes pass));
     }
 after state pass (Blacken object) =
     record {
       shades = slice_set state.shades object Black;
-      passes = slice_set state.passes pass (blackened object (pass_at state.passes pass))
+      passes = slice_set state.passes pass (blackened object (pass_at state.passes pass));
     }
 after state pass (Split weight) =
     record {
       shades = state.shades;
-      passes = slice_set state.passes pass (kept_of weight (pass_at state.passes pass)) ++ part_of weight ∷ []
+      passes = slice_set state.passes pass (kept_of weight (pass_at state.passes pass)) ++ part_of weight ∷ [];
     }
 after state pass (Join other) =
     record {
       shades = state.shades;
-      passes = slice_set (slice_set state.passes pass (joined (pass_at state.passes pass) (pass_at state.passes other))) other spent
+      passes = slice_set (slice_set state.passes pass (joined (pass_at state.passes pass) (pass_at state.passes other))) other spent;
     }
 
 -- the pass that marking begins with: it is all workers' share, and it won the object at which all paths start
@@ -150,7 +150,7 @@ abbrev pub opening : Marking → State
 opening marking =
     record {
       shades = slice_set (replicate marking.graph.count White) marking.graph.start Grey;
-      passes = first_view marking.workers marking.graph.start ∷ []
+      passes = first_view marking.workers marking.graph.start ∷ [];
     }
 
 -- events, each of one of the passes and with its condition met, lead from one state to another

@@ -1,5 +1,5 @@
 -- What holds of the state of marking between any two events, in whatever order they come.
-use Rattle.std.specs.Prelude.{◌≡◌, ℕ, ◌<◌, true, List, length, sum_by}
+use Rattle.std.specs.Prelude.{◌≡◌, ℕ, ◌<◌, true, List, sum_by}
 use Rattle.sqz_trace.specs.declared.shades.Shade.{Shade}
 use Rattle.sqz_trace.specs.declared.shades.Shade.TheVariants.{White, Grey, Black}
 use Rattle.sqz_trace.specs.Graph.{is_marked}

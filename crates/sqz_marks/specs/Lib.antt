@@ -1,3 +1,4 @@
 pub mod Core
 pub mod Lawful
 pub mod Table
+pub mod Claims

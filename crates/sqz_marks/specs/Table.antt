@@ -1,16 +1,17 @@
 -- The mark table and its passes as contracts see them, what its words mean, and what each step tells its pass.
-use Rattle.std.specs.Prelude.{◌≡◌, ℕ, zero, suc, ◌<◌, ◌≤◌, nat_lt, if◌then◌else◌, List, map, Option, Some, None, unwrap_or}
+use Rattle.std.specs.Prelude.{◌≡◌, ℕ, zero, suc, ◌<◌, ◌≤◌, nat_lt, if◌then◌else◌, true, List, map, unwrap_or}
 use Rattle.atomic_table.specs.Table.{Step, Me}
 use Rattle.atomic_table.specs.Table.{State as TableState}
 use Rattle.atomic_table.specs.Seated.{TableId}
-use Rattle.sqz_image.specs.declared.fault.Slot.{Slot}
 use Rattle.sqz_image.specs.Objects.{Memory, object_count, chunk_words, find}
 use Rattle.sqz_trace.specs.declared.shades.Shade.{Shade}
 use Rattle.sqz_trace.specs.declared.shades.Shade.TheVariants.{White, Grey, Black}
+use Rattle.sqz_trace.specs.Graph.{is_marked}
+use Rattle.sqz_trace.specs.Shades.{shade_at, marks_of, AreLawfulOf}
 use Rattle.sqz_regions.specs.Regions.{Regioning}
 use Rattle.sqz_marks.specs.declared.view.View.{View}
 use Rattle.sqz_marks.specs.Core.{Marking, marking_of, times, HasSeen, HasBlackened, looked, claimed, blackened}
-use Rattle.sqz_marks.specs.Lawful.{IsLawful}
+use Rattle.sqz_marks.specs.Lawful.{IsLawful, wins}
 
 -- a mark table: which one it is, the object memory and its cut, and how many workers share it
 pub record SharedMarks : Type 0 where
@@ -93,3 +94,11 @@ module _ {S : Type 0} where
 abbrev pub shade_known : View → ℕ → Shade
 shade_known view object =
     if nat_lt 0 (times object view.blackened) then Black else (if nat_lt 0 (times object view.won) then Grey else White)
+
+-- the shades when a table is closed by the pass that knows all: it knows each object's shade, it won each marked object once, what it has
+-- seen is marked, and marking can be finished from them
+pub record AreClosed (memory : Memory) (view : View) (shades : List Shade) : Type 0 where
+  pub known : (object : ℕ) → shade_at shades object ≡ shade_known view object
+  pub once : (object : ℕ) → times object view.won ≡ wins (shade_at shades object)
+  pub seen : (object : ℕ) → HasSeen view object → is_marked (marks_of shades) object ≡ true
+  pub lawful : AreLawfulOf memory shades

@@ -1,22 +1,21 @@
 //! The table of marks that workers share without waiting.
 
-ghost use Rattle.std.specs.Prelude.{◌≡◌, ◌≢◌, ◌⊎◌, ℕ, ◌<◌, ◌≤◌, ◌==◌, length, Option, Some, None, IfOk, IfErr, IfSome};
+ghost use Rattle.std.specs.Prelude.{◌≡◌, ◌≢◌, ◌⊎◌, ℕ, ◌<◌, ◌≤◌, ◌==◌, [], length, map, true, Option, Some, None, IfOk, IfErr, IfSome};
+ghost use Rattle.std.specs.Slots.{slots_items, slots_len, IsFull};
 ghost use Rattle.sqz_image.specs.declared.fault.Fault.TheVariants.{OutOfMemory};
 ghost use Rattle.sqz_image.specs.Objects.{object_count};
 ghost use Rattle.sqz_trace.specs.declared.shades.Shade.TheVariants.{White, Grey, Black};
 ghost use Rattle.sqz_trace.specs.Edges.{HasEdge, named_in, target};
-ghost use Rattle.sqz_trace.specs.Graph.{is_marked};
-ghost use Rattle.sqz_trace.specs.Shades.{shade_at, marks_of, AreLawfulOf};
-ghost use Rattle.sqz_marks.specs.Core.{HasSeen, HasBlackened, times, first_view, looked, blackened, kept_of, part_of, joined};
-ghost use Rattle.sqz_marks.specs.Lawful.{wins};
-ghost use Rattle.sqz_marks.specs.Table.{IsPassOf, knowing, KeepsSeen, IsSeenChunk, start_of, shade_known};
+ghost use Rattle.sqz_marks.specs.Core.{HasSeen, HasBlackened, first_view, looked, blackened, kept_of, part_of, joined};
+ghost use Rattle.sqz_marks.specs.Table.{IsPassOf, knowing, KeepsSeen, IsSeenChunk, start_of, shade_of, AreClosed};
 ghost use Rattle.sqz_marks.specs.Claims.{IsClaim};
 
+use crate::claim::Claim;
 use crate::pass::Pass;
 use crate::plays::{Blacken, Claiming, Joining, Key, Look, MarkingRule, Parting, Share, Weigh};
 use crate::view::View;
 use crate::workers::Workers;
-use atomic_table::Table;
+use atomic_table::{Seat, Table};
 use sqz_image::{Fault, Heap, Slot};
 use sqz_regions::Regions;
 use sqz_trace::{Shade, Shades, TracedObject};
@@ -49,17 +48,6 @@ impl<'a> Model for MarkTable<'a> {
         × (find marks.regions.now.memory marks.regions.now.memory.special ≡ Some (start_of marks.regions.now.memory)) };
 }
 
-/// What a claim found.
-#[derive(Clone, Copy, Debug, PartialEq, Eq)]
-pub enum Claim {
-    /// The object was white. It is grey now, and no other pass wins it.
-    Won(u32),
-    /// The object was marked before.
-    Seen(u32),
-    /// The slot names no object.
-    Nothing,
-}
-
 /// What is left of a mark table when all have marked.
 #[derive(Drop)]
 pub struct Closed {
@@ -84,11 +72,12 @@ impl<'a> MarkTable<'a> {
     {
         let mut words = vec![in alloc; 0u64; heap.len() as usize]?;
         words[heap.special() as usize] = 1;
+        let weight = workers.number();
         let key = (Snapshot::of(regions), workers);
         let (table, seat) = Table::of_words(alloc, &words, &key)?;
         let pass = Pass {
             seat,
-            weight: workers.number(),
+            weight,
             workers,
         };
         Ok((
@@ -112,7 +101,11 @@ impl<'a> MarkTable<'a> {
         ensures black { HasBlackened pass.old.view object → result ≡ Black }
         ensures keeps { KeepsSeen pass.old.view pass.new.view }
     {
-        shade_of(self.table.shared.load::<Look>(&mut pass.seat, object as usize))
+        shade_of(
+            self.table
+                .shared
+                .load::<Look>(&mut pass.seat, object as usize),
+        )
     }
 
     /// Makes the object that a slot of a parent names grey, if it is white. The pass has seen the parent marked.
@@ -136,7 +129,11 @@ impl<'a> MarkTable<'a> {
         let Some(object) = parent.target(self.heap, slot) else {
             return Claim::Nothing;
         };
-        match self.table.shared.fetch_max::<Claiming>(&mut pass.seat, object as usize, 1) {
+        match self
+            .table
+            .shared
+            .fetch_max::<Claiming>(&mut pass.seat, object as usize, 1)
+        {
             0 => Claim::Won(object),
             _ => Claim::Seen(object),
         }
@@ -150,18 +147,20 @@ impl<'a> MarkTable<'a> {
         requires targets { (target : ℕ) → HasEdge self.now.heap.memory object target → HasSeen pass.old.view target }
         ensures step { pass.new ≡ knowing pass.old (blackened object pass.old.view) }
     {
-        self.table.shared.fetch_max::<Blacken>(&mut pass.seat, object as usize, 2);
+        self.table
+            .shared
+            .fetch_max::<Blacken>(&mut pass.seat, object as usize, 2);
     }
 
     /// Gives a part of the pass's weight to a new pass, which knows nothing.
     pub fn split_off(&self, pass: &mut Pass, weight: u32) -> Pass
         requires of { IsPassOf self.now pass.old }
-        requires some { 1 ≤ weight }
+        requires positive { 1 ≤ weight }
         requires rest { weight < pass.old.view.weight }
         ensures kept { pass.new ≡ knowing pass.old (kept_of weight pass.old.view) }
         ensures part { result ≡ knowing pass.old (part_of weight) }
     {
-        let seat = self.part::<Brand>(pass, weight);
+        let seat = self.part::<Brand>(&mut pass.seat, weight);
         pass.weight -= weight;
         Pass {
             seat,
@@ -173,7 +172,7 @@ impl<'a> MarkTable<'a> {
     /// Cuts a pass in two: the first keeps what it knows and the rest of the weight, the second has this weight.
     pub fn split(&self, mut pass: Pass, weight: u32) -> (Pass, Pass)
         requires of { IsPassOf self.now pass }
-        requires some { 1 ≤ weight }
+        requires positive { 1 ≤ weight }
         requires rest { weight < pass.view.weight }
         ensures kept { result.0 ≡ knowing pass (kept_of weight pass.view) }
         ensures part { result.1 ≡ knowing pass (part_of weight) }
@@ -188,7 +187,11 @@ impl<'a> MarkTable<'a> {
         requires other { IsPassOf self.now other }
         ensures joined { pass.new ≡ knowing pass.old (joined pass.old.view other.view) }
     {
-        let Pass { seat, weight, workers: _ } = other;
+        let Pass {
+            seat,
+            weight,
+            workers: _,
+        } = other;
         self.table.shared.join_seat::<Joining>(&mut pass.seat, seat);
         self.table.shared.load::<Weigh>(&mut pass.seat, 0);
         pass.weight += weight;
@@ -209,29 +212,40 @@ impl<'a> MarkTable<'a> {
     pub fn close(self, alloc: Global, pass: Pass) -> Result<Closed, (Self, Pass)>
         requires of { IsPassOf self pass }
         requires whole { pass.view.weight ≡ self.workers }
-        ensures shades { IfOk result (λ closed. (object : ℕ) → shade_at closed.shades.items object ≡ shade_known pass.view object) }
-        ensures once { IfOk result (λ closed. (object : ℕ) → times object pass.view.won ≡ wins (shade_at closed.shades.items object)) }
-        ensures seen { IfOk result (λ closed. (object : ℕ) → HasSeen pass.view object → is_marked (marks_of closed.shades.items) object ≡ true) }
-        ensures lawful { IfOk result (λ closed. AreLawfulOf self.entry.heap.memory closed.shades.items) }
+        ensures closed { IfOk result (λ closed. AreClosed self.entry.heap.memory pass.view closed.shades.items) }
         ensures refused { IfErr result (λ back. (back.0 ≡ self.entry) × (back.1 ≡ pass)) }
     {
         let Ok(mut shades) = vec![in alloc; Shade::White; self.heap.len() as usize] else {
             return Err((self, pass));
         };
-        let MarkTable { heap: _, regions: _, workers: _, table } = self;
-        let Pass { seat, weight: _, workers: _ } = pass;
+        let MarkTable {
+            heap: _,
+            regions: _,
+            workers: _,
+            table,
+        } = self;
+        let Pass {
+            seat,
+            weight: _,
+            workers: _,
+        } = pass;
         let closed = table.close_with(seat);
-        for object in 0..shades.len() {
-            shades[object] = shade_of(closed.word(object));
-        }
+        read_shades(&closed, &mut shades);
         closed.free();
         Ok(Closed { shades })
     }
 
     /// The seat of a new pass.
-    fn part<W: Share>(&self, pass: &mut Pass, weight: u32) -> Seat<(), View>
+    fn part<W: Share>(&self, seat: &mut Seat<(), View>, weight: u32) -> Seat<(), View>
+        requires of { seat.old.table_id ≡ self.now.table }
+        requires weight { weight ≡ W.weight }
+        requires positive { 1 ≤ weight }
+        requires rest { weight < seat.old.me.0.weight }
+        ensures kept { (seat.new.table_id ≡ seat.old.table_id) × (seat.new.me ≡ (kept_of weight seat.old.me.0, seat.old.me.1)) }
+        ensures part { (result.table_id ≡ seat.old.table_id) × (result.me ≡ (part_of weight, [])) }
     {
-        self.table.shared.split_seat::<Parting<W>>(&mut pass.seat)
+        let _ = weight;
+        self.table.shared.split_seat::<Parting<W>>(seat)
     }
 }
 
@@ -243,5 +257,16 @@ fn shade_of(word: u64) -> Shade
         0 => Shade::White,
         1 => Shade::Grey,
         _ => Shade::Black,
+    }
+}
+
+/// Puts the shade that each word says in the place of the object's.
+fn read_shades(closed: &atomic_table::Closed<(), Global>, shades: &mut [Shade])
+    requires sized { length shades.old ≡ slots_len closed.now.words }
+    requires full { IsFull closed.now.words }
+    ensures { shades.new ≡ map shade_of (slots_items closed.now.words) }
+{
+    for object in 0..shades.len() {
+        shades[object] = shade_of(closed.word(object));
     }
 }

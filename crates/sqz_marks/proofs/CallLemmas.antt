@@ -1,0 +1,117 @@
+-- What the calls on the mark table owe at their steps, from what contracts see of the table and of the pass.
+use Rattle.std.proofs.Common.{◌≡◌, ℕ, ◌<◌, ◌≤◌, max, List, [], sym, ap, subst, ◌∙◌, arith}
+use mathlib.Core.Option.{none}
+use Rattle.std.specs.Prelude.{Some}
+use Rattle.atomic_table.specs.Table.{Me, step, Allows, Splits, Joins}
+use Rattle.atomic_table.specs.Seated.{TableId}
+use Rattle.sqz_image.specs.declared.fault.Slot.{Slot}
+use Rattle.sqz_image.specs.Objects.{objects, object_count, find}
+use Rattle.sqz_image.proofs.ObjectLemmas.{find_in-lt}
+use Rattle.sqz_trace.specs.Edges.{named_in, target, HasEdge}
+use Rattle.sqz_trace.proofs.EdgeLemmas.{target-lt}
+use Rattle.sqz_regions.specs.Regions.{Regioning}
+use Rattle.sqz_marks.specs.declared.view.View.{View}
+use Rattle.sqz_marks.specs.Core.{HasSeen, kept_of, part_of, joined, spent}
+use Rattle.sqz_marks.specs.Table.{SharedMarks, HeldPass, IsPassOf, IsSeenChunk, IsKept, start_of, marking_in, Looked, Claimed, Blackened, Weighed}
+use Rattle.sqz_marks.proofs.StepLemmas.{look_allowed, claim_allowed, blacken_allowed, split_allowed, join_allowed, weigh_allowed}
+
+module _
+    (marks : SharedMarks)
+    (pass : HeldPass)
+    (of : IsPassOf marks pass)
+    (id : TableId)
+    (key heap : Regioning)
+    (key_workers workers pass_workers : ℕ)
+    (is_marks : record { table = id; heap = heap; workers = workers } ≡ marks)
+    (keyed : key ≡ heap)
+    (words : id.words ≡ object_count heap.memory)
+    (seat : TableId)
+    (number : ℕ)
+    {S : Type 0}
+    (me : Me S View)
+    (is_pass : record { table = seat; workers = pass_workers; view = me.0 } ≡ pass)
+  where
+    same_table : seat ≡ id
+    same_table = ap (λ (p : HeldPass). p.table) is_pass ∙ of.0 ∙ sym (ap (λ (m : SharedMarks). m.table) is_marks)
+
+    same_heap : key ≡ marks.heap
+    same_heap = keyed ∙ ap (λ (m : SharedMarks). m.heap) is_marks
+
+    same_view : me.0 ≡ pass.view
+    same_view = ap (λ (p : HeldPass). p.view) is_pass
+
+    module _ (object : ℕ) (inside : object < object_count marks.heap.memory) where
+      in_words : object < id.words
+      in_words = subst (λ n. object < n) (sym (words ∙ ap (λ (m : SharedMarks). object_count m.heap.memory) is_marks)) inside
+
+      in_key : object < object_count key.memory
+      in_key = subst (λ (h : Regioning). object < object_count h.memory) (sym same_heap) inside
+
+      pub look_owes : 1 ≤ me.0.weight → (seat ≡ id) × (object < id.words)
+          × Allows (IsKept (marking_in key key_workers) {S = S}) id.slots number me object (λ n. n) (Looked (step id.slots object 0 0 none) me)
+      look_owes weight = (same_table, in_words, look_allowed (marking_in key key_workers) id.slots number me object in_key weight)
+
+      pub blacken_owes : HasSeen pass.view object → ((target : ℕ) → HasEdge marks.heap.memory object target → HasSeen pass.view target)
+          → (seat ≡ id) × (object < id.words)
+          × Allows (IsKept (marking_in key key_workers) {S = S}) id.slots number me object (λ n. max n 2) (Blackened (step id.slots object 2 0 none) me)
+      blacken_owes seen targets = (
+        same_table,
+        in_words,
+        blacken_allowed (marking_in key key_workers) id.slots number me object in_key
+            (subst (λ (v : View). HasSeen v object) (sym same_view) seen)
+            (λ target edge. subst (λ (v : View). HasSeen v target) (sym same_view)
+            (targets target (subst (λ (h : Regioning). HasEdge h.memory object target) same_heap edge))),
+      )
+
+    -- a claim of what a slot of a parent names
+    module _ (chunk : List ℕ) (slot : Slot) (object : ℕ) (parent : IsSeenChunk marks.heap.memory pass.view chunk)
+        (names : named_in marks.heap.memory chunk slot ≡ Some object) where
+      named : target marks.heap.memory parent.object slot ≡ Some object
+      named = subst (λ (words : List ℕ). named_in marks.heap.memory words slot ≡ Some object) parent.its names
+
+      is_inside : object < object_count marks.heap.memory
+      is_inside = target-lt marks.heap.memory parent.object slot object named
+
+      pub claim_owes : (seat ≡ id) × (object < id.words)
+          × Allows (IsKept (marking_in key key_workers) {S = S}) id.slots number me object (λ n. max n 1) (Claimed (step id.slots object 1 0 none) me)
+      claim_owes = (
+        same_table,
+        in_words object is_inside,
+        claim_allowed (marking_in key key_workers) id.slots number me parent.object object (in_key object is_inside)
+            (subst (λ (v : View). HasSeen v parent.object) (sym same_view) parent.seen)
+            (subst (λ (h : Regioning). HasEdge h.memory parent.object object) (sym same_heap)
+            record { inside = parent.inside; slot = slot; names = named }),
+      )
+
+-- splits and joins load the first word, and there is one
+module _
+    (id : TableId)
+    (key heap : Regioning)
+    (key_workers : ℕ)
+    (words : id.words ≡ object_count heap.memory)
+    (special : find heap.memory heap.memory.special ≡ Some (start_of heap.memory))
+    (seat : TableId)
+    (same : seat ≡ id)
+    (number : ℕ)
+    {S : Type 0}
+    (me : Me S View)
+  where
+    first_word : 0 < id.words
+    first_word =
+        let lt = find_in-lt heap.memory.base (objects heap.memory) heap.memory.special (start_of heap.memory) special in
+        omega (arith, lt, words)
+
+    pub split_owes : (weight : ℕ) → 1 ≤ weight → weight < me.0.weight
+        → (seat ≡ id) × (0 < id.words) × Splits (IsKept (marking_in key key_workers) {S = S}) number me.0 (kept_of weight me.0) (part_of weight)
+    split_owes weight positive below =
+        (same, first_word, split_allowed (marking_in key key_workers) number me.0 weight positive below)
+
+    pub join_owes : (other : TableId) → other ≡ id → (other_number : ℕ) (theirs : Me S View) → theirs.1 ≡ [] → 1 ≤ theirs.0.weight
+        → (seat ≡ id) × (other ≡ id) × (theirs.1 ≡ []) × (0 < id.words)
+        × Joins (IsKept (marking_in key key_workers) {S = S}) number me.0 other_number theirs.0 (joined me.0 theirs.0) spent
+    join_owes other same_other other_number theirs holds weight =
+        (same, same_other, holds, first_word, join_allowed (marking_in key key_workers) number me.0 other_number theirs.0 weight)
+
+    pub weigh_owes : (seat ≡ id) × (0 < id.words)
+        × Allows (IsKept (marking_in key key_workers) {S = S}) id.slots number me 0 (λ n. n) (Weighed (step id.slots 0 0 0 none) me)
+    weigh_owes = (same, first_word, weigh_allowed (marking_in key key_workers) id.slots number me)

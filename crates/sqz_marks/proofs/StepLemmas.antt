@@ -1,0 +1,245 @@
+-- Each step on the mark table keeps its rule, and tells its pass what it may.
+use Rattle.std.proofs.Common.{◌≡◌, ℕ, zero, suc, ◌<◌, ◌≤◌, max, true, List, [], ◌∷◌, ◌++◌, length, map, set, get_or, refl, sym, ap, subst, ◌∙◌, arith}
+use mathlib.Core.Option.{some, none, some-injective, some-ne-none}
+use lib.ListN.{get_elem?}
+use Rattle.std.specs.Prelude.{slice_index}
+use Rattle.std.proofs.lemmas.List.{map-set, get_or-map, get_or-set_other, length-set, set-get_or}
+use Rattle.std.proofs.lemmas.List.Sums.{get_or-le-sum_by}
+use Rattle.atomic_table.specs.Table.{State, Me, step, keeps, Allows, Splits, Joins}
+use Rattle.sqz_trace.specs.declared.shades.Shade.{Shade}
+use Rattle.sqz_trace.specs.declared.shades.Shade.TheVariants.{White, Grey, Black}
+use Rattle.sqz_trace.specs.Shades.{shade_at, has_mark}
+use Rattle.sqz_trace.proofs.ShadeLemmas.{is_marked-shade}
+use Rattle.sqz_marks.specs.declared.view.View.{View}
+use Rattle.sqz_marks.specs.Core.{Marking, HasSeen, HasBlackened, spent, pass_at, looked, claimed, greyed, blackened, kept_of, part_of, joined}
+use Rattle.sqz_marks.specs.Lawful.{KnowsTruth, IsLawful}
+use Rattle.sqz_marks.specs.Table.{number_of, shade_of, IsKept, Looked, Claimed, Blackened, Weighed}
+use Rattle.sqz_marks.proofs.EventLemmas.{IsLawful-look, IsLawful-claim, IsLawful-blacken, IsLawful-split, IsLawful-join}
+
+-- an item that stands in a list
+pub inside_at : {X : Type 0} (xs : List X) (i : ℕ) (x : X) → get_elem? xs i ≡ some x → i < length xs
+inside_at [] i x e = absurd (some-ne-none x (sym e))
+inside_at (y ∷ xs) zero x e = omega arith
+inside_at (y ∷ xs) (suc i) x e = omega (arith, inside_at xs i x e)
+
+pub item_at : {X : Type 0} (xs : List X) (i : ℕ) (x d : X) → get_elem? xs i ≡ some x → get_or xs i d ≡ x
+item_at [] i x d e = absurd (some-ne-none x (sym e))
+item_at (y ∷ xs) zero x d e = some-injective y x e
+item_at (y ∷ xs) (suc i) x d e = item_at xs i x d e
+
+-- the number of a shade says it
+pub shade_of-number : (shade : Shade) → shade_of (number_of shade) ≡ shade
+shade_of-number White = refl
+shade_of-number Grey = refl
+shade_of-number Black = refl
+
+number_of-le : (shade : Shade) → number_of shade ≤ 2
+number_of-le White = omega arith
+number_of-le Grey = omega arith
+number_of-le Black = omega arith
+
+number_of-marked : (shade : Shade) → has_mark shade ≡ true → 1 ≤ number_of shade
+number_of-marked White e = absurd cc
+number_of-marked Grey e = omega arith
+number_of-marked Black e = omega arith
+
+number_of-greyed : (shade : Shade) → max (number_of shade) 1 ≡ number_of (greyed shade)
+number_of-greyed White = refl
+number_of-greyed Grey = refl
+number_of-greyed Black = refl
+
+number_of-black : (shade : Shade) → max (number_of shade) 2 ≡ number_of Black
+number_of-black White = refl
+number_of-black Grey = refl
+number_of-black Black = refl
+
+module _ (marking : Marking) {S : Type 0} (table : State S View) (kept : IsKept marking {S = S} table) where
+  -- the word of an object
+  word_is : (object : ℕ) → object < marking.graph.count → slice_index table.words object ≡ number_of (shade_at kept.shades object)
+  word_is object inside =
+      ap (λ (words : List ℕ). get_or words object 0) kept.words
+      ∙ get_or-map number_of kept.shades object White 0 (subst (λ n. object < n) (sym kept.lawful.shades.sized) inside)
+
+  shade_is : (object : ℕ) → object < marking.graph.count → shade_of (slice_index table.words object) ≡ shade_at kept.shades object
+  shade_is object inside = ap shade_of (word_is object inside) ∙ shade_of-number (shade_at kept.shades object)
+
+  words_set : (object : ℕ) (word : ℕ) (shade : Shade) → word ≡ number_of shade
+      → set table.words object word ≡ map number_of (set kept.shades object shade)
+  words_set object word shade says =
+      ap (λ (words : List ℕ). set words object word) kept.words ∙ ap (λ w. set (map number_of kept.shades) object w) says
+      ∙ sym (map-set number_of kept.shades object shade)
+
+  module _ (id : ℕ) (view : View) (at : get_elem? table.views id ≡ some view) where
+    its : KnowsTruth kept.shades view
+    its = subst (KnowsTruth kept.shades) (item_at table.views id view spent at) (kept.lawful.truth id)
+
+    -- what the pass has seen has a word that is not 0, and what it knows to be black has 2
+    unseen_word : (object : ℕ) → object < marking.graph.count → HasSeen view object → 1 ≤ slice_index table.words object
+    unseen_word object inside seen =
+        subst (λ n. 1 ≤ n) (sym (word_is object inside))
+        (number_of-marked (shade_at kept.shades object) (sym (is_marked-shade kept.shades object) ∙ its.seen object seen))
+
+    black_word : (object : ℕ) → object < marking.graph.count → HasBlackened view object → slice_index table.words object ≡ 2
+    black_word object inside known = word_is object inside ∙ ap number_of (its.blackened object known)
+
+module _ (marking : Marking) {S : Type 0} (slots id : ℕ) (before : Me S View) where
+  -- a look
+  pub look_allowed : (object : ℕ) → object < marking.graph.count → 1 ≤ before.0.weight
+      → Allows (IsKept marking {S = S}) slots id before object (λ n. n) (Looked (step slots object 0 0 none) before)
+  look_allowed object inside weight table kept long at small = (
+    looked object (shade_of (slice_index table.words object)) before.0,
+    keeps,
+    tt,
+    record {
+      shades = kept.shades;
+      words = set-get_or table.words object 0 ∙ kept.words;
+      lawful =
+          subst (λ (shade : Shade). IsLawful marking record { shades = kept.shades; passes = set table.views id (looked object shade before.0) })
+          (sym (shade_is marking table kept object inside))
+          (subst (λ (view : View). IsLawful marking record { shades = kept.shades; passes = set table.views id (looked object (shade_at kept.shades object) view) })
+          is_view
+          (IsLawful-look marking record { shades = kept.shades; passes = table.views } id (inside_at table.views id before.0 at) kept.lawful object
+          (subst (λ (view : View). 1 ≤ view.weight) (sym is_view) weight)));
+      few = kept.few;
+    },
+    record {
+      small = subst (λ n. n ≤ 2) (sym (word_is marking table kept object inside)) (number_of-le (shade_at kept.shades object));
+      knows = refl;
+      unseen = unseen_word marking table kept id before.0 at object inside;
+      black = black_word marking table kept id before.0 at object inside;
+    },
+  )
+    where
+      is_view : pass_at table.views id ≡ before.0
+      is_view = item_at table.views id before.0 spent at
+
+  -- a claim along an edge from an object that the pass has seen
+  pub claim_allowed : (parent object : ℕ) → object < marking.graph.count → HasSeen before.0 parent → marking.graph.Edge parent object
+      → Allows (IsKept marking {S = S}) slots id before object (λ n. max n 1) (Claimed (step slots object 1 0 none) before)
+  claim_allowed parent object inside seen edge table kept long at small = (
+    claimed object (shade_of (slice_index table.words object)) before.0,
+    keeps,
+    tt,
+    record {
+      shades = set kept.shades object (greyed shade);
+      words =
+          words_set marking table kept object (max (slice_index table.words object) 1) (greyed shade)
+          (ap (λ n. max n 1) (word_is marking table kept object inside) ∙ number_of-greyed shade);
+      lawful =
+          subst (λ (s : Shade). IsLawful marking record { shades = set kept.shades object (greyed shade); passes = set table.views id (claimed object s before.0) })
+          (sym (shade_is marking table kept object inside))
+          (subst (λ (view : View). IsLawful marking record { shades = set kept.shades object (greyed shade); passes = set table.views id (claimed object shade view) })
+          is_view
+          (IsLawful-claim marking record { shades = kept.shades; passes = table.views } id (inside_at table.views id before.0 at) kept.lawful
+          parent object (subst (λ (view : View). HasSeen view parent) (sym is_view) seen) inside edge));
+      few = kept.few;
+    },
+    record { knows = refl; unseen = unseen_word marking table kept id before.0 at object inside },
+  )
+    where
+      shade : Shade
+      shade = shade_at kept.shades object
+
+      is_view : pass_at table.views id ≡ before.0
+      is_view = item_at table.views id before.0 spent at
+
+  -- an object becomes black
+  pub blacken_allowed : (object : ℕ) → object < marking.graph.count → HasSeen before.0 object
+      → ((target : ℕ) → marking.graph.Edge object target → HasSeen before.0 target)
+      → Allows (IsKept marking {S = S}) slots id before object (λ n. max n 2) (Blackened (step slots object 2 0 none) before)
+  blacken_allowed object inside seen targets table kept long at small = (
+    blackened object before.0,
+    keeps,
+    tt,
+    record {
+      shades = set kept.shades object Black;
+      words =
+          words_set marking table kept object (max (slice_index table.words object) 2) Black
+          (ap (λ n. max n 2) (word_is marking table kept object inside) ∙ number_of-black (shade_at kept.shades object));
+      lawful =
+          subst (λ (view : View). IsLawful marking record { shades = set kept.shades object Black; passes = set table.views id (blackened object view) })
+          is_view
+          (IsLawful-blacken marking record { shades = kept.shades; passes = table.views } id (inside_at table.views id before.0 at) kept.lawful
+          object (subst (λ (view : View). HasSeen view object) (sym is_view) seen) inside
+          (λ target edge. subst (λ (view : View). HasSeen view target) (sym is_view) (targets target edge)));
+      few = kept.few;
+    },
+    refl,
+  )
+    where
+      is_view : pass_at table.views id ≡ before.0
+      is_view = item_at table.views id before.0 spent at
+
+  -- a load of the first word tells a pass that its weight is that of workers
+  pub weigh_allowed : Allows (IsKept marking {S = S}) slots id before 0 (λ n. n) (Weighed (step slots 0 0 0 none) before)
+  weigh_allowed table kept long at small = (
+    before.0,
+    keeps,
+    tt,
+    record {
+      shades = kept.shades;
+      words = set-get_or table.words 0 0 ∙ kept.words;
+      lawful =
+          subst (λ (views : List View). IsLawful marking record { shades = kept.shades; passes = views })
+          (sym (same_views table.views id before.0 at)) kept.lawful;
+      few = kept.few;
+    },
+    (
+      refl,
+      (let part = get_or-le-sum_by (λ (v : View). v.weight) table.views id spent (inside_at table.views id before.0 at) in
+          let is : (pass_at table.views id).weight ≡ before.0.weight = ap (λ (v : View). v.weight) (item_at table.views id before.0 spent at) in
+          omega (arith, part, is, kept.lawful.weights, kept.few)),
+    ),
+  )
+    where
+      same_views : {X : Type 0} (xs : List X) (i : ℕ) (x : X) → get_elem? xs i ≡ some x → set xs i x ≡ xs
+      same_views [] i x e = refl
+      same_views (y ∷ xs) zero x e = ap (λ z. z ∷ xs) (sym (some-injective y x e))
+      same_views (y ∷ xs) (suc i) x e = ap (λ zs. y ∷ zs) (same_views xs i x e)
+
+module _ (marking : Marking) {S : Type 0} (id : ℕ) (view : View) where
+  -- a pass gives a part of its weight to a new one
+  pub split_allowed : (weight : ℕ) → 1 ≤ weight → weight < view.weight
+      → Splits (IsKept marking {S = S}) id view (kept_of weight view) (part_of weight)
+  split_allowed weight positive below table kept at =
+      record {
+        shades = kept.shades;
+        words = kept.words;
+        lawful =
+            subst (λ (v : View). IsLawful marking record { shades = kept.shades; passes = set table.views id (kept_of weight v) ++ part_of weight ∷ [] })
+            is_view
+            (IsLawful-split marking record { shades = kept.shades; passes = table.views } id (inside_at table.views id view at) kept.lawful
+            weight positive (subst (λ (v : View). weight < v.weight) (sym is_view) below));
+        few = kept.few;
+      } where
+        is_view : pass_at table.views id ≡ view
+        is_view = item_at table.views id view spent at
+
+  -- a pass takes in another
+  pub join_allowed : (other : ℕ) (theirs : View) → 1 ≤ theirs.weight
+      → Joins (IsKept marking {S = S}) id view other theirs (joined view theirs) spent
+  join_allowed other theirs weight table kept at differs at_other =
+      record {
+        shades = kept.shades;
+        words = kept.words;
+        lawful =
+            subst (λ (v : View). IsLawful marking record { shades = kept.shades; passes = set (set table.views id (joined v theirs)) other spent })
+            is_view
+            (subst (λ (v : View). IsLawful marking record { shades = kept.shades; passes = set (set table.views id (joined (pass_at table.views id) v)) other spent })
+            is_theirs
+            (IsLawful-join marking record { shades = kept.shades; passes = table.views } id (inside_at table.views id view at) kept.lawful
+            other differs within (subst (λ (v : View). 1 ≤ v.weight) (sym is_theirs) weight)));
+        few = kept.few;
+      } where
+        is_view : pass_at table.views id ≡ view
+        is_view = item_at table.views id view spent at
+
+        is_theirs : pass_at table.views other ≡ theirs
+        is_theirs =
+            sym (get_or-set_other table.views id other (joined view theirs) spent differs)
+            ∙ item_at (set table.views id (joined view theirs)) other theirs spent at_other
+
+        within : other < length table.views
+        within =
+            subst (λ n. other < n) (length-set table.views id (joined view theirs))
+            (inside_at (set table.views id (joined view theirs)) other theirs at_other)
