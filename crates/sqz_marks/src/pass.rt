@@ -40,6 +40,6 @@ impl Pass {
     pub fn is_whole(&self) -> bool
         ensures { result ≡ (self.now.view.weight == self.now.workers) }
     {
-        self.weight == self.workers.number()
+        self.workers.number() == self.weight()
     }
 }
