@@ -1,2 +1,3 @@
+pub mod RunTest
 pub mod TracingTest
 pub mod WorkedImages

@@ -94,10 +94,10 @@ module _ (memory : Memory) where
 
 -- ---- no edge leads out of the marked objects, by a test
 
--- whether the named object is marked, where one is named
-abbrev pub is_marked_if_named : List Bool → Option ℕ → Bool
-is_marked_if_named marks None = true
-is_marked_if_named marks (Some index) = is_marked marks index
+-- whether the named object passes a test, where one is named
+abbrev pub passes_if_named : (ℕ → Bool) → Option ℕ → Bool
+passes_if_named passes None = true
+passes_if_named passes (Some index) = passes index
 
 module _ (memory : Memory) where
   -- a word that is there only where a test holds names an object only where it holds
@@ -112,47 +112,52 @@ module _ (memory : Memory) where
   field_is_traced chunk index to names =
       ltb-true _ _ (test_of_named (nat_lt index (traced chunk)) (slice_index (fields chunk) index) to names)
 
-module _ (memory : Memory) (marks : List Bool) where
-  -- whether the object that this slot names is marked, if it names one
-  abbrev pub is_named_marked : List ℕ → Slot → Bool
-  is_named_marked chunk slot = is_marked_if_named marks (named_in memory chunk slot)
+module _ (memory : Memory) (passes : ℕ → Bool) where
+  -- whether the object that this slot names passes, if it names one
+  abbrev pub is_named_passing : List ℕ → Slot → Bool
+  is_named_passing chunk slot = passes_if_named passes (named_in memory chunk slot)
 
-  -- whether all objects that this chunk's slots name are marked
-  abbrev pub all_named_marked : List ℕ → Bool
-  all_named_marked chunk = list_all (is_named_marked chunk) (possible_slots chunk)
+  -- whether all objects that this chunk's slots name pass
+  abbrev pub all_named_pass : List ℕ → Bool
+  all_named_pass chunk = list_all (is_named_passing chunk) (possible_slots chunk)
 
-  -- what some slot names is marked, then
-  all_named_marked_at : (chunk : List ℕ) (slot : Slot) (to : ℕ) → all_named_marked chunk ≡ true
-      → named_in memory chunk slot ≡ Some to → is_marked marks to ≡ true
-  all_named_marked_at chunk ClassWord to h names =
-      let test : Slot → Bool = is_named_marked chunk in
+  -- what some slot names passes, then
+  all_named_pass_at : (chunk : List ℕ) (slot : Slot) (to : ℕ) → all_named_pass chunk ≡ true
+      → named_in memory chunk slot ≡ Some to → passes to ≡ true
+  all_named_pass_at chunk ClassWord to h names =
+      let test : Slot → Bool = is_named_passing chunk in
       let parts = and_parts (test ClassWord) (list_all test (field_slots 0 (traced chunk))) h in
-      sym (ap (is_marked_if_named marks) names) ∙ parts.0
-  all_named_marked_at chunk (Field index) to h names =
-      let test : Slot → Bool = is_named_marked chunk in
+      sym (ap (passes_if_named passes) names) ∙ parts.0
+  all_named_pass_at chunk (Field index) to h names =
+      let test : Slot → Bool = is_named_passing chunk in
       let parts = and_parts (test ClassWord) (list_all test (field_slots 0 (traced chunk))) h in
       let inside = field_is_traced memory chunk index to names in
       let same : 0 + index ≡ index = omega arith in
-      let passes = field_slots_at test 0 (traced chunk) index parts.1 inside in
-      let marked = subst (λ (field : ℕ). test (Field field) ≡ true) same passes in
-      sym (ap (is_marked_if_named marks) names) ∙ marked
+      let passing = field_slots_at test 0 (traced chunk) index parts.1 inside in
+      let named = subst (λ (field : ℕ). test (Field field) ≡ true) same passing in
+      sym (ap (passes_if_named passes) names) ∙ named
 
+  -- so does each object to which one has an edge
+  pub targets_pass : (from to : ℕ) → all_named_pass (chunk_words memory from) ≡ true → HasEdge memory from to → passes to ≡ true
+  targets_pass from to h edge = all_named_pass_at (chunk_words memory from) edge.slot to h edge.names
+
+module _ (memory : Memory) (marks : List Bool) where
   -- whether all that the marked ones of these objects name are marked; `own` has their marks
   abbrev pub is_closed_from : List Bool → List Object → Bool
-  is_closed_from (true ∷ own) (object ∷ objects) = all_named_marked object.chunk && is_closed_from own objects
+  is_closed_from (true ∷ own) (object ∷ objects) = all_named_pass memory (is_marked marks) object.chunk && is_closed_from own objects
   is_closed_from (false ∷ own) (object ∷ objects) = is_closed_from own objects
   is_closed_from _ _ = true
 
   -- each of these objects, then
   is_closed_from_at : (own : List Bool) (objects : List Object) (index : ℕ) (d : Object)
       → is_closed_from own objects ≡ true → slice_index_or own index false ≡ true → index < length objects
-      → all_named_marked (slice_index_or objects index d).chunk ≡ true
+      → all_named_pass memory (is_marked marks) (slice_index_or objects index d).chunk ≡ true
   is_closed_from_at own [] index d h m lt = absurd (omega arith)
   is_closed_from_at [] (object ∷ objects) index d h m lt = absurd cc
   is_closed_from_at (true ∷ own) (object ∷ objects) zero d h m lt =
-      (and_parts (all_named_marked object.chunk) (is_closed_from own objects) h).0
+      (and_parts (all_named_pass memory (is_marked marks) object.chunk) (is_closed_from own objects) h).0
   is_closed_from_at (true ∷ own) (object ∷ objects) (suc index) d h m lt =
-      let parts = and_parts (all_named_marked object.chunk) (is_closed_from own objects) h in
+      let parts = and_parts (all_named_pass memory (is_marked marks) object.chunk) (is_closed_from own objects) h in
       is_closed_from_at own objects index d parts.1 m (omega arith)
   is_closed_from_at (false ∷ own) (object ∷ objects) zero d h m lt = absurd cc
   is_closed_from_at (false ∷ own) (object ∷ objects) (suc index) d h m lt =
@@ -165,7 +170,7 @@ IsClosed-from_test memory start marks h = record {
   along = λ from to m edge.
       let some : Object = record { first = 0; chunk = [] } in
       let all = is_closed_from_at memory marks marks (objects memory) from some h m edge.inside in
-      all_named_marked_at memory marks (chunk_words memory from) edge.slot to all edge.names;
+      targets_pass memory (is_marked marks) from to all edge;
 }
 
 -- ---- a path to each marked object, by a test

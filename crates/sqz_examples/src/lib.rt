@@ -4,5 +4,6 @@
 
 mod compacted;
 mod defects;
+mod marking;
 mod unreadable;
 mod words;
