@@ -5,3 +5,4 @@ pub mod RunLemmas
 pub mod StepLemmas
 pub mod CallLemmas
 pub mod KeptLemmas
+pub mod WonLemmas

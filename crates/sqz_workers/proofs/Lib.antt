@@ -1,1 +1,3 @@
 mod TurnLemmas
+pub mod GainLemmas
+pub mod ShareLemmas

@@ -5,7 +5,7 @@ ghost use Rattle.sqz_image.specs.declared.fault.Fault.TheVariants.{OutOfMemory};
 ghost use Rattle.sqz_trace.specs.Reachability.{IsReachability};
 
 use crate::gate::{Gate, Phase};
-use crate::marking::{Marked, Marking};
+use crate::marking::{MarkedMemory, Marking};
 use sqz_image::{Fault, Heap};
 use sqz_marks::Workers;
 use sqz_trace::Marks;
@@ -36,7 +36,7 @@ pub fn mark_locked<R: Threads + Wait + Sync, G: Gate>(
 }
 
 /// The same, where the heap has a name.
-fn mark_in_turns<M: Marked + Send + Sync, R: Threads + Wait + Sync, G: Gate>(
+fn mark_in_turns<M: MarkedMemory + Send + Sync, R: Threads + Wait + Sync, G: Gate>(
     rt: &R,
     alloc: Global,
     heap: &Heap,
@@ -61,7 +61,7 @@ fn mark_in_turns<M: Marked + Send + Sync, R: Threads + Wait + Sync, G: Gate>(
 }
 
 /// The turns of a worker.
-fn work<M: Marked, R: Wait, G: Gate>(
+fn work<M: MarkedMemory, R: Wait, G: Gate>(
     rt: &R,
     marking: &Mutex<Marking<M>>,
     heap: &Heap,

@@ -13,24 +13,24 @@ use std::alloc::Global;
 use std::marker::{Brand, Model, PhantomData};
 
 /// Names the object memory that is marked, since a lock tells no more of what is under it than its type.
-pub trait Marked {
+pub trait MarkedMemory {
     ghost memory: { Memory };
 }
 
-impl Marked for Brand {
+impl MarkedMemory for Brand {
     ghost memory = { record { order = Little; base = 0; special = 0; chunks = [] } };
 }
 
 /// How far the marking of an object memory has come. Each worker changes it by turns.
 #[derive(Drop)]
-pub(crate) struct Marking<M: Marked> {
+pub(crate) struct Marking<M: MarkedMemory> {
     shades: Shades,
     /// Grey objects, with room for all that are white yet.
     list: Vec<u32>,
     of: PhantomData<M>,
 }
 
-impl<M: Marked> Model for Marking<M> {
+impl<M: MarkedMemory> Model for Marking<M> {
     ghost use Rattle.std.specs.Prelude.{◌+◌, ◌≤◌, length, vec_capacity};
     ghost use Rattle.sqz_trace.specs.Shades.{AreLawfulOf};
     ghost use Rattle.sqz_trace.specs.Greying.{white_count};
@@ -44,7 +44,7 @@ impl<M: Marked> Model for Marking<M> {
         × (length marking.list.items + white_count marking.shades.items ≤ vec_capacity marking.list) };
 }
 
-impl<M: Marked> Marking<M> {
+impl<M: MarkedMemory> Marking<M> {
     /// The marking that begins: the special objects array is grey and alone in the list. Fails for want of memory alone.
     pub fn new(alloc: Global, heap: &Heap) -> Result<Marking<M>, Fault>
         requires { heap.now ≡ M.memory }

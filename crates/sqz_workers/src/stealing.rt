@@ -1,0 +1,226 @@
+//! Marking by workers that share the mark table and steal from each other's deques.
+
+ghost use Rattle.std.specs.Prelude.{◌≡◌, ℕ, ◌+◌, ◌<◌, ◌≤◌, length, sum, count_by, IfOk, IfErr};
+ghost use Rattle.std.specs.Thread.{IsSync};
+ghost use Rattle.sqz_image.specs.declared.fault.Fault.TheVariants.{OutOfMemory};
+ghost use Rattle.sqz_trace.specs.Reachability.{IsReachability};
+ghost use Rattle.sqz_regions.specs.Bases.{AreSums};
+ghost use Rattle.sqz_marks.specs.Table.{IsPassOf};
+ghost use Rattle.sqz_workers.specs.Gains.{HasGained};
+
+use crate::gate::Gate;
+use crate::rest::mark_rest;
+use crate::turns::take_turns;
+use crossbeam_deque::{Stealer, Worker};
+use sqz_image::{Fault, Heap};
+use sqz_marks::{MarkTable, Pass, Workers};
+use sqz_regions::{Regions, live_words};
+use sqz_trace::{Marks, finish};
+use std::alloc::{AllocError, Global};
+use std::thread::{Threads, join_mut};
+
+/// What marking gives.
+#[derive(Drop)]
+pub struct Marked {
+    /// The reachable objects.
+    pub marks: Marks,
+    /// For each region the sum of the lengths of its marked objects' chunks, in words.
+    pub live_words: Vec<u32>,
+    /// How many objects each worker won.
+    pub claims: Vec<u32>,
+    /// How many were won outside of the workers' turns, the special objects array among them.
+    pub finished: u32,
+}
+
+/// The reachable objects of a heap, marked by so many workers, each in a thread of its own where one can be started. In a
+/// turn a worker passes the gate, takes an object from its own deque or else from another's, and claims what that names.
+/// It leaves after 64 turns in a row that gave no object, or after four turns for each object and 4096 more; what is grey
+/// then is marked by the caller's thread. It never waits. Fails for want of memory alone.
+pub fn mark<R: Threads + Sync, G: Gate>(
+    rt: &R,
+    alloc: Global,
+    heap: &Heap,
+    regions: &Regions<'_>,
+    workers: Workers,
+    gate: &G,
+) -> Result<Marked, Fault>
+    requires { regions.now.memory ≡ heap.now }
+    ensures reachable { IfOk result (λ marked. IsReachability heap.now marked.marks) }
+    ensures sums { IfOk result (λ marked. AreSums regions.now marked.marks marked.live_words.items) }
+    ensures claims { IfOk result (λ marked. length marked.claims.items ≡ workers) }
+    ensures all { IfOk result (λ marked. sum marked.claims.items + marked.finished ≡ count_by (λ mark. mark) marked.marks) }
+    ensures refused { IfErr result (λ fault. fault ≡ OutOfMemory) }
+{
+    let count = workers.number() as usize;
+    let (mut deques, stealers) = deques_of(alloc, count)?;
+    let mut worklist = Vec::with_capacity(alloc, heap.len() as usize)?;
+    let mut claims = vec![in alloc; 0u64; count]?;
+    let (table, mut pass) = MarkTable::new(alloc, heap, regions, workers)?;
+    let _refused = deques[0].push(heap.special());
+    mark_by_shares(
+        rt,
+        heap,
+        &table,
+        &stealers,
+        gate,
+        0,
+        &mut pass,
+        &mut deques,
+        &mut claims,
+    );
+    mark_rest(heap, &table, &mut pass, &mut worklist);
+    let Ok(closed) = table.close(alloc, pass) else {
+        return Err(Fault::OutOfMemory);
+    };
+    let marks = finish(heap, closed.shades);
+    let (claims, finished) = counted(alloc, &claims, marks.count())?;
+    let live_words = live_words(alloc, heap, regions, &marks)?;
+    Ok(Marked {
+        marks,
+        live_words,
+        claims,
+        finished,
+    })
+}
+
+/// A deque for each worker, and what steals from it, in their order.
+fn deques_of(
+    alloc: Global,
+    count: usize,
+) -> Result<(Vec<Worker<u32>>, Vec<Stealer<u32>>), AllocError>
+    ensures { IfOk result (λ made. length made.0.items ≡ count) }
+{
+    let mut deques = Vec::with_capacity(alloc, count)?;
+    let mut stealers = Vec::with_capacity(alloc, count)?;
+    for _ in 0..count {
+        let deque = Worker::new_fifo(alloc, 1)?;
+        stealers.push(deque.stealer()?)?;
+        deques.push(deque)?;
+    }
+    Ok((deques, stealers))
+}
+
+/// The number of objects that each worker won, and how many of all marked ones no worker won.
+fn counted(alloc: Global, claims: &[u64], marked: u32) -> Result<(Vec<u32>, u32), AllocError>
+    requires { sum claims.now ≤ marked }
+    ensures claims { IfOk result (λ counts. counts.0.items ≡ claims.now) }
+    ensures rest { IfOk result (λ counts. sum claims.now + counts.1 ≡ marked) }
+{
+    let mut counts = Vec::with_capacity(alloc, claims.len())?;
+    let mut rest = marked;
+    for claim in claims {
+        let claim = *claim as u32;
+        counts.push(claim)?;
+        rest -= claim;
+    }
+    Ok((counts, rest))
+}
+
+/// Marks by as many workers as the pass has shares, each in a thread of its own where one can be started, and each with a
+/// deque and a place for the number of objects that it wins. The first of them has this number.
+#[cycle(halves)]
+fn mark_by_shares<R: Threads + Sync, G: Gate>(
+    rt: &R,
+    heap: &Heap,
+    table: &MarkTable<'_>,
+    stealers: &[Stealer<u32>],
+    gate: &G,
+    first: u32,
+    pass: &mut Pass,
+    deques: &mut [Worker<u32>],
+    claims: &mut [u64],
+)
+    requires heap { table.now.heap.memory ≡ heap.now }
+    requires of { IsPassOf table.now pass.old }
+    requires shares { pass.old.view.weight ≡ length claims.old }
+    requires deques { length deques.old ≡ length claims.old }
+    requires numbers { first + length claims.old ≤ 64 }
+    ensures gained { HasGained pass.old pass.new (sum claims.new) }
+    ensures sized { length claims.new ≡ length claims.old }
+{
+    let shares = pass.weight();
+    if shares == 1 {
+        claims[0] = take_turns(heap, table, pass, &mut deques[0], stealers, first, gate);
+        return;
+    }
+    let high = shares / 2;
+    let low = shares - high;
+    let mut part = table.split_off(pass, high);
+    let (low_claims, high_claims) = claims.split_at_mut(low as usize);
+    let (low_deques, high_deques) = deques.split_at_mut(low as usize);
+    let second = first + low;
+    mark_by_halves(
+        rt,
+        heap,
+        table,
+        stealers,
+        gate,
+        first,
+        pass,
+        low_deques,
+        low_claims,
+        second,
+        &mut part,
+        high_deques,
+        high_claims,
+    );
+    table.join_into(pass, part);
+}
+
+/// Marks by the workers of two passes at one time.
+#[cycle(halves)]
+fn mark_by_halves<R: Threads + Sync, G: Gate>(
+    rt: &R,
+    heap: &Heap,
+    table: &MarkTable<'_>,
+    stealers: &[Stealer<u32>],
+    gate: &G,
+    first: u32,
+    pass: &mut Pass,
+    deques: &mut [Worker<u32>],
+    claims: &mut [u64],
+    second: u32,
+    part: &mut Pass,
+    part_deques: &mut [Worker<u32>],
+    part_claims: &mut [u64],
+)
+    requires heap { table.now.heap.memory ≡ heap.now }
+    requires of { IsPassOf table.now pass.old }
+    requires shares { pass.old.view.weight ≡ length claims.old }
+    requires deques { length deques.old ≡ length claims.old }
+    requires numbers { first + length claims.old ≤ 64 }
+    requires some { 1 ≤ length claims.old }
+    requires part_of { IsPassOf table.now part.old }
+    requires part_shares { part.old.view.weight ≡ length part_claims.old }
+    requires part_deques { length part_deques.old ≡ length part_claims.old }
+    requires part_numbers { second + length part_claims.old ≤ 64 }
+    requires part_some { 1 ≤ length part_claims.old }
+    ensures gained { HasGained pass.old pass.new (sum claims.new) }
+    ensures sized { length claims.new ≡ length claims.old }
+    ensures part_gained { HasGained part.old part.new (sum part_claims.new) }
+    ensures part_sized { length part_claims.new ≡ length part_claims.old }
+{
+    let mut front = ||
+        requires { IsSync R.row × IsSync G.row × (table.now.heap.memory ≡ heap.now) × IsPassOf table.now pass.now × (pass.now.view.weight ≡ length claims.now)
+            × (length deques.now ≡ length claims.now) × (first + length claims.now ≤ 64) }
+        ensures { HasGained pass.entry.now pass.exit.now (sum claims.exit.now) × (length claims.exit.now ≡ length claims.entry.now) }
+    { mark_by_shares(rt, heap, table, stealers, gate, first, pass, deques, claims) };
+    let mut back = ||
+        requires { IsSync R.row × IsSync G.row × (table.now.heap.memory ≡ heap.now) × IsPassOf table.now part.now × (part.now.view.weight ≡ length part_claims.now)
+            × (length part_deques.now ≡ length part_claims.now) × (second + length part_claims.now ≤ 64) }
+        ensures { HasGained part.entry.now part.exit.now (sum part_claims.exit.now) × (length part_claims.exit.now ≡ length part_claims.entry.now) }
+    {
+        mark_by_shares(
+            rt,
+            heap,
+            table,
+            stealers,
+            gate,
+            second,
+            part,
+            part_deques,
+            part_claims,
+        )
+    };
+    join_mut(rt, &mut front, &mut back);
+}
