@@ -15,7 +15,6 @@ use sqz_image::{Fault, Sink};
 use sqz_workers::OpenGate;
 use std::alloc::Global;
 use std::rt::Files;
-use std::sync::Wait;
 use std::thread::Threads;
 
 /// Does all that the command line asks for, and answers what the program is to end with: 0 where the
@@ -27,7 +26,7 @@ use std::thread::Threads;
 /// the image is read. A file is made, or emptied, only when the first bytes of the answer are there. The census is
 /// printed on `out` once the image is written. A fault is printed as one line on `err`, and the help on `out`. Where `err`
 /// fails, or `out` at the help, the answer is the same.
-pub fn program<T: Files + Threads + Wait + Sync, C: Sink, E: Sink>(
+pub fn program<T: Files + Threads + Sync, C: Sink, E: Sink>(
     rt: &T,
     alloc: Global,
     words: &[String],

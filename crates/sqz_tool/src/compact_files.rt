@@ -17,7 +17,6 @@ use sqz_workers::Gate;
 use std::alloc::Global;
 use std::io::Read;
 use std::rt::Files;
-use std::sync::Wait;
 use std::thread::Threads;
 
 /// Compacts the image in one file into another, by the plan that a command line asks for, with workers that pass a gate.
@@ -26,7 +25,7 @@ use std::thread::Threads;
 /// Fails with `BadWorkers` or `BadCut` where there is no such plan, else as `run` does, with `ReadFailed` also where the
 /// image cannot be opened, and with `WriteFailed` also where the other file cannot be made. Unless it fails with
 /// `WriteFailed`, that file and `out` are then as they were.
-pub fn compact<'a, T: Files + Threads + Wait + Sync, C: Sink, G: Gate>(
+pub fn compact<'a, T: Files + Threads + Sync, C: Sink, G: Gate>(
     rt: &'a T,
     alloc: Global,
     arguments: &Arguments<'a>,
@@ -53,7 +52,7 @@ pub fn compact<'a, T: Files + Threads + Wait + Sync, C: Sink, G: Gate>(
 }
 
 /// A run over all that a reader has left. Fails as `run` does.
-fn compact_from<T: Threads + Wait + Sync, R: Read + Drop, W: Sink, C: Sink, G: Gate>(
+fn compact_from<T: Threads + Sync, R: Read + Drop, W: Sink, C: Sink, G: Gate>(
     rt: &T,
     alloc: Global,
     plan: &Plan,

@@ -14,12 +14,11 @@ use crate::summary::Summary;
 use sqz_census::{census, print};
 use sqz_image::laws::heap_bounds;
 use sqz_image::{Fault, Heap, Image};
-use sqz_regions::{Forward, Regions, bases, live_words};
+use sqz_regions::{Forward, Regions, bases};
 use sqz_slide::{Pieces, slide};
 use sqz_trace::{Marks, first_defect};
-use sqz_workers::{Gate, mark_locked};
+use sqz_workers::{Gate, mark};
 use std::alloc::Global;
-use std::sync::Wait;
 use std::thread::Threads;
 
 /// The data of a compacted image, and what its header says of them.
@@ -36,7 +35,7 @@ pub(crate) struct Compaction {
 
 /// The compaction of an image. Refused with the defect of the lowest reachable object that has one,
 /// else for want of memory alone.
-pub(crate) fn compaction_of<T: Threads + Wait + Sync, G: Gate>(
+pub(crate) fn compaction_of<T: Threads + Sync, G: Gate>(
     rt: &T,
     alloc: Global,
     plan: &Plan,
@@ -49,12 +48,13 @@ pub(crate) fn compaction_of<T: Threads + Wait + Sync, G: Gate>(
 {
     let heap = image.heap();
     heap_bounds(heap);
-    let marks = mark_locked(rt, alloc, heap, plan.workers, gate)?;
+    let regions = Regions::of(alloc, heap, &plan.cut)?;
+    let marked = mark(rt, alloc, heap, &regions, plan.workers, gate)?;
+    let marks = marked.marks;
     if let Some(fault) = first_defect(rt, heap, &marks) {
         return Err(fault);
     }
-    let regions = Regions::of(alloc, heap, &plan.cut)?;
-    let sums = live_words(alloc, heap, &regions, &marks)?;
+    let sums = marked.live_words;
     let bases = bases(alloc, heap.base(), &sums)?;
     let forward = Forward::build(rt, alloc, heap, &regions, &marks, &bases)?;
     let pieces = slide(rt, alloc, heap, &regions, &forward, plan.workers, gate)?;

@@ -9,7 +9,6 @@ use crate::summary::Summary;
 use sqz_image::{Fault, Sink, Source, read_all, read_image, write_all, write_image};
 use sqz_workers::Gate;
 use std::alloc::Global;
-use std::sync::Wait;
 use std::thread::Threads;
 
 /// Reads all of the source, finds the objects of the image that are reachable from its special objects
@@ -21,7 +20,7 @@ use std::thread::Threads;
 /// cannot be read, then `BadSpecialObjects`, then the defect of its lowest reachable object that has one.
 /// The sinks are then as they were. Refused with `WriteFailed` where one of them failed or took too little at a
 /// time: a front of the answer, perhaps all of it, then went out, and where it is all a front of the census.
-pub fn run<T: Threads + Wait + Sync, R: Source, W: Sink, C: Sink, G: Gate>(
+pub fn run<T: Threads + Sync, R: Source, W: Sink, C: Sink, G: Gate>(
     rt: &T,
     alloc: Global,
     plan: &Plan,

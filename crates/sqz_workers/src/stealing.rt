@@ -1,10 +1,11 @@
 //! Marking by workers that share the mark table and steal from each other's deques.
 
-ghost use Rattle.std.specs.Prelude.{◌≡◌, ℕ, ◌+◌, ◌<◌, ◌≤◌, length, sum, count_by, IfOk, IfErr};
+ghost use Rattle.std.specs.Prelude.{◌≡◌, ◌+◌, ◌*◌, ◌^◌, ◌≤◌, length, sum, count_by, IfOk, IfErr};
 ghost use Rattle.std.specs.Thread.{IsSync};
 ghost use Rattle.sqz_image.specs.declared.fault.Fault.TheVariants.{OutOfMemory};
 ghost use Rattle.sqz_trace.specs.Reachability.{IsReachability};
 ghost use Rattle.sqz_regions.specs.Bases.{AreSums};
+ghost use Rattle.sqz_regions.specs.Places.{live_words};
 ghost use Rattle.sqz_marks.specs.Table.{IsPassOf};
 ghost use Rattle.sqz_workers.specs.Gains.{HasGained};
 
@@ -47,6 +48,8 @@ pub fn mark<R: Threads + Sync, G: Gate>(
     requires { regions.now.memory ≡ heap.now }
     ensures reachable { IfOk result (λ marked. IsReachability heap.now marked.marks) }
     ensures sums { IfOk result (λ marked. AreSums regions.now marked.marks marked.live_words.items) }
+    ensures whole { IfOk result (λ marked. sum marked.live_words.items ≡ live_words heap.now marked.marks) }
+    ensures room { IfOk result (λ marked. heap.now.base + 4 * sum marked.live_words.items ≤ 2 ^ 32) }
     ensures claims { IfOk result (λ marked. length marked.claims.items ≡ workers) }
     ensures all { IfOk result (λ marked. sum marked.claims.items + marked.finished ≡ count_by (λ mark. mark) marked.marks) }
     ensures refused { IfErr result (λ fault. fault ≡ OutOfMemory) }

@@ -8,26 +8,26 @@ use Rattle.sqz_tool.proofs.compaction.compaction_of.Goals as goal
 
 pub unwrap-special-requires : goal.unwrap-special-requires
 unwrap-special-requires g c =
-    let marks = c.in_ok-marks.marks in
-    let special = place_of_special c.heap-heap.result.now marks c.special.result c.in_ok-marks.ensures.reachable c.special.ensures.special
+    let marks = c.in_ok-marked.marked.marks in
+    let special = place_of_special c.heap-heap.result.now marks c.special.result c.in_ok-marked.ensures.reachable c.special.ensures.special
     c.in_ok-forward.forward c.in_ok-forward.ensures.places c.special.ensures.inside in
     ap is_some (c.place.ensures.place ∙ special)
 
 pub overflow_mul-summary : goal.overflow_mul-summary
 overflow_mul-summary g c =
-    let le = live_words-le-words c.heap-heap.result.now c.in_ok-marks.marks c.in_ok-marks.ensures.reachable.reached.sized in
+    let le = live_words-le-words c.heap-heap.result.now c.in_ok-marked.marked.marks c.in_ok-marked.ensures.reachable.reached.sized in
     let live = rw c.deref-3.ensures.value at c.total.ensures in
-    omega (arith, live, c.in_ok-sums.ensures.whole, c.heap_bounds.ensures.words, le)
+    omega (arith, live, c.in_ok-marked.ensures.whole, c.heap_bounds.ensures.words, le)
 
 pub returns-clause-compaction : goal.returns-clause-compaction
 returns-clause-compaction g c =
     let image = c.args.image.now in
-    let marks = c.in_ok-marks.marks in
+    let marks = c.in_ok-marked.marked.marks in
     let is = c.heap-heap.ensures in
-    let reachable = rw is at c.in_ok-marks.ensures.reachable in
-    let words = c.in_ok-pieces.ensures.whole marks c.in_ok-forward.ensures.places c.in_ok-marks.ensures.reachable.reached.sized in
+    let reachable = rw is at c.in_ok-marked.ensures.reachable in
+    let words = c.in_ok-pieces.ensures.whole marks c.in_ok-forward.ensures.places c.in_ok-marked.ensures.reachable.reached.sized in
     let words = rw is at words in
-    let whole = rw is at c.in_ok-sums.ensures.whole in
+    let whole = rw is at c.in_ok-marked.ensures.whole in
     let found = rw is at c.special.ensures.special in
     let inside = rw is at c.special.ensures.inside in
     let places = rw is at c.in_ok-forward.ensures.places in
@@ -35,7 +35,7 @@ returns-clause-compaction g c =
     let kept = c.count.ensures ∙ sym (length-live image.memory marks reachable.reached.sized) in
     let le = live_words-le-words image.memory marks reachable.reached.sized in
     let live = (rw c.deref-3.ensures.value at c.total.ensures) ∙ whole in
-    let report = rw is at (c.in_ok-census.ensures.text c.in_ok-marks.ensures.reachable c.in_ok-forward.ensures.places) in
+    let report = rw is at (c.in_ok-census.ensures.text c.in_ok-marked.ensures.reachable c.in_ok-forward.ensures.places) in
     record {
       marks = marks;
       reachable = reachable;
