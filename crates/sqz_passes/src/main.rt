@@ -15,7 +15,6 @@ use std::alloc::Global;
 use std::env;
 use std::process::ExitCode;
 use std::rt::Files;
-use std::sync::Wait;
 use std::thread::Threads;
 use std::time::Clock;
 
@@ -23,7 +22,7 @@ use std::time::Clock;
 const BAD_ARGUMENTS: u8 = 2;
 
 /// The runs that a command line asks for.
-fn run<R: Files + Threads + Wait + Sync + Clock + Print>(
+fn run<R: Files + Threads + Sync + Clock + Print>(
     rt: &R,
     alloc: Global,
     arguments: &Arguments<'_>,

@@ -1,9 +1,7 @@
 //! The passes of a run, in their order.
 
-ghost use Rattle.std.specs.Prelude.{length};
 ghost use Rattle.std.specs.List.{AllByRecursion};
 ghost use Rattle.sqz_object.specs.Chunk.{IsChunk};
-ghost use Rattle.sqz_trace.specs.Reachability.{IsReachability};
 
 use crate::stopwatch::Stopwatch;
 use anyhow::Result;
@@ -11,14 +9,13 @@ use sqz_census::{census, print};
 use sqz_image::laws::heap_bounds;
 use sqz_image::{Image, ReadSource, WriteSink, read_all, read_image, write_image};
 use sqz_marks::Workers;
-use sqz_regions::{Cut, Forward, Regions, bases, live_words};
+use sqz_regions::{Cut, Forward, Regions, bases};
 use sqz_slide::slide;
-use sqz_trace::{Marks, first_defect};
-use sqz_workers::{OpenGate, mark_locked};
+use sqz_trace::first_defect;
+use sqz_workers::{OpenGate, mark};
 use std::alloc::Global;
 use std::fs::File;
 use std::rt::Files;
-use std::sync::Wait;
 use std::thread::Threads;
 use std::time::Clock;
 
@@ -35,14 +32,14 @@ pub(crate) struct Work<'a> {
 }
 
 /// Prints a line of the passes' names, and for each run a line of milliseconds.
-pub(crate) fn print_passes<R: Files + Threads + Wait + Sync + Clock + Print>(
+pub(crate) fn print_passes<R: Files + Threads + Sync + Clock + Print>(
     rt: &R,
     alloc: Global,
     work: &Work<'_>,
     runs: u32,
 ) -> Result<()> {
     let names = [
-        "read", "heap", "mark", "defects", "regions", "sums", "bases", "places", "slide", "census",
+        "read", "heap", "regions", "mark", "defects", "bases", "places", "slide", "census",
         "print", "write",
     ];
     for name in names {
@@ -57,7 +54,7 @@ pub(crate) fn print_passes<R: Files + Threads + Wait + Sync + Clock + Print>(
 }
 
 /// Prints how long each pass of one run takes.
-fn print_run<R: Files + Threads + Wait + Sync + Clock + Print>(
+fn print_run<R: Files + Threads + Sync + Clock + Print>(
     rt: &R,
     alloc: Global,
     work: &Work<'_>,
@@ -69,34 +66,32 @@ fn print_run<R: Files + Threads + Wait + Sync + Clock + Print>(
     let image = read_image(alloc, &bytes)?;
     drop(bytes);
     watch.lap(rt)?;
-    let marks = mark_locked(rt, alloc, image.heap(), work.workers, &OpenGate)?;
-    watch.lap(rt)?;
-    if let Some(fault) = first_defect(rt, image.heap(), &marks) {
-        return Err(fault.into());
-    }
-    watch.lap(rt)?;
-    print_moving(rt, alloc, work, &image, &marks, &mut watch)
+    print_compaction(rt, alloc, work, &image, &mut watch)
 }
 
-/// Prints how long the passes take behind marking.
-fn print_moving<R: Files + Threads + Sync + Clock + Print>(
+/// Prints how long the passes take behind reading. That of marking makes the sums too.
+fn print_compaction<R: Files + Threads + Sync + Clock + Print>(
     rt: &R,
     alloc: Global,
     work: &Work<'_>,
     image: &Image,
-    marks: &Marks,
     watch: &mut Stopwatch,
 ) -> Result<()>
-    requires chunks { AllByRecursion IsChunk image.now.memory.chunks }
-    requires reachable { IsReachability image.now.memory marks.now }
+    requires { AllByRecursion IsChunk image.now.memory.chunks }
 {
     let heap = image.heap();
     heap_bounds(heap);
     let regions = Regions::of(alloc, heap, &work.cut)?;
     watch.lap(rt)?;
-    let sums = live_words(alloc, heap, &regions, marks)?;
+    let marked = mark(rt, alloc, heap, &regions, work.workers, &OpenGate)?;
     watch.lap(rt)?;
-    let bases = bases(alloc, heap.base(), &sums)?;
+    if let Some(fault) = first_defect(rt, heap, &marked.marks) {
+        return Err(fault.into());
+    }
+    watch.lap(rt)?;
+    let marks = &marked.marks;
+    let sums = &marked.live_words;
+    let bases = bases(alloc, heap.base(), sums)?;
     watch.lap(rt)?;
     let forward = Forward::build(rt, alloc, heap, &regions, marks, &bases)?;
     watch.lap(rt)?;

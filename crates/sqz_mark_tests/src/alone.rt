@@ -1,0 +1,107 @@
+//! The mark table as a marker by itself: one pass and a list of objects.
+
+ghost use Rattle.std.specs.Prelude.{◌≡◌, ◌<◌, ℕ, IfOk, IfErr, OnOk, Some};
+ghost use Rattle.sqz_image.specs.declared.fault.Fault.TheVariants.{OutOfMemory};
+ghost use Rattle.sqz_image.specs.Objects.{object_count};
+ghost use Rattle.sqz_trace.specs.Edges.{HasEdge, named_in};
+ghost use Rattle.sqz_trace.specs.Shades.{AreLawfulOf};
+ghost use Rattle.sqz_marks.specs.Core.{HasSeen};
+ghost use Rattle.sqz_marks.specs.Table.{IsPassOf, IsSeenChunk};
+ghost use Rattle.sqz_mark_tests.specs.Passes.{AreSeen, ClaimsTargets};
+
+use super::images::IMAGES;
+use sqz_image::{Fault, Heap, Slot};
+use sqz_marks::{Claim, MarkTable, Pass, Workers};
+use sqz_regions::{Cut, Regions};
+use sqz_test_images::image_of;
+use sqz_trace::{Shade, Shades, TracedObject, mark_plain};
+use std::alloc::{AllocError, Global};
+use std::process::Abort;
+use std::test::Fail;
+
+/// Claims the object that a slot names, and adds it to a list where the pass won it.
+fn claim_target(
+    table: &MarkTable<'_>,
+    pass: &mut Pass,
+    parent: &TracedObject<'_>,
+    slot: Slot,
+    won: &mut Vec<u32>,
+) -> Result<(), AllocError>
+    requires of { IsPassOf table.now pass.old }
+    requires seen { IsSeenChunk table.now.heap.memory pass.old.view parent.now }
+    requires listed { AreSeen table.now.heap.memory pass.old.view won.old.items }
+    ensures { OnOk result (ClaimsTargets table.now.heap.memory (λ object. named_in table.now.heap.memory parent.now slot ≡ Some object)
+        pass.old pass.new won.new.items) }
+{
+    if let Claim::Won(found) = table.claim_of(pass, parent, slot) {
+        won.push(found)?;
+    }
+    Ok(())
+}
+
+/// Claims all objects that an object names, adds those to a list that the pass won, and makes the object black.
+pub(crate) fn mark_targets(
+    table: &MarkTable<'_>,
+    heap: &Heap,
+    pass: &mut Pass,
+    object: u32,
+    won: &mut Vec<u32>,
+) -> Result<(), AllocError>
+    requires memory { table.now.heap.memory ≡ heap.now }
+    requires of { IsPassOf table.now pass.old }
+    requires inside { object < object_count table.now.heap.memory }
+    requires seen { HasSeen pass.old.view object }
+    requires listed { AreSeen table.now.heap.memory pass.old.view won.old.items }
+    ensures { OnOk result (ClaimsTargets table.now.heap.memory (HasEdge table.now.heap.memory object) pass.old pass.new won.new.items) }
+{
+    let parent = TracedObject::of(heap, object);
+    claim_target(table, pass, &parent, Slot::ClassWord, won)?;
+    for k in 0..parent.traced() {
+        claim_target(table, pass, &parent, Slot::Field(k), won)?;
+    }
+    table.blacken(pass, object);
+    Ok(())
+}
+
+/// The shades of the objects of a heap when one worker has marked them. An object is won once at most, so the list is
+/// empty after as many turns as there are objects.
+fn mark_alone(alloc: Global, heap: &Heap, regions: &Regions<'_>) -> Result<Shades, Fault>
+    requires { regions.now.memory ≡ heap.now }
+    ensures lawful { IfOk result (λ shades. AreLawfulOf heap.now shades.items) }
+    ensures refused { IfErr result (λ fault. fault ≡ OutOfMemory) }
+{
+    let (table, mut pass) = MarkTable::new(alloc, heap, regions, Workers::new(1)?)?;
+    let mut won = Vec::new(alloc);
+    won.push(heap.special())?;
+    for _ in 0..heap.len() {
+        let Some(object) = won.pop() else { break };
+        mark_targets(&table, heap, &mut pass, object, &mut won)?;
+    }
+    match table.close(alloc, pass) {
+        Ok(closed) => Ok(closed.shades),
+        Err(_) => Err(Fault::OutOfMemory),
+    }
+}
+
+#[test]
+fn marks_what_mark_plain_marks(rt: HostRuntime) -> Result<(), Fail> {
+    for (words, special) in IMAGES {
+        assert!(rt; words.len() < 1000);
+        let image = image_of(rt.alloc(), words, special)?;
+        let heap = image.heap();
+        let cut = Cut::every(1)?;
+        let regions = Regions::of(rt.alloc(), heap, &cut)?;
+        let shades = mark_alone(rt.alloc(), heap, &regions)?;
+        let marks = mark_plain(rt.alloc(), heap)?;
+        assert_eq!(rt; shades.len(), heap.len() as usize);
+        for (object, shade) in shades.iter().enumerate() {
+            let wanted = if marks.has(object as u32) {
+                Shade::Black
+            } else {
+                Shade::White
+            };
+            assert_eq!(rt; *shade, wanted, "object {object} of {words:?}");
+        }
+    }
+    Ok(())
+}
