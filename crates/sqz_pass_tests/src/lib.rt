@@ -16,6 +16,8 @@ mod sliding_gates;
 #[cfg(test)]
 mod sliding_memory;
 #[cfg(test)]
+mod stealing;
+#[cfg(test)]
 mod tracing;
 #[cfg(test)]
 mod words;

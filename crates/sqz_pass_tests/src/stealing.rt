@@ -1,0 +1,203 @@
+//! Marking by workers who steal: what is marked, who won it, and who takes turns, as a gate sees it.
+
+ghost use Rattle.std.specs.Prelude.{◌≤◌, length};
+
+use super::gates::{Hold, MEETING, Turn, TurnGate, turn_of};
+use super::tracing::{DEAD_CYCLE_MARKS, flags_of};
+use sqz_image::Image;
+use sqz_marks::Workers;
+use sqz_regions::{Cut, Regions};
+use sqz_test_images::{DEAD_CYCLE, image_of};
+use sqz_workers::{Gate, Marked, OpenGate, Phase, mark};
+use std::alloc::{AllocError, Global};
+use std::process::Abort;
+use std::test::Fail;
+use std::thread::Threads;
+
+/// Which objects of an image are marked by so many workers, who pass a gate, and what else the marking gives.
+fn marked_by<R: Threads + Sync + AllocGlobal, G: Gate>(
+    rt: &R,
+    image: &Image,
+    cut: &Cut,
+    workers: u32,
+    gate: &G,
+) -> Result<(Vec<bool>, Marked), Fail> {
+    let heap = image.heap();
+    let workers = Workers::new(workers)?;
+    let regions = Regions::of(rt.alloc(), heap, cut)?;
+    let marked = mark(rt, rt.alloc(), heap, &regions, workers, gate)?;
+    let flags = flags_of(rt.alloc(), heap, &marked.marks)?;
+    Ok((flags, marked))
+}
+
+/// What the marking of an image of six objects gives, of which it asserts that the four reachable ones are marked.
+fn marked_dead_cycle<R: Threads + Sync + Abort + AllocGlobal, G: Gate>(
+    rt: &R,
+    cut: &Cut,
+    workers: u32,
+    gate: &G,
+) -> Result<Marked, Fail> {
+    let image = image_of(rt.alloc(), &DEAD_CYCLE, 0x1024)?;
+    let (flags, marked) = marked_by(rt, &image, cut, workers, gate)?;
+    assert_eq!(rt;
+        flags.as_slice(),
+        DEAD_CYCLE_MARKS.as_slice(),
+        "with {workers} workers"
+    );
+    Ok(marked)
+}
+
+/// How many objects were won, by the workers and outside of their turns.
+fn won(marked: &Marked) -> u64 {
+    let mut won = u64::from(marked.finished);
+    for claim in &marked.claims {
+        won = won.wrapping_add(u64::from(*claim));
+    }
+    won
+}
+
+/// Asserts what any number of workers give under a cut whose regions have these live words.
+fn assert_marked<R: Threads + Sync + Abort + AllocGlobal>(
+    rt: &R,
+    cut: &Cut,
+    live_words: &[u32],
+) -> Result<(), Fail> {
+    for workers in [1, 2, 64] {
+        let marked = marked_dead_cycle(rt, cut, workers, &OpenGate)?;
+        assert_eq!(rt;
+            marked.live_words.as_slice(),
+            live_words,
+            "with {workers} workers"
+        );
+        assert_eq!(rt; marked.claims.len(), workers as usize);
+        assert_eq!(rt; won(&marked), 4, "with {workers} workers");
+    }
+    Ok(())
+}
+
+/// Asserts that workers pass a gate, and win so many objects each.
+fn assert_claims<R: Threads + Sync + Abort + AllocGlobal>(
+    rt: &R,
+    gate: &TurnGate<'_>,
+    claims: &[u32],
+) -> Result<(), Fail>
+    requires { length claims.now ≤ 64 }
+{
+    let marked = marked_dead_cycle(rt, &Cut::every(1)?, claims.len() as u32, gate)?;
+    assert_eq!(rt; marked.claims.as_slice(), claims, "what each worker won");
+    assert_eq!(rt; marked.finished, 1, "the special objects array alone");
+    assert_eq!(rt; gate.out_of_order(), 0, "turns out of order");
+    Ok(())
+}
+
+#[test]
+fn live_words_of_each_region(rt: HostRuntime) -> Result<(), Fail> {
+    let of_one_word = [1, 2, 0, 0, 0, 2, 0, 0, 0, 3, 0, 0];
+    assert_marked(&rt, &Cut::every(1)?, &of_one_word)?;
+    assert_marked(&rt, &Cut::every(65536)?, &[8])?;
+    let cut = Cut::at([1, 3].to_vec(rt.alloc())?)?;
+    assert_marked(&rt, &cut, &[1, 2, 5])
+}
+
+/// A turn takes each of the four objects, and then 64 find none.
+#[test]
+fn worker_leaves_after_64_empty_turns(rt: HostRuntime) -> Result<(), Fail> {
+    let gate = TurnGate::new(Phase::Mark, &[]);
+    assert_claims(&rt, &gate, &[3])?;
+    assert_eq!(rt; gate.turns(0), 68, "turns of the worker");
+    Ok(())
+}
+
+/// The first worker, in whose deque the marking begins, is held at its first turn: the other one steals what is there, and
+/// marks all.
+#[test]
+fn worker_marks_all_while_the_first_is_held(rt: HostRuntime) -> Result<(), Fail> {
+    let holds = [Hold {
+        at: turn_of(0, 0),
+        until: turn_of(1, 67),
+    }];
+    let gate = TurnGate::new(Phase::Mark, &holds);
+    assert_claims(&rt, &gate, &[0, 3])?;
+    assert_eq!(rt; (gate.met(), gate.missed()), (1, 0), "holds");
+    assert_eq!(rt; (gate.turns(0), gate.turns(1)), (64, 68), "turns");
+    Ok(())
+}
+
+#[test]
+fn two_workers_mark_at_one_time(rt: HostRuntime) -> Result<(), Fail> {
+    let gate = TurnGate::new(Phase::Mark, &MEETING);
+    marked_dead_cycle(&rt, &Cut::every(1)?, 2, &gate)?;
+    assert_eq!(rt; (gate.met(), gate.missed()), (2, 0), "holds");
+    Ok(())
+}
+
+/// The turn at which a worker of a chain stops. The second worker stops a turn later, since it first takes the object at
+/// the lowest address, which names none.
+const fn stop_of(worker: u32) -> Turn {
+    turn_of(worker, if worker == 1 { 2 } else { 1 })
+}
+
+/// Each worker but the last stops until the last one has come to its turn 8, and each but the first begins when the one
+/// before it stops.
+fn chain_holds(alloc: Global, last: u32) -> Result<Vec<Hold>, AllocError>
+    requires { last ≤ 7 }
+{
+    let mut holds = Vec::new(alloc);
+    for worker in 0..last {
+        let stop = stop_of(worker);
+        holds.push(Hold {
+            at: stop,
+            until: turn_of(last, 8),
+        })?;
+        holds.push(Hold {
+            at: turn_of(worker + 1, 0),
+            until: stop,
+        })?;
+    }
+    Ok(holds)
+}
+
+/// An image in which so many objects and one more each name the next one, and the special objects array names the first.
+fn chain_image(alloc: Global, last: u32) -> Result<Image, Fail>
+    requires { last ≤ 7 }
+{
+    let mut words = Vec::from_slice(alloc, &[0x1007])?;
+    for object in 0..last {
+        words.extend_from_slice(&[0x110B, 0x100C + 8 * object])?;
+    }
+    words.extend_from_slice(&[0x110B, 1, 0x320F, 0x1000, 0x1004])?;
+    Ok(image_of(alloc, &words, 0x100C + 8 * last)?)
+}
+
+/// Asserts that in a chain of objects each worker steals one from the worker before it, and wins the next.
+fn assert_chain<R: Threads + Sync + Abort + AllocGlobal>(rt: &R, last: u32) -> Result<(), Fail>
+    requires { last ≤ 7 }
+{
+    let holds = chain_holds(rt.alloc(), last)?;
+    let gate = TurnGate::new(Phase::Mark, &holds);
+    let image = chain_image(rt.alloc(), last)?;
+    let (flags, marked) = marked_by(rt, &image, &Cut::every(1)?, last + 1, &gate)?;
+    assert!(rt; flags.iter().all(|flag| *flag), "all objects are marked");
+    assert_eq!(rt;
+        (gate.met(), gate.missed()),
+        (2 * u64::from(last), 0),
+        "holds"
+    );
+    let mut wanted = vec![in rt.alloc(); 2]?;
+    wanted.resize(last as usize + 1, 1)?;
+    assert_eq!(rt;
+        marked.claims.as_slice(),
+        wanted.as_slice(),
+        "what each worker won"
+    );
+    assert_eq!(rt; marked.finished, 1, "the special objects array alone");
+    Ok(())
+}
+
+#[test]
+fn workers_steal_along_a_chain(rt: HostRuntime) -> Result<(), Fail> {
+    for last in [1, 2, 7] {
+        assert_chain(&rt, last)?;
+    }
+    Ok(())
+}
