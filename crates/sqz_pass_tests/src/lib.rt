@@ -4,7 +4,11 @@
 #[cfg(test)]
 mod devices;
 #[cfg(test)]
+mod equal_marks;
+#[cfg(test)]
 mod gates;
+#[cfg(test)]
+mod images;
 #[cfg(test)]
 mod marking;
 #[cfg(test)]

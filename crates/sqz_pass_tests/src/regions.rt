@@ -3,6 +3,7 @@
 ghost use Rattle.std.specs.Prelude.{◌≡◌, length, IfOk};
 ghost use Rattle.sqz_image.specs.Objects.{object_count};
 
+use super::images::{FREE_AT_THE_END, LONG_HEADER, ONE_OBJECT};
 use sqz_image::{Heap, Image};
 use sqz_regions::{Cut, Forward, Regions, bases, live_words};
 use sqz_test_images::{DEAD_CYCLE, image_of};
@@ -108,10 +109,7 @@ fn dead_cycle(rt: HostRuntime) -> Result<(), Fail> {
 /// The third object has six words, of which three are header words.
 #[test]
 fn cut_points_inside_objects(rt: HostRuntime) -> Result<(), Fail> {
-    let words = [
-        0x1007, 0x320F, 1, 1, 0x10, 0x1000, 0x200, 1, 1, 1, 0x320F, 0x1000, 0x1018,
-    ];
-    let image = image_of(rt.alloc(), &words, 0x1028)?;
+    let image = image_of(rt.alloc(), &LONG_HEADER, 0x1028)?;
     let places = [Some(0x1000), None, Some(0x100C), Some(0x101C)];
     let bases = [0x1000, 0x1004, 0x101C, 0x101C];
     assert_places_at(&rt, &image, &[2, 6, 8], &[1, 6, 0, 3], &bases, &places)?;
@@ -129,7 +127,7 @@ fn cut_points_inside_objects(rt: HostRuntime) -> Result<(), Fail> {
 
 #[test]
 fn one_object(rt: HostRuntime) -> Result<(), Fail> {
-    let image = image_of(rt.alloc(), &[0x3207], 0x1000)?;
+    let image = image_of(rt.alloc(), &ONE_OBJECT, 0x1000)?;
     let places = [Some(0x1000)];
     assert_places_at(&rt, &image, &[1], &[1, 0], &[0x1000, 0x1004], &places)?;
     assert_places_at(&rt, &image, &[5], &[1, 0], &[0x1000, 0x1004], &places)
@@ -137,8 +135,7 @@ fn one_object(rt: HostRuntime) -> Result<(), Fail> {
 
 #[test]
 fn free_chunks_at_the_end(rt: HostRuntime) -> Result<(), Fail> {
-    let words = [0x1007, 0x320B, 0x1000, 6, 0xA, 1];
-    let image = image_of(rt.alloc(), &words, 0x1004)?;
+    let image = image_of(rt.alloc(), &FREE_AT_THE_END, 0x1004)?;
     let places = [Some(0x1000), Some(0x1004)];
     assert_places_at(&rt, &image, &[], &[3], &[0x1000], &places)?;
     let bases = [0x1000, 0x1004, 0x100C];

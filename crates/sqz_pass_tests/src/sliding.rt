@@ -3,6 +3,7 @@
 ghost use Rattle.std.specs.Prelude.{◌≡◌, ◌<◌, length};
 ghost use Rattle.sqz_image.specs.Objects.{object_count};
 
+use super::images::{CLASS_WORDS, ONE_DEAD};
 use super::regions::places_of;
 use sqz_image::{Heap, Image};
 use sqz_marks::Workers;
@@ -120,21 +121,17 @@ fn dead_cycle_in_three_pieces(rt: HostRuntime) -> Result<(), Fail> {
 
 #[test]
 fn region_of_dead_objects_alone(rt: HostRuntime) -> Result<(), Fail> {
-    let image = image_of(rt.alloc(), &[0x1007, 0x320F, 1, 1, 0x320B, 0x1000], 0x1010)?;
+    let image = image_of(rt.alloc(), &ONE_DEAD, 0x1010)?;
     let pieces = slid(&rt, &image, &[1, 4], 4, &OpenGate)?;
     assert_pieces(&rt, &pieces, &[1, 0, 2], &[0x1007, 0x320B, 0x1000])
 }
 
 #[test]
 fn class_words_and_headers_of_three_words(rt: HostRuntime) -> Result<(), Fail> {
-    let words = [
-        0x1007, 0x320F, 1, 1, 0x100B, 1, 0x1011, 0x109, 1, 8, 0x1010, 0x208, 0x101C, 0x320F,
-        0x1000, 0x102C,
-    ];
     let wanted = [
         0x1007, 0x100B, 1, 0x1005, 0x109, 1, 8, 0x1004, 0x208, 0x1010, 0x320F, 0x1000, 0x1020,
     ];
-    let image = image_of(rt.alloc(), &words, 0x1034)?;
+    let image = image_of(rt.alloc(), &CLASS_WORDS, 0x1034)?;
     let pieces = slid(&rt, &image, &[9], 2, &OpenGate)?;
     assert_pieces(&rt, &pieces, &[6, 7], &wanted)?;
     let one_by_one = moved_words(&rt, image.heap(), &Cut::every(1)?)?;

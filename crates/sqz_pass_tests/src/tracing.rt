@@ -3,6 +3,7 @@
 ghost use Rattle.std.specs.Prelude.{◌≡◌, length};
 ghost use Rattle.sqz_image.specs.Objects.{object_count};
 
+use super::images::{CLASS_WORD, CONTEXT_AND_METHOD, TWO_DEFECTS};
 use sqz_image::{Fault, Heap, Image, Slot};
 use sqz_test_images::{DEAD_CYCLE, image_of};
 use sqz_trace::{Marks, defect, finish, first_defect, first_shades, mark_plain, target, traced};
@@ -13,9 +14,6 @@ use std::thread::Threads;
 
 /// Which objects of the dead cycle's image are reachable.
 pub(crate) const DEAD_CYCLE_MARKS: [bool; 6] = [true, true, false, true, false, true];
-
-/// A word that is neither an integer nor an address.
-const ODD: u32 = 0xFFFF_FFFE;
 
 /// Which objects are marked.
 pub(crate) fn flags_of(alloc: Global, heap: &Heap, marks: &Marks) -> Result<Vec<bool>, AllocError>
@@ -84,10 +82,7 @@ fn marks_of_a_dead_cycle(rt: HostRuntime) -> Result<(), Fail> {
 
 #[test]
 fn targets_of_slots(rt: HostRuntime) -> Result<(), Fail> {
-    let words = [
-        0x1007, 0x320F, 1, 1, 0x100B, 1, 0x1011, 0x109, 1, 0x320F, 0x1000, 0x101C,
-    ];
-    let image = image_of(rt.alloc(), &words, 0x1024)?;
+    let image = image_of(rt.alloc(), &CLASS_WORD, 0x1024)?;
     let some = [
         (3, Slot::ClassWord, Some(2)),
         (3, Slot::Field(0), None),
@@ -101,14 +96,9 @@ fn targets_of_slots(rt: HostRuntime) -> Result<(), Fail> {
     Ok(())
 }
 
-/// A context up to the top of its stack, and a method with two literals.
 #[test]
 fn traced_fields(rt: HostRuntime) -> Result<(), Fail> {
-    let words = [
-        0x1007, 0xD32F, 0x1000, 1, 3, 0x1000, 0x1000, 0x1000, 0x1000, 1, 2, ODD, 0x5C17, 0x801,
-        0x1000, 0x1000, 0x100C, 0x320F, 0x1004, 0x1030,
-    ];
-    let image = image_of(rt.alloc(), &words, 0x1044)?;
+    let image = image_of(rt.alloc(), &CONTEXT_AND_METHOD, 0x1044)?;
     assert_traced(&rt, &image, 1, 7);
     assert_traced(&rt, &image, 2, 3);
     Ok(())
@@ -116,8 +106,7 @@ fn traced_fields(rt: HostRuntime) -> Result<(), Fail> {
 
 #[test]
 fn defects_of_two_objects(rt: HostRuntime) -> Result<(), Fail> {
-    let words = [0x1007, 0x320F, 0x1002, 0x1010, 0x10B, 1];
-    let image = image_of(rt.alloc(), &words, 0x1004)?;
+    let image = image_of(rt.alloc(), &TWO_DEFECTS, 0x1004)?;
     let bad_pointer = Fault::BadPointer {
         address: 0x1004,
         slot: Slot::Field(0),
