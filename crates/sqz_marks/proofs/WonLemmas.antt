@@ -64,8 +64,12 @@ upto-length count [] inside = nothing count
     nothing (suc count) = omega (arith, nothing count)
 upto-length count (object ∷ list) inside =
     elim (cases_lt object count) [
-      | inl lt ↦ omega (arith, upto-cons object list count, one_below object count lt,
-          upto-length count list (λ index le. omega (arith, inside index le, sum_by-cons (λ other. cond (eqb other index) 1 0) object list)))
+      | inl lt ↦ omega (
+        arith,
+        upto-cons object list count,
+        one_below object count lt,
+        upto-length count list (λ index le. omega (arith, inside index le, sum_by-cons (λ other. cond (eqb other index) 1 0) object list)),
+      )
       | inr ge ↦ absurd (let none = inside object ge in let some = times-same object list in omega (arith, none, some))
     ]
 
@@ -99,8 +103,11 @@ length-won shades list once =
   where
     both : sum_by wins shades ≡ count_by (λ shade. has_mark shade) shades
     both =
-        omega (arith, sum_by-le-sum_by wins (λ shade. cond (has_mark shade) 1 0) shades (λ shade. omega (arith, wins-mark shade)),
-        sum_by-le-sum_by (λ shade. cond (has_mark shade) 1 0) wins shades (λ shade. omega (arith, wins-mark shade)))
+        omega (
+          arith,
+          sum_by-le-sum_by wins (λ shade. cond (has_mark shade) 1 0) shades (λ shade. omega (arith, wins-mark shade)),
+          sum_by-le-sum_by (λ shade. cond (has_mark shade) 1 0) wins shades (λ shade. omega (arith, wins-mark shade)),
+        )
 
 -- where each marked object has a mark, there are as many marks at least
 abbrev count_marked : List Shade → ℕ
@@ -134,8 +141,13 @@ marks-le [] marks kept = omega arith
 marks-le (shade ∷ shades) [] kept =
     omega (arith, marked-cons shade shades, none_marked shade (kept 0), marks-le shades [] (λ index. kept (suc index)))
 marks-le (shade ∷ shades) (mark ∷ marks) kept =
-    omega (arith, marked-cons shade shades, marks-cons mark marks, mark_kept shade mark (kept 0),
-    marks-le shades marks (λ index. kept (suc index)))
+    omega (
+      arith,
+      marked-cons shade shades,
+      marks-cons mark marks,
+      mark_kept shade mark (kept 0),
+      marks-le shades marks (λ index. kept (suc index)),
+    )
 
 -- no more objects were won than are reachable
 pub length-won-le : (memory : Memory) (view : View) (shades : List Shade) (marks : List Bool) → AreClosed memory view shades
@@ -143,6 +155,9 @@ pub length-won-le : (memory : Memory) (view : View) (shades : List Shade) (marks
 length-won-le memory view shades marks closed reachable =
     let same : closed.lawful.start ≡ reachable.start = same_Some _ _ (sym closed.lawful.is_special ∙ reachable.is_special) in
     let lawful = subst (λ (start : ℕ). AreLawful (graph_from start memory) shades) same closed.lawful.lawful in
-    omega (arith, length-won shades view.won closed.once,
-    marks-le shades marks (λ index marked.
-    reachable.reached.complete index (lawful.sound index (is_marked-shade shades index ∙ marked))))
+    omega (
+      arith,
+      length-won shades view.won closed.once,
+      marks-le shades marks (λ index marked.
+          reachable.reached.complete index (lawful.sound index (is_marked-shade shades index ∙ marked))),
+    )

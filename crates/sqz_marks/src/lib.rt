@@ -1,4 +1,33 @@
 //! The mark table that workers share, and their passes.
+//!
+//! By itself it is a marker. Here one worker marks a heap with one pass and a list of the objects that it won; an object is
+//! won once at most, so there are no more turns than objects:
+//!
+//! ```text
+//! let (table, mut pass) = MarkTable::new(alloc, heap, &regions, Workers::new(1)?)?;
+//! let mut won = Vec::new(alloc);
+//! won.push(heap.special())?;
+//! for _ in 0..heap.len() {
+//!     let Some(object) = won.pop() else { break };
+//!     let parent = TracedObject::of(heap, object);
+//!     if let Claim::Won(found) = table.claim_of(&mut pass, &parent, Slot::ClassWord) {
+//!         won.push(found)?;
+//!     }
+//!     for k in 0..parent.traced() {
+//!         if let Claim::Won(found) = table.claim_of(&mut pass, &parent, Slot::Field(k)) {
+//!             won.push(found)?;
+//!         }
+//!     }
+//!     table.blacken(&mut pass, object);
+//! }
+//! match table.close(alloc, pass) {
+//!     Ok(closed) => Ok(closed.shades),
+//!     Err(_) => Err(Fault::OutOfMemory),
+//! }
+//! ```
+//!
+//! Several workers each take a part of the pass, by `split_off`, and give it back by `join_into`. The same, as a test that is
+//! proved, stands in `sqz_mark_tests` `alone`.
 #![tactic(auto)]
 
 mod claim;

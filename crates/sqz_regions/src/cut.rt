@@ -51,8 +51,8 @@ impl Cut {
         })
     }
 
-    /// Cuts at these words, which the program never asks for; no point is one region. Refused with `BadCut`, and the list is dropped, unless each is
-    /// above the one before, and none above 2^30.
+    /// Cuts at these words, which the program never asks for; no point is one region. Refused with `BadCut`, and the list is
+    /// dropped, unless each is above the one before, and none above 2^30.
     pub fn at(list: Vec<u32>) -> Result<Cut, Fault>
         ensures cut { IfOk result (λ cut. cut ≡ At list.items) }
         ensures refused { IfErr result (λ fault. fault ≡ BadCut) }

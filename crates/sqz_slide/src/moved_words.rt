@@ -11,8 +11,8 @@ use sqz_object::Kind;
 use sqz_regions::Forward;
 use sqz_trace::{named_by, traced_fields};
 
-/// Word `k` of the object's chunk after the move, header words counted; the program moves whole objects. A traced field that names an object
-/// with a place becomes this place, a class word too but for its low two bits; each other word stays.
+/// Word `k` of the object's chunk after the move, header words counted; the program moves whole objects. A traced field that
+/// names an object with a place becomes this place, a class word too but for its low two bits; each other word stays.
 pub fn moved_word(heap: &Heap, forward: &Forward, object: u32, k: u32) -> u32
     requires object { object < object_count heap.now }
     requires word { k < length (chunk_words heap.now object) }
