@@ -9,11 +9,11 @@ ghost use Rattle.sqz_marks.specs.Core.{HasSeen};
 ghost use Rattle.sqz_marks.specs.Table.{IsPassOf, IsSeenChunk};
 ghost use Rattle.sqz_mark_tests.specs.Passes.{AreSeen, ClaimsTargets};
 
-use super::images::IMAGES;
-use sqz_image::{Fault, Heap, Slot};
+use super::images::{IMAGES, Words};
+use sqz_image::{Fault, Heap, Slot, read_image};
 use sqz_marks::{Claim, MarkTable, Pass, Workers};
 use sqz_regions::{Cut, Regions};
-use sqz_test_images::image_of;
+use sqz_test_images::file_of;
 use sqz_trace::{Shade, Shades, TracedObject, mark_plain};
 use std::alloc::{AllocError, Global};
 use std::process::Abort;
@@ -85,9 +85,15 @@ fn mark_alone(alloc: Global, heap: &Heap, regions: &Regions<'_>) -> Result<Shade
 
 #[test]
 fn marks_what_mark_plain_marks(rt: HostRuntime) -> Result<(), Fail> {
-    for (words, special) in IMAGES {
+    for Words {
+        order,
+        base,
+        words,
+        special,
+    } in IMAGES {
         assert!(rt; words.len() < 1000);
-        let image = image_of(rt.alloc(), words, special)?;
+        let file = file_of(rt.alloc(), order, base, words, special)?;
+        let image = read_image(rt.alloc(), &file)?;
         let heap = image.heap();
         let cut = Cut::every(1)?;
         let regions = Regions::of(rt.alloc(), heap, &cut)?;
