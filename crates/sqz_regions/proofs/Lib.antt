@@ -6,3 +6,4 @@ pub mod RegionLemmas
 pub mod RisingLemmas
 pub mod SumLemmas
 pub mod EntryLemmas
+pub mod ListedLemmas

@@ -11,7 +11,7 @@ use Rattle.sqz_regions.specs.Places.{words_in, live_words_below, live_words}
 use Rattle.sqz_regions.proofs.MarkedLemmas.{marked_more_yes, marked_more_no, marked_all}
 use Rattle.sqz_regions.proofs.MarkedLemmas.{length-marked, length-marked_count}
 
-abbrev no_object : Object
+abbrev pub no_object : Object
 no_object = record { first = 0; chunk = [] }
 
 abbrev pub size : Object → ℕ

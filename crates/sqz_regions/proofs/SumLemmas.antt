@@ -19,7 +19,7 @@ use Rattle.sqz_regions.proofs.RisingLemmas.{marked_below, regions_rise}
 
 module _ {X : Type 0} (g : X → ℕ) where
   -- one item and the others
-  sum_by-filter-cons : (p : X → Bool) (x : X) (xs : List X)
+  pub sum_by-filter-cons : (p : X → Bool) (x : X) (xs : List X)
       → sum_by g (filter p (x ∷ xs)) ≡ cond (p x) (g x) 0 + sum_by g (filter p xs)
   sum_by-filter-cons p x xs = by_test (p x)
     where
@@ -68,7 +68,7 @@ words_in_if true chunk objects words le =
 words_in_if false chunk objects words le = omega (arith, words_in-moved_on (length chunk) objects)
 
 -- the objects have no more words than there are
-words_in-le-concat : (chunks : List (List ℕ)) → words_in (objects_of chunks) ≤ length (concat chunks)
+pub words_in-le-concat : (chunks : List (List ℕ)) → words_in (objects_of chunks) ≤ length (concat chunks)
 words_in-le-concat [] = omega arith
 words_in-le-concat (chunk ∷ chunks) =
     let words = length (concat chunks) in
