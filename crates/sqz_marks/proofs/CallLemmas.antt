@@ -1,19 +1,19 @@
 -- What the calls on the mark table owe at their steps, from what contracts see of the table and of the pass.
-use Rattle.std.proofs.Common.{◌≡◌, ℕ, ◌<◌, ◌≤◌, max, List, [], sym, ap, subst, ◌∙◌, arith}
+use Rattle.std.proofs.Common.{◌≡◌, ℕ, ◌+◌, ◌%◌, ◌^◌, ◌<◌, ◌≤◌, max, List, [], length, sym, ap, subst, ◌∙◌, arith}
 use mathlib.Core.Option.{none}
 use Rattle.std.specs.Prelude.{Some}
 use Rattle.atomic_table.specs.Table.{Me, step, Allows, Splits, Joins}
 use Rattle.atomic_table.specs.Seated.{TableId}
 use Rattle.sqz_image.specs.declared.fault.Slot.{Slot}
-use Rattle.sqz_image.specs.Objects.{objects, object_count, find}
+use Rattle.sqz_image.specs.Objects.{objects, object_count, chunk_words, find}
 use Rattle.sqz_image.proofs.ObjectLemmas.{find_in-lt}
 use Rattle.sqz_trace.specs.Edges.{named_in, target, HasEdge}
 use Rattle.sqz_trace.proofs.EdgeLemmas.{target-lt}
-use Rattle.sqz_regions.specs.Regions.{Regioning}
+use Rattle.sqz_regions.specs.Regions.{Regioning, region_at, region_count}
 use Rattle.sqz_marks.specs.declared.view.View.{View}
-use Rattle.sqz_marks.specs.Core.{HasSeen, kept_of, part_of, joined, spent}
-use Rattle.sqz_marks.specs.Table.{SharedMarks, HeldPass, IsPassOf, IsSeenChunk, IsKept, start_of, marking_in, Looked, Claimed, Blackened, Weighed}
-use Rattle.sqz_marks.proofs.StepLemmas.{look_allowed, claim_allowed, blacken_allowed, split_allowed, join_allowed, weigh_allowed}
+use Rattle.sqz_marks.specs.Core.{Marking, times, HasWon, HasSeen, kept_of, part_of, joined, spent}
+use Rattle.sqz_marks.specs.Table.{SharedMarks, HeldPass, IsPassOf, IsSeenChunk, IsKept, start_of, marking_in, Looked, Claimed, Counted, Blackened, Weighed}
+use Rattle.sqz_marks.proofs.StepLemmas.{look_allowed, claim_allowed, count_allowed, blacken_allowed, split_allowed, join_allowed, weigh_allowed}
 
 module _
     (marks : SharedMarks)
@@ -24,7 +24,7 @@ module _
     (key_workers workers pass_workers : ℕ)
     (is_marks : record { table = id; heap = heap; workers = workers } ≡ marks)
     (keyed : key ≡ heap)
-    (words : id.words ≡ object_count heap.memory)
+    (words : id.words ≡ object_count heap.memory + region_count heap.cut heap.memory)
     (seat : TableId)
     (number : ℕ)
     {S : Type 0}
@@ -42,7 +42,7 @@ module _
 
     module _ (object : ℕ) (inside : object < object_count marks.heap.memory) where
       in_words : object < id.words
-      in_words = subst (λ n. object < n) (sym (words ∙ ap (λ (m : SharedMarks). object_count m.heap.memory) is_marks)) inside
+      in_words = omega (arith, words, inside, ap (λ (m : SharedMarks). object_count m.heap.memory) is_marks)
 
       in_key : object < object_count key.memory
       in_key = subst (λ (h : Regioning). object < object_count h.memory) (sym same_heap) inside
@@ -83,12 +83,56 @@ module _
             record { inside = parent.inside; slot = slot; names = named }),
       )
 
+-- a count
+module _
+    (id : TableId)
+    (key heap self : Regioning)
+    (key_workers : ℕ)
+    (keyed : key ≡ heap)
+    (is_heap : heap ≡ self)
+    (words : id.words ≡ object_count heap.memory + region_count heap.cut heap.memory)
+    (seat : TableId)
+    (same : seat ≡ id)
+    (number : ℕ)
+    {S : Type 0}
+    (me : Me S View)
+    (object region : ℕ)
+  where
+    keyed_self : self ≡ key
+    keyed_self = sym (keyed ∙ is_heap)
+
+    pub count_owes : (word length_of : ℕ) → word ≡ object_count self.memory + region → region ≡ region_at self.cut self.memory object
+        → region < region_count self.cut self.memory → length_of ≡ length (chunk_words self.memory object)
+        → HasWon me.0 object → times object me.0.counted ≡ 0
+        → (seat ≡ id) × (word < id.words)
+        × Allows (IsKept (marking_in key key_workers) {S = S}) id.slots number me word (λ n. (n + length_of) % 2 ^ 64)
+        (Counted object (step id.slots word length_of 0 none) me)
+    count_owes word length_of at is_region inside long won new = (
+      same,
+      (let sizes = ap (λ (h : Regioning). object_count h.memory + region_count h.cut h.memory) is_heap in
+          omega (arith, words, at, inside, sizes)),
+      subst (λ w. Allows (IsKept marking {S = S}) id.slots number me w (λ n. (n + length_of) % 2 ^ 64) (Counted object (step id.slots w length_of 0 none) me))
+          (sym (at ∙ ap (λ r. object_count self.memory + r) is_region
+          ∙ ap (λ (h : Regioning). object_count h.memory + region_at h.cut h.memory object) keyed_self))
+          (subst (λ n. Allows (IsKept marking {S = S}) id.slots number me place (λ m. (m + n) % 2 ^ 64) (Counted object (step id.slots place n 0 none) me))
+          (sym (long ∙ ap (λ (h : Regioning). length (chunk_words h.memory object)) keyed_self))
+          (count_allowed marking id.slots number me object won new
+          (subst (λ (h : Regioning). region_at h.cut h.memory object < region_count h.cut h.memory) keyed_self
+          (subst (λ r. r < region_count self.cut self.memory) is_region inside)))),
+    )
+      where
+        marking : Marking
+        marking = marking_in key key_workers
+
+        place : ℕ
+        place = object_count key.memory + region_at key.cut key.memory object
+
 -- splits and joins load the first word, and there is one
 module _
     (id : TableId)
     (key heap : Regioning)
     (key_workers : ℕ)
-    (words : id.words ≡ object_count heap.memory)
+    (words : id.words ≡ object_count heap.memory + region_count heap.cut heap.memory)
     (special : find heap.memory heap.memory.special ≡ Some (start_of heap.memory))
     (seat : TableId)
     (same : seat ≡ id)

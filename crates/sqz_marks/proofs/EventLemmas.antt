@@ -1,8 +1,8 @@
 -- Each event leaves a lawful state lawful. The rule of the mark table and the law of legal runs both rest on these.
-use Rattle.std.proofs.Common.{◌≡◌, ◌≢◌, ◌⊎◌, ℕ, ◌+◌, ◌<◌, ◌≤◌, true, List, [], ◌∷◌, ◌++◌, length, set, get_or, refl, sym, ap, subst, ◌∙◌, arith, inl, inr}
+use Rattle.std.proofs.Common.{◌≡◌, ◌≢◌, ◌⊎◌, ℕ, ◌+◌, ◌<◌, ◌≤◌, true, List, [], ◌∷◌, ◌++◌, length, set, get_or, refl, sym, ap, subst, ◌∙◌, if◌then◌else◌, eq-eqb, ne_eqb, arith, inl, inr}
 use Rattle.std.proofs.lemmas.Bool.{cases_eq, cases_lt}
 use Rattle.std.proofs.lemmas.List.{length-set, get_or-set_same, get_or-set_other, get_or_append_left, get_or_push, get_or_past, length_push}
-use Rattle.std.proofs.lemmas.List.Sums.{sum_by-set, sum_by_push, get_or-le-sum_by}
+use Rattle.std.proofs.lemmas.List.Sums.{sum_by-set, sum_by_push, sum_by-cons, sum_by-append, get_or-le-sum_by}
 use Rattle.std.specs.List.{sum_by}
 use Rattle.sqz_trace.specs.declared.shades.Shade.{Shade}
 use Rattle.sqz_trace.specs.declared.shades.Shade.TheVariants.{White, Grey, Black}
@@ -12,12 +12,13 @@ use Rattle.sqz_trace.proofs.ReachabilityLemmas.{IsReachable-next}
 use Rattle.sqz_trace.proofs.ShadeLemmas.{grey-black, marked-by, marked-same, is_marked-shade}
 use Rattle.sqz_trace.proofs.LawLemmas.{AreLawful-set}
 use Rattle.sqz_marks.specs.declared.view.View.{View}
-use Rattle.sqz_marks.specs.Core.{Marking, State, HasSeen, HasBlackened, times, spent, pass_at, looked, claimed, greyed, blackened, kept_of, part_of, joined}
-use Rattle.sqz_marks.specs.Core.{Look, Claim, Blacken, Split, Join, after}
-use Rattle.sqz_marks.specs.Lawful.{KnowsTruth, IsLawful, wins}
+use Rattle.sqz_marks.specs.Core.{Marking, State, HasWon, HasSeen, HasBlackened, times, spent, pass_at, looked, claimed, greyed, grown}
+use Rattle.sqz_marks.specs.Core.{seen_by, won_by, counted, blackened, kept_of, part_of, joined}
+use Rattle.sqz_marks.specs.Core.{Look, Claim, Count, Blacken, Split, Join, after}
+use Rattle.sqz_marks.specs.Lawful.{KnowsTruth, AreCounted, IsLawful, wins, words_at, words_listed, total_counted}
 use Rattle.sqz_marks.proofs.TimesLemmas.{times-same, times-other, times-more, times-append}
 use Rattle.sqz_marks.proofs.ViewLemmas.{AreDarker, AreDarker-same, weight-seen, KnowsTruth-darker, KnowsTruth-spent, KnowsTruth-part}
-use Rattle.sqz_marks.proofs.ViewLemmas.{KnowsTruth-seen, KnowsTruth-won, KnowsTruth-blackened, KnowsTruth-kept, KnowsTruth-joined}
+use Rattle.sqz_marks.proofs.ViewLemmas.{KnowsTruth-seen, KnowsTruth-won, KnowsTruth-counted, KnowsTruth-blackened, KnowsTruth-kept, KnowsTruth-joined}
 
 -- shades of which one object got another shade
 module _ (shades : List Shade) (object : ℕ) (shade : Shade) (inside : object < length shades) where
@@ -51,14 +52,33 @@ module _ (marking : Marking) (state : State) (pass : ℕ) (inside : pass < lengt
   its : KnowsTruth state.shades view
   its = lawful.truth pass
 
+  -- one pass knows of other words counted in a region
+  total-changed : (now : View) (region : ℕ)
+      → total_counted marking (set passes pass now) region + words_listed marking region view.counted
+      ≡ total_counted marking passes region + words_listed marking region now.counted
+  total-changed now region = sum_by-set (λ v. words_listed marking region v.counted) passes pass now spent inside
+
+  -- or of the same
+  AreCounted-same : (shades : List Shade) (now : View) → now.counted ≡ view.counted
+      → AreCounted marking record { shades = shades; sums = state.sums; passes = set passes pass now }
+  AreCounted-same shades now same =
+      record {
+        sized = lawful.sums.sized;
+        each = λ region lt.
+            let words : words_listed marking region now.counted ≡ words_listed marking region view.counted =
+            ap (words_listed marking region) same in
+            omega (arith, lawful.sums.each region lt, total-changed now region, words);
+      }
+
   -- one pass learned something, and objects got darker
-  pub IsLawful-changed : (shades : List Shade) (now : View) → AreLawful marking.graph shades → AreDarker state.shades shades
+  pub IsLawful-changed : (shades : List Shade) (sums : List ℕ) (now : View) → AreLawful marking.graph shades → AreDarker state.shades shades
       → KnowsTruth shades now → now.weight ≡ view.weight
       → ((object : ℕ) → times object now.won + wins (shade_at state.shades object) ≡ times object view.won + wins (shade_at shades object))
       → ((object : ℕ) → times object view.blackened ≤ times object now.blackened)
       → ((object : ℕ) → shade_at shades object ≡ Black → (shade_at state.shades object ≡ Black) ⊎ HasBlackened now object)
-      → IsLawful marking record { shades = shades; passes = set passes pass now }
-  IsLawful-changed shades now law darker truth weight won grows black =
+      → AreCounted marking record { shades = shades; sums = sums; passes = set passes pass now }
+      → IsLawful marking record { shades = shades; sums = sums; passes = set passes pass now }
+  IsLawful-changed shades sums now law darker truth weight won grows black are_sums =
       record {
         shades = law;
         won = λ object.
@@ -77,39 +97,41 @@ module _ (marking : Marking) (state : State) (pass : ℕ) (inside : pass < lengt
           | inr differs ↦ subst (KnowsTruth shades) (sym (get_or-set_other passes pass other now spent differs))
               (KnowsTruth-darker state.shades shades (pass_at passes other) darker (lawful.truth other))
         ];
+        sums = are_sums;
         weights =
             let total = sum_by-set (λ v. v.weight) passes pass now spent inside in omega (arith, lawful.weights, total, weight);
       }
 
   -- a look at an object
-  pub IsLawful-look : (object : ℕ) → 1 ≤ view.weight → IsLawful marking (after state pass (Look object))
+  pub IsLawful-look : (object : ℕ) → 1 ≤ view.weight → IsLawful marking (after marking state pass (Look object))
   IsLawful-look object weight = by_shade (shade_at state.shades object) refl
     where
       same : (object : ℕ) → (shade : Shade) → shade_at state.shades object ≡ shade → has_mark shade ≡ true → is_marked (marks_of state.shades) object ≡ true
       same object shade is marked = marked-by state.shades object shade is marked
 
-      known : (now : View) → KnowsTruth state.shades now → now.weight ≡ view.weight → now.won ≡ view.won
+      known : (now : View) → KnowsTruth state.shades now → now.weight ≡ view.weight → now.won ≡ view.won → now.counted ≡ view.counted
           → ((object : ℕ) → times object view.blackened ≤ times object now.blackened)
-          → IsLawful marking record { shades = state.shades; passes = set passes pass now }
-      known now truth weight won grows =
-          IsLawful-changed state.shades now lawful.shades (AreDarker-same state.shades) truth weight
+          → IsLawful marking record { shades = state.shades; sums = state.sums; passes = set passes pass now }
+      known now truth weight won counted grows =
+          IsLawful-changed state.shades state.sums now lawful.shades (AreDarker-same state.shades) truth weight
           (λ other. ap (λ list. times other list + wins (shade_at state.shades other)) won) grows (λ other black. inl black)
+          (AreCounted-same state.shades now counted)
 
       by_shade : (shade : Shade) → shade_at state.shades object ≡ shade
-          → IsLawful marking record { shades = state.shades; passes = set passes pass (looked object shade view) }
-      by_shade White is = known view its refl refl (λ other. omega arith)
+          → IsLawful marking record { shades = state.shades; sums = state.sums; passes = set passes pass (looked object shade view) }
+      by_shade White is = known view its refl refl refl (λ other. omega arith)
       by_shade Grey is =
-          known (claimed object Grey view) (KnowsTruth-seen state.shades view its object weight (same object Grey is refl)) refl refl
+          known (seen_by object view) (KnowsTruth-seen state.shades view its object weight (same object Grey is refl)) refl refl refl
           (λ other. omega arith)
       by_shade Black is =
           known (looked object Black view)
-          (KnowsTruth-blackened state.shades (claimed object Grey view)
+          (KnowsTruth-blackened state.shades (seen_by object view)
           (KnowsTruth-seen state.shades view its object weight (same object Black is refl)) object weight is)
-          refl refl (λ other. times-more other object view.blackened)
+          refl refl refl (λ other. times-more other object view.blackened)
 
   -- a claim of an object
   pub IsLawful-claim : (parent object : ℕ) → HasSeen view parent → object < marking.graph.count → marking.graph.Edge parent object
-      → IsLawful marking (after state pass (Claim parent object))
+      → IsLawful marking (after marking state pass (Claim parent object))
   IsLawful-claim parent object seen lt edge = by_shade (shade_at state.shades object) refl
     where
       old : List Shade
@@ -156,9 +178,9 @@ module _ (marking : Marking) (state : State) (pass : ℕ) (inside : pass < lengt
           ]
 
       found : (shade : Shade) → shade_at old object ≡ shade → greyed shade ≡ shade
-          → IsLawful marking record { shades = set old object (greyed shade); passes = set passes pass (claimed object Grey view) }
+          → IsLawful marking record { shades = set old object (greyed shade); sums = state.sums; passes = set passes pass (seen_by object view) }
       found shade is stays =
-          IsLawful-changed (set old object (greyed shade)) (claimed object Grey view) (law shade is) (darker shade is)
+          IsLawful-changed (set old object (greyed shade)) state.sums (seen_by object view) (law shade is) (darker shade is)
           (KnowsTruth-seen (set old object (greyed shade)) view
           (KnowsTruth-darker old (set old object (greyed shade)) view (darker shade is) its) object weight (marked shade is))
           refl
@@ -169,11 +191,12 @@ module _ (marking : Marking) (state : State) (pass : ℕ) (inside : pass < lengt
           ])))
           (λ other. omega arith)
           (λ other is_black. inl (stays_black shade is other is_black))
+          (AreCounted-same (set old object (greyed shade)) (seen_by object view) refl)
 
       by_shade : (shade : Shade) → shade_at old object ≡ shade
-          → IsLawful marking record { shades = set old object (greyed shade); passes = set passes pass (claimed object shade view) }
+          → IsLawful marking record { shades = set old object (greyed shade); sums = state.sums; passes = set passes pass (claimed object shade view) }
       by_shade White is =
-          IsLawful-changed (set old object Grey) (claimed object White view) (law White is) (darker White is)
+          IsLawful-changed (set old object Grey) state.sums (won_by object view) (law White is) (darker White is)
           (KnowsTruth-won (set old object Grey) view
           (KnowsTruth-darker old (set old object Grey) view (darker White is) its) object weight (marked White is))
           refl
@@ -190,15 +213,55 @@ module _ (marking : Marking) (state : State) (pass : ℕ) (inside : pass < lengt
           ])
           (λ other. omega arith)
           (λ other is_black. inl (stays_black White is other is_black))
+          (AreCounted-same (set old object Grey) (won_by object view) refl)
       by_shade Grey is = found Grey is refl
       by_shade Black is = found Black is refl
+
+  -- an object that the pass won is counted
+  pub IsLawful-count : (object : ℕ) → HasWon view object → times object view.counted ≡ 0 → IsLawful marking (after marking state pass (Count object))
+  IsLawful-count object won new =
+      IsLawful-changed state.shades sums (counted object view) lawful.shades (AreDarker-same state.shades)
+      (KnowsTruth-counted state.shades view its object won new (weight-seen state.shades view object its (its.won object won)))
+      refl (λ other. refl) (λ other. omega arith) (λ other black. inl black)
+      record {
+        sized = length-set state.sums at (get_or state.sums at 0 + marking.words object) ∙ lawful.sums.sized;
+        each = λ region lt. elim (cases_eq region at) [
+          | inl same ↦ subst (λ (r : ℕ). get_or sums r 0 ≡ total_counted marking (set passes pass (counted object view)) r) (sym same)
+              (here (subst (λ (r : ℕ). r < marking.regions) same lt))
+          | inr differs ↦
+              (let none = words_at-other region differs in
+              let other = get_or-set_other state.sums at region (get_or state.sums at 0 + marking.words object) 0 differs in
+              omega (arith, lawful.sums.each region lt, total-changed (counted object view) region, more region, none, other))
+        ];
+      }
+    where
+      at : ℕ
+      at = marking.region object
+
+      sums : List ℕ
+      sums = grown state.sums at (marking.words object)
+
+      more : (region : ℕ) → words_listed marking region (object ∷ view.counted)
+          ≡ words_at marking region object + words_listed marking region view.counted
+      more region = sum_by-cons (words_at marking region) object view.counted
+
+      words_at-same : words_at marking at object ≡ marking.words object
+      words_at-same = ap (λ b. if b then marking.words object else 0) (eq-eqb at at refl)
+
+      words_at-other : (region : ℕ) → region ≢ at → words_at marking region object ≡ 0
+      words_at-other region differs = ap (λ b. if b then marking.words object else 0) (ne_eqb at region (λ same. differs (sym same)))
+
+      here : at < marking.regions → get_or sums at 0 ≡ total_counted marking (set passes pass (counted object view)) at
+      here lt =
+          let set = get_or-set_same state.sums at (get_or state.sums at 0 + marking.words object) 0 (omega (arith, lt, lawful.sums.sized)) in
+          omega (arith, set, lawful.sums.each at lt, total-changed (counted object view) at, more at, words_at-same)
 
   -- an object becomes black
   pub IsLawful-blacken : (object : ℕ) → HasSeen view object → object < marking.graph.count
       → ((target : ℕ) → marking.graph.Edge object target → HasSeen view target)
-      → IsLawful marking (after state pass (Blacken object))
+      → IsLawful marking (after marking state pass (Blacken object))
   IsLawful-blacken object seen lt targets =
-      IsLawful-changed (set old object Black) (blackened object view)
+      IsLawful-changed (set old object Black) state.sums (blackened object view)
       (AreLawful-set marking.graph object Black old lawful.shades within refl (lawful.shades.sound object marked)
       (λ e to edge. its.seen to (targets to edge)))
       darker
@@ -216,6 +279,7 @@ module _ (marking : Marking) (state : State) (pass : ℕ) (inside : pass < lengt
         | inl same ↦ inr (subst (λ (o : ℕ). 0 < times o (object ∷ view.blackened)) (sym same) (omega (arith, times-same object view.blackened)))
         | inr differs ↦ inl (sym (shade-other old object Black within other differs) ∙ black)
       ])
+      (AreCounted-same (set old object Black) (blackened object view) refl)
     where
       old : List Shade
       old = state.shades
@@ -235,7 +299,7 @@ module _ (marking : Marking) (state : State) (pass : ℕ) (inside : pass < lengt
       won_once Black e = refl
 
   -- a pass gives a part of its weight to a new one
-  pub IsLawful-split : (weight : ℕ) → 1 ≤ weight → weight < view.weight → IsLawful marking (after state pass (Split weight))
+  pub IsLawful-split : (weight : ℕ) → 1 ≤ weight → weight < view.weight → IsLawful marking (after marking state pass (Split weight))
   IsLawful-split weight some below =
       record {
         shades = lawful.shades;
@@ -256,6 +320,13 @@ module _ (marking : Marking) (state : State) (pass : ℕ) (inside : pass < lengt
                 (KnowsTruth-spent state.shades)
           ]
         ];
+        sums =
+            record {
+              sized = lawful.sums.sized;
+              each = λ region lt.
+                  let push = sum_by_push (λ v. words_listed marking region v.counted) rest (part_of weight) in
+                  omega (arith, push, total-changed (kept_of weight view) region, lawful.sums.each region lt);
+            };
         weights =
             let push = sum_by_push (λ v. v.weight) rest (part_of weight) in
             let total = sum_by-set (λ v. v.weight) passes pass (kept_of weight view) spent inside in
@@ -283,7 +354,7 @@ module _ (marking : Marking) (state : State) (pass : ℕ) (inside : pass < lengt
 
   -- a pass takes in another
   pub IsLawful-join : (other : ℕ) → other ≢ pass → other < length passes → 1 ≤ (pass_at passes other).weight
-      → IsLawful marking (after state pass (Join other))
+      → IsLawful marking (after marking state pass (Join other))
   IsLawful-join other differs lt weight =
       record {
         shades = lawful.shades;
@@ -296,6 +367,14 @@ module _ (marking : Marking) (state : State) (pass : ℕ) (inside : pass < lengt
               (sym (ap (pass_at (set one other spent)) same ∙ get_or-set_same one other spent spent in_one)) (KnowsTruth-spent state.shades)
           | inr third_differs ↦ subst (KnowsTruth state.shades) (sym (get_or-set_other one other third spent spent third_differs)) (of_one third)
         ];
+        sums =
+            record {
+              sized = lawful.sums.sized;
+              each = λ region lt.
+                  lawful.sums.each region lt
+                  ∙ sym (of_total (λ v. words_listed marking region v.counted) refl
+                  (sum_by-append (words_at marking region) view.counted theirs.counted));
+            };
         weights = of_total (λ v. v.weight) refl refl ∙ lawful.weights;
       } where
         theirs : View

@@ -1,47 +1,106 @@
 -- The rule of the mark table when it is made and when it is closed.
-use Rattle.std.proofs.Common.{◌≡◌, ℕ, zero, suc, ◌<◌, ◌≤◌, if◌then◌else◌, ltb, List, [], ◌∷◌, length, map, set, Some, refl, sym, ap, subst, ◌∙◌, arith, inl, inr}
+use Rattle.std.proofs.Common.{◌≡◌, ℕ, zero, suc, ◌+◌, ◌-◌, ◌^◌, ◌<◌, ◌≤◌, if◌then◌else◌, cond, ltb, List, [], ◌∷◌, ◌++◌, length, map, take, set, get_or, Some}
+use Rattle.std.proofs.Common.{refl, sym, ap, subst, ◌∙◌, arith, inl, inr}
 use mathlib.Core.Option.{some}
 use lib.ListN.{get_elem?}
 use Rattle.std.specs.Prelude.{replicate}
-use Rattle.std.specs.List.{sum_by}
+use Rattle.std.specs.List.{concat, sum_by}
 use Rattle.std.proofs.lemmas.Bool.{lt-ltb, cases_eq}
-use Rattle.std.proofs.lemmas.List.{map-set, get_or-set_same, get_or-set_other}
+use Rattle.std.proofs.lemmas.List.{map-set, get_or-set_same, get_or-set_other, length-map, length-set, length-replicate}
+use Rattle.std.proofs.lemmas.List.{replicate-append-replicate, set-append_left, set-append_right}
+use Rattle.std.proofs.Math.Seq.{take-append_seam}
 use Rattle.std.proofs.lemmas.List.Sums.{sum_by-set, sum_by-cons}
 use Rattle.atomic_table.specs.Table.{State}
 use Rattle.atomic_table.specs.Table.{opening as opening_of}
-use Rattle.sqz_image.specs.Objects.{objects, object_count, find}
+use Rattle.sqz_image.specs.Objects.{objects, object_count, chunk_words, find}
 use Rattle.sqz_image.proofs.ObjectLemmas.{find_in-lt}
 use Rattle.sqz_trace.specs.declared.shades.Shade.{Shade}
 use Rattle.sqz_trace.specs.declared.shades.Shade.TheVariants.{White, Grey, Black}
-use Rattle.sqz_trace.specs.Shades.{shade_at}
-use Rattle.sqz_trace.proofs.ShadeLemmas.{white-black, grey-black}
-use Rattle.sqz_regions.specs.Regions.{Regioning}
+use Rattle.sqz_trace.specs.Graph.{is_marked}
+use Rattle.sqz_trace.specs.Shades.{shade_at, has_mark, marks_of}
+use Rattle.sqz_trace.proofs.ShadeLemmas.{white-black, grey-black, is_marked-shade}
+use Rattle.sqz_regions.specs.Regions.{Regioning, region_at, region_count, words_at}
+use Rattle.sqz_regions.specs.Bases.{AreSums}
+use Rattle.sqz_regions.proofs.ListedLemmas.{live_words_in-listed, sum_by-lists-le, upto-words-le}
+use Rattle.sqz_marks.proofs.RunLemmas.{none_at}
 use Rattle.sqz_marks.specs.declared.view.View.{View}
-use Rattle.sqz_marks.specs.Core.{Marking, times, spent, pass_at, first_view}
-use Rattle.sqz_marks.specs.Lawful.{KnowsTruth, wins}
-use Rattle.sqz_marks.specs.Table.{number_of, shade_of, IsKept, marking_in, start_of, shade_known, AreClosed}
+use Rattle.sqz_marks.specs.Core.{Marking, times, spent, pass_at, first_view, grown}
+use Rattle.sqz_marks.specs.Lawful.{KnowsTruth, wins, words_listed}
+use Rattle.sqz_marks.specs.Table.{number_of, shade_of, HasFewWords, HasCountedAll, IsKept, marking_in, start_of, shade_known, AreClosed}
 use Rattle.sqz_marks.proofs.RunLemmas.{IsLawful-opening}
-use Rattle.sqz_marks.proofs.StepLemmas.{inside_at, item_at, shade_of-number}
+use Rattle.sqz_marks.proofs.StepLemmas.{inside_at, item_at, shade_of-number, sized, sum_is}
+use Rattle.sqz_marks.proofs.CountLemmas.{total_counted-few}
+use Rattle.sqz_marks.proofs.WonLemmas.{wins-mark}
 
--- it holds where the word of the special objects array is 1 and each other 0
+-- the data words of a heap are few
+pub HasFewWords-heap : (heap : Regioning) (workers : ℕ) → length (concat heap.memory.chunks) < 2 ^ 30 → HasFewWords (marking_in heap workers)
+HasFewWords-heap heap workers few region list once inside =
+    let le = sum_by-lists-le (λ (l : List ℕ). l) (words_at heap.cut heap.memory region) (list ∷ []) (object_count heap.memory)
+    (λ object. omega (arith, once object)) (λ object past. omega (arith, inside object past)) in
+    omega (arith, le, upto-words-le heap.cut heap.memory region, few)
+
+-- it holds where the word of the special objects array is 1, that of its region its length, and each other 0
 pub IsKept-opening : (heap : Regioning) (workers : ℕ) (words : List ℕ)
-    → find heap.memory heap.memory.special ≡ Some (start_of heap.memory) → 1 ≤ workers → workers ≤ 64
-    → words ≡ set (replicate (object_count heap.memory) 0) (start_of heap.memory) 1
+    → find heap.memory heap.memory.special ≡ Some (start_of heap.memory) → 1 ≤ workers → workers ≤ 64 → HasFewWords (marking_in heap workers)
+    → words ≡ set (set (replicate (object_count heap.memory + region_count heap.cut heap.memory) 0) (start_of heap.memory) 1)
+    (object_count heap.memory + region_at heap.cut heap.memory (start_of heap.memory)) (length (chunk_words heap.memory (start_of heap.memory)))
     → {S : Type 0} → IsKept (marking_in heap workers) (opening_of {S = S} words [] (first_view workers (start_of heap.memory)))
-IsKept-opening heap workers words special positive few are =
+IsKept-opening heap workers words special positive few few_words are =
     record {
-      shades = set (replicate (object_count heap.memory) White) (start_of heap.memory) Grey;
-      words =
-          are ∙ ap (λ (ws : List ℕ). set ws (start_of heap.memory) 1) (sym (zeros (object_count heap.memory)))
-          ∙ sym (map-set number_of (replicate (object_count heap.memory) White) (start_of heap.memory) Grey);
-      lawful =
-          IsLawful-opening (marking_in heap workers)
-          (find_in-lt heap.memory.base (objects heap.memory) heap.memory.special (start_of heap.memory) special) positive;
+      shades = shades;
+      sums = sums;
+      words = are ∙ ap (λ ws. set (set ws start 1) (count + region) long) zeros ∙ ap (λ ws. set ws (count + region) long) first ∙ second;
+      lawful = IsLawful-opening (marking_in heap workers) inside positive;
       few = few;
+      few_words = few_words;
     } where
-      zeros : (count : ℕ) → map number_of (replicate count White) ≡ replicate count 0
-      zeros zero = refl
-      zeros (suc count) = ap (λ ws. 0 ∷ ws) (zeros count)
+      start : ℕ
+      start = start_of heap.memory
+
+      count : ℕ
+      count = object_count heap.memory
+
+      regions : ℕ
+      regions = region_count heap.cut heap.memory
+
+      region : ℕ
+      region = region_at heap.cut heap.memory start
+
+      long : ℕ
+      long = length (chunk_words heap.memory start)
+
+      inside : start < count
+      inside = find_in-lt heap.memory.base (objects heap.memory) heap.memory.special start special
+
+      shades : List Shade
+      shades = set (replicate count White) start Grey
+
+      sums : List ℕ
+      sums = grown (replicate regions 0) region long
+
+      whites : (n : ℕ) → map number_of (replicate n White) ≡ replicate n 0
+      whites zero = refl
+      whites (suc n) = ap (λ ws. 0 ∷ ws) (whites n)
+
+      sized : length (map number_of shades) ≡ count
+      sized = length-map shades number_of ∙ length-set (replicate count White) start Grey ∙ length-replicate count White
+
+      zeros : replicate (count + regions) 0 ≡ map number_of (replicate count White) ++ replicate regions 0
+      zeros = sym (replicate-append-replicate count regions 0) ∙ ap (λ ws. ws ++ replicate regions 0) (sym (whites count))
+
+      first : set (map number_of (replicate count White) ++ replicate regions 0) start 1 ≡ map number_of shades ++ replicate regions 0
+      first =
+          set-append_left (map number_of (replicate count White)) (replicate regions 0) start 1
+          (omega (arith, inside, length-map (replicate count White) number_of, length-replicate count White))
+          ∙ ap (λ ws. ws ++ replicate regions 0) (sym (map-set number_of (replicate count White) start Grey))
+
+      second : set (map number_of shades ++ replicate regions 0) (count + region) long ≡ map number_of shades ++ sums
+      second =
+          let place : count + region - count ≡ region = omega arith in
+          let more : long ≡ get_or (replicate regions 0) region 0 + long = omega (arith, none_at regions region) in
+          set-append_right (map number_of shades) (replicate regions 0) count (count + region) long sized (omega arith)
+          ∙ ap (λ r. map number_of shades ++ set (replicate regions 0) r long) place
+          ∙ ap (λ n. map number_of shades ++ set (replicate regions 0) region n) more
 
 -- where no pass has weight, no pass knows anything
 none_known : (passes : List View) → ((pass : ℕ) → (pass_at passes pass).weight ≡ 0 → pass_at passes pass ≡ spent)
@@ -104,6 +163,22 @@ module _ (marking : Marking) {S : Type 0} (table : State S View) (kept : IsKept 
       by_shade Grey (suc black) won is known once = absurd (grey-black (known (omega arith)))
       by_shade White (suc black) won is known once = absurd (white-black (known (omega arith)))
 
+  -- the regions' numbers are what it counted
+  sums_counted : (region : ℕ) → region < marking.regions → get_or kept.sums region 0 ≡ words_listed marking region view.counted
+  sums_counted region lt = kept.lawful.sums.each region lt ∙ alone (λ v. words_listed marking region v.counted) refl
+
+  -- where it counted all that it won, it counted each marked object once
+  counted_once : HasCountedAll view → (object : ℕ) → times object view.counted ≡ cond (is_marked (marks_of kept.shades) object) 1 0
+  counted_once all object =
+      by_shade (shade_at kept.shades object) (times object view.counted) (times object view.won) (won_once object)
+      ((subst (KnowsTruth kept.shades) is_view (kept.lawful.truth id)).counted object) (all object)
+      ∙ wins-mark (shade_at kept.shades object) ∙ ap (λ b. cond b 1 0) (sym (is_marked-shade kept.shades object))
+    where
+      by_shade : (shade : Shade) (counted won : ℕ) → won ≡ wins shade → counted ≤ won → (0 < won → 0 < counted) → counted ≡ wins shade
+      by_shade White counted won once le always = omega (arith, once, le)
+      by_shade Grey counted won once le always = let one = always (omega (arith, once)) in omega (arith, once, le, one)
+      by_shade Black counted won once le always = let one = always (omega (arith, once)) in omega (arith, once, le, one)
+
 -- words that say shades
 pub shade_of-numbers : (shades : List Shade) → map shade_of (map number_of shades) ≡ shades
 shade_of-numbers [] = refl
@@ -120,3 +195,38 @@ AreClosed-kept heap workers table kept id view at whole special =
       seen = (subst (KnowsTruth kept.shades) (item_at table.views id view spent at) (kept.lawful.truth id)).seen;
       lawful = record { start = start_of heap.memory; is_special = special; lawful = kept.lawful.shades };
     }
+
+-- and the sums of the regions, where all that was won is counted
+pub AreSums-kept : (heap : Regioning) (workers : ℕ) {S : Type 0} (table : State S View) (kept : IsKept (marking_in heap workers) {S = S} table)
+    (id : ℕ) (view : View) → get_elem? table.views id ≡ some view → view.weight ≡ workers → HasCountedAll view
+    → AreSums heap (marks_of kept.shades) kept.sums
+AreSums-kept heap workers table kept id view at whole all =
+    record {
+      sized = kept.lawful.sums.sized;
+      each = λ region lt.
+          sums_counted (marking_in heap workers) table kept id view at whole region lt
+          ∙ live_words_in-listed heap.cut heap.memory (marks_of kept.shades) view.counted region
+          (length-map kept.shades has_mark ∙ kept.lawful.shades.sized)
+          (counted_once (marking_in heap workers) table kept id view at whole all);
+    }
+
+-- the words of a table that is closed say the shades, and behind these the regions' numbers
+module _ (heap : Regioning) (workers : ℕ) {S : Type 0} (table : State S View) (kept : IsKept (marking_in heap workers) {S = S} table)
+    (words : List ℕ) (are : table.words ≡ words) (count : ℕ) (count_is : count ≡ object_count heap.memory) where
+  pub shades_read : map shade_of (take count words) ≡ kept.shades
+  shades_read =
+      ap (λ ws. map shade_of (take count ws)) (sym are ∙ kept.words)
+      ∙ ap (λ n. map shade_of (take n (map number_of kept.shades ++ kept.sums))) (count_is ∙ sym (sized (marking_in heap workers) table kept))
+      ∙ ap (map shade_of) (take-append_seam (map number_of kept.shades) kept.sums)
+      ∙ shade_of-numbers kept.shades
+
+  pub sum_read : (region : ℕ) → get_or words (count + region) 0 ≡ get_or kept.sums region 0
+  sum_read region =
+      ap (λ ws. get_or ws (count + region) 0) (sym are) ∙ ap (λ n. get_or table.words (n + region) 0) count_is
+      ∙ sum_is (marking_in heap workers) table kept region
+
+  pub sum_few : (region : ℕ) → region < region_count heap.cut heap.memory → get_or words (count + region) 0 < 2 ^ 30
+  sum_few region inside =
+      subst (λ n. n < 2 ^ 30) (sym (sum_read region ∙ kept.lawful.sums.each region inside))
+      (total_counted-few (marking_in heap workers) record { shades = kept.shades; sums = kept.sums; passes = table.views } kept.lawful
+      kept.few_words region)

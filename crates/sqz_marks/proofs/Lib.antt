@@ -1,5 +1,6 @@
 pub mod TimesLemmas
 pub mod ViewLemmas
+pub mod CountLemmas
 pub mod EventLemmas
 pub mod RunLemmas
 pub mod StepLemmas

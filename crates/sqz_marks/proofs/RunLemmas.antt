@@ -1,20 +1,29 @@
 -- Marking begins in a lawful state, and each legal run leads to one.
-use Rattle.std.proofs.Common.{◌≡◌, ◌≢◌, ℕ, zero, suc, ◌<◌, ◌≤◌, List, [], ◌∷◌, length, set, refl, sym, ap, subst, ◌∙◌, arith, inl, inr}
+use Rattle.std.proofs.Common.{◌≡◌, ◌≢◌, ℕ, zero, suc, ◌+◌, ◌<◌, ◌≤◌, List, [], ◌∷◌, length, set, get_or, refl, sym, ap, subst, ◌∙◌, if◌then◌else◌, eq-eqb, ne_eqb, arith, inl, inr}
 use Rattle.std.specs.Prelude.{replicate}
 use Rattle.std.proofs.lemmas.Bool.{cases_eq}
-use Rattle.std.proofs.lemmas.List.{length-replicate, get_or-set_same, get_or-set_other}
+use Rattle.std.proofs.lemmas.List.{length-replicate, length-set, get_or-set_same, get_or-set_other}
 use Rattle.sqz_trace.specs.declared.shades.Shade.{Shade}
 use Rattle.sqz_trace.specs.declared.shades.Shade.TheVariants.{White, Grey}
 use Rattle.sqz_trace.specs.Shades.{shade_at}
 use Rattle.sqz_trace.proofs.ShadeLemmas.{white-black, grey-black, marked-by}
 use Rattle.sqz_trace.proofs.LawLemmas.{AreLawful-first}
 use Rattle.sqz_marks.specs.declared.view.View.{View}
-use Rattle.sqz_marks.specs.Core.{Marking, State, pass_at, first_view, opening, LeadsTo}
-use Rattle.sqz_marks.specs.Core.{Event, Look, Claim, Blacken, Split, Join, Meets, after}
-use Rattle.sqz_marks.specs.Lawful.{KnowsTruth, IsLawful, wins, times_won}
+use Rattle.sqz_marks.specs.Core.{Marking, State, pass_at, first_view, grown, opening, LeadsTo}
+use Rattle.sqz_marks.specs.Core.{Event, Look, Claim, Count, Blacken, Split, Join, Meets, after}
+use Rattle.sqz_marks.specs.Lawful.{KnowsTruth, IsLawful, wins, times_won, words_at, total_counted}
 use Rattle.sqz_marks.proofs.TimesLemmas.{times-same, times-other, times-either}
 use Rattle.sqz_marks.proofs.ViewLemmas.{KnowsTruth-spent}
-use Rattle.sqz_marks.proofs.EventLemmas.{IsLawful-look, IsLawful-claim, IsLawful-blacken, IsLawful-split, IsLawful-join}
+use Rattle.sqz_marks.proofs.EventLemmas.{IsLawful-look, IsLawful-claim, IsLawful-count, IsLawful-blacken, IsLawful-split, IsLawful-join}
+
+-- where nothing was counted
+abbrev nothing : ℕ → List ℕ
+nothing count = replicate count 0
+
+pub none_at : (count index : ℕ) → get_or (nothing count) index 0 ≡ 0
+none_at zero index = refl
+none_at (suc count) zero = refl
+none_at (suc count) (suc index) = none_at count index
 
 module _ (marking : Marking) where
   -- the state in which marking begins
@@ -34,6 +43,19 @@ module _ (marking : Marking) where
           | inr differs ↦ absurd (white-black (sym (white object differs) ∙ black))
         ];
         truth = knows;
+        sums =
+            record {
+              sized =
+                  length-set (replicate marking.regions 0) at (get_or (replicate marking.regions 0) at 0 + marking.words start)
+                  ∙ length-replicate {A = ℕ} marking.regions 0;
+              each = λ region lt. elim (cases_eq region at) [
+                | inl same ↦ subst (λ (r : ℕ). get_or sums r 0 ≡ total_counted marking views r) (sym same)
+                    (here (subst (λ (r : ℕ). r < marking.regions) same lt))
+                | inr differs ↦
+                    (let other = get_or-set_other (replicate marking.regions 0) at region (get_or (replicate marking.regions 0) at 0 + marking.words start) 0 differs in
+                    omega (arith, other, none_at marking.regions region, one region, words_at-other region differs))
+              ];
+            };
         weights = omega arith;
       } where
         start : ℕ
@@ -49,6 +71,27 @@ module _ (marking : Marking) where
         grey =
             get_or-set_same (replicate marking.graph.count White) start Grey White
             (omega (arith, inside, length-replicate marking.graph.count White))
+
+        at : ℕ
+        at = marking.region start
+
+        sums : List ℕ
+        sums = grown (replicate marking.regions 0) at (marking.words start)
+
+        one : (region : ℕ) → total_counted marking views region ≡ words_at marking region start
+        one region = omega arith
+
+        words_at-same : words_at marking at start ≡ marking.words start
+        words_at-same = ap (λ b. if b then marking.words start else 0) (eq-eqb at at refl)
+
+        words_at-other : (region : ℕ) → region ≢ at → words_at marking region start ≡ 0
+        words_at-other region differs = ap (λ b. if b then marking.words start else 0) (ne_eqb at region (λ same. differs (sym same)))
+
+        here : at < marking.regions → get_or sums at 0 ≡ total_counted marking views at
+        here lt =
+            let set = get_or-set_same (replicate marking.regions 0) at (get_or (replicate marking.regions 0) at 0 + marking.words start) 0
+            (omega (arith, lt, length-replicate {A = ℕ} marking.regions 0)) in
+            omega (arith, set, none_at marking.regions at, one at, words_at-same)
 
         all_white : (count index : ℕ) → shade_at (replicate count White) index ≡ White
         all_white zero index = refl
@@ -68,6 +111,7 @@ module _ (marking : Marking) where
                 | inl same ↦ marked-by shades object Grey (ap (shade_at shades) same ∙ grey) refl
                 | inr none ↦ absurd (omega arith)
               ];
+              counted = λ object. omega arith;
               blackened = λ object none. absurd (omega arith);
               idle = λ e. absurd (omega arith);
             }
@@ -75,10 +119,11 @@ module _ (marking : Marking) where
 
   -- the state after an event whose condition is met
   pub IsLawful-after : (state : State) (pass : ℕ) (event : Event) → pass < length state.passes → IsLawful marking state
-      → Meets marking state pass event → IsLawful marking (after state pass event)
+      → Meets marking state pass event → IsLawful marking (after marking state pass event)
   IsLawful-after state pass (Look object) inside lawful meets = IsLawful-look marking state pass inside lawful object meets.0
   IsLawful-after state pass (Claim parent object) inside lawful meets =
       IsLawful-claim marking state pass inside lawful parent object meets.0 meets.1 meets.2
+  IsLawful-after state pass (Count object) inside lawful meets = IsLawful-count marking state pass inside lawful object meets.0 meets.1
   IsLawful-after state pass (Blacken object) inside lawful meets =
       IsLawful-blacken marking state pass inside lawful object meets.0 meets.1 meets.2
   IsLawful-after state pass (Split weight) inside lawful meets =
@@ -91,4 +136,4 @@ module _ (marking : Marking) where
       → IsLawful marking to
   IsLawful-led from [] to lawful same = subst (IsLawful marking) same lawful
   IsLawful-led from ((pass, event) ∷ run) to lawful leads =
-      IsLawful-led (after from pass event) run to (IsLawful-after from pass event leads.0 lawful leads.1) leads.2
+      IsLawful-led (after marking from pass event) run to (IsLawful-after from pass event leads.0 lawful leads.1) leads.2

@@ -1,9 +1,10 @@
 -- Each step on the mark table keeps its rule, and tells its pass what it may.
-use Rattle.std.proofs.Common.{◌≡◌, ℕ, zero, suc, ◌<◌, ◌≤◌, max, true, List, [], ◌∷◌, ◌++◌, length, map, set, get_or, refl, sym, ap, subst, ◌∙◌, arith}
+use Rattle.std.proofs.Common.{◌≡◌, ℕ, zero, suc, ◌+◌, ◌-◌, ◌%◌, ◌^◌, ◌<◌, ◌≤◌, max, true, List, [], ◌∷◌, ◌++◌, length, map, set, get_or, refl, sym, ap, subst, ◌∙◌, arith}
 use mathlib.Core.Option.{some, none, some-injective, some-ne-none}
 use lib.ListN.{get_elem?}
 use Rattle.std.specs.Prelude.{slice_index}
-use Rattle.std.proofs.lemmas.List.{map-set, get_or-map, get_or-set_other, length-set, set-get_or}
+use Rattle.std.proofs.lemmas.List.{map-set, get_or-map, get_or-set_other, get_or_append_left, get_or-append-add, get_or-set_same, length-map, length-set, set-append_left, set-append_right, set-get_or}
+use Rattle.std.proofs.Math.Nat.{mod-eq_of_lt}
 use Rattle.std.proofs.lemmas.List.Sums.{get_or-le-sum_by}
 use Rattle.atomic_table.specs.Table.{State, Me, step, keeps, Allows, Splits, Joins}
 use Rattle.sqz_trace.specs.declared.shades.Shade.{Shade}
@@ -11,10 +12,12 @@ use Rattle.sqz_trace.specs.declared.shades.Shade.TheVariants.{White, Grey, Black
 use Rattle.sqz_trace.specs.Shades.{shade_at, has_mark}
 use Rattle.sqz_trace.proofs.ShadeLemmas.{is_marked-shade}
 use Rattle.sqz_marks.specs.declared.view.View.{View}
-use Rattle.sqz_marks.specs.Core.{Marking, HasSeen, HasBlackened, spent, pass_at, looked, claimed, greyed, blackened, kept_of, part_of, joined}
+use Rattle.sqz_marks.specs.Core.{Marking, times, HasWon, HasSeen, HasBlackened, spent, pass_at, looked, claimed, greyed, grown, counted, blackened}
+use Rattle.sqz_marks.specs.Core.{kept_of, part_of, joined}
 use Rattle.sqz_marks.specs.Lawful.{KnowsTruth, IsLawful}
-use Rattle.sqz_marks.specs.Table.{number_of, shade_of, IsKept, Looked, Claimed, Blackened, Weighed}
-use Rattle.sqz_marks.proofs.EventLemmas.{IsLawful-look, IsLawful-claim, IsLawful-blacken, IsLawful-split, IsLawful-join}
+use Rattle.sqz_marks.specs.Table.{number_of, shade_of, IsNewTo, IsKept, Looked, Claimed, Counted, Blackened, Weighed}
+use Rattle.sqz_marks.proofs.CountLemmas.{total_counted-few}
+use Rattle.sqz_marks.proofs.EventLemmas.{IsLawful-look, IsLawful-claim, IsLawful-count, IsLawful-blacken, IsLawful-split, IsLawful-join}
 
 -- an item that stands in a list
 pub inside_at : {X : Type 0} (xs : List X) (i : ℕ) (x : X) → get_elem? xs i ≡ some x → i < length xs
@@ -54,20 +57,40 @@ number_of-black Grey = refl
 number_of-black Black = refl
 
 module _ (marking : Marking) {S : Type 0} (table : State S View) (kept : IsKept marking {S = S} table) where
+  pub sized : length (map number_of kept.shades) ≡ marking.graph.count
+  sized = length-map kept.shades number_of ∙ kept.lawful.shades.sized
+
   -- the word of an object
   word_is : (object : ℕ) → object < marking.graph.count → slice_index table.words object ≡ number_of (shade_at kept.shades object)
   word_is object inside =
       ap (λ (words : List ℕ). get_or words object 0) kept.words
+      ∙ get_or_append_left (map number_of kept.shades) kept.sums 0 object (subst (λ n. object < n) (sym sized) inside)
       ∙ get_or-map number_of kept.shades object White 0 (subst (λ n. object < n) (sym kept.lawful.shades.sized) inside)
 
   shade_is : (object : ℕ) → object < marking.graph.count → shade_of (slice_index table.words object) ≡ shade_at kept.shades object
   shade_is object inside = ap shade_of (word_is object inside) ∙ shade_of-number (shade_at kept.shades object)
 
-  words_set : (object : ℕ) (word : ℕ) (shade : Shade) → word ≡ number_of shade
-      → set table.words object word ≡ map number_of (set kept.shades object shade)
-  words_set object word shade says =
-      ap (λ (words : List ℕ). set words object word) kept.words ∙ ap (λ w. set (map number_of kept.shades) object w) says
-      ∙ sym (map-set number_of kept.shades object shade)
+  words_set : (object : ℕ) (word : ℕ) (shade : Shade) → object < marking.graph.count → word ≡ number_of shade
+      → set table.words object word ≡ map number_of (set kept.shades object shade) ++ kept.sums
+  words_set object word shade inside says =
+      ap (λ (words : List ℕ). set words object word) kept.words
+      ∙ set-append_left (map number_of kept.shades) kept.sums object word (subst (λ n. object < n) (sym sized) inside)
+      ∙ ap (λ w. set (map number_of kept.shades) object w ++ kept.sums) says
+      ∙ ap (λ words. words ++ kept.sums) (sym (map-set number_of kept.shades object shade))
+
+  -- the number of a region
+  pub sum_is : (region : ℕ) → slice_index table.words (marking.graph.count + region) ≡ get_or kept.sums region 0
+  sum_is region =
+      ap (λ (words : List ℕ). get_or words (marking.graph.count + region) 0) kept.words
+      ∙ ap (λ n. get_or (map number_of kept.shades ++ kept.sums) (n + region) 0) (sym sized)
+      ∙ get_or-append-add (map number_of kept.shades) kept.sums region 0
+
+  sums_set : (region word : ℕ) → set table.words (marking.graph.count + region) word ≡ map number_of kept.shades ++ set kept.sums region word
+  sums_set region word =
+      let place : marking.graph.count + region - marking.graph.count ≡ region = omega arith in
+      ap (λ (words : List ℕ). set words (marking.graph.count + region) word) kept.words
+      ∙ set-append_right (map number_of kept.shades) kept.sums marking.graph.count (marking.graph.count + region) word sized (omega arith)
+      ∙ ap (λ r. map number_of kept.shades ++ set kept.sums r word) place
 
   module _ (id : ℕ) (view : View) (at : get_elem? table.views id ≡ some view) where
     its : KnowsTruth kept.shades view
@@ -82,6 +105,21 @@ module _ (marking : Marking) {S : Type 0} (table : State S View) (kept : IsKept 
     black_word : (object : ℕ) → object < marking.graph.count → HasBlackened view object → slice_index table.words object ≡ 2
     black_word object inside known = word_is object inside ∙ ap number_of (its.blackened object known)
 
+    -- where the word is 0, the pass has neither seen the object nor counted it
+    new_word : (object : ℕ) → object < marking.graph.count → slice_index table.words object ≡ 0 → IsNewTo view object
+    new_word object inside white = (unseen, omega (arith, its.counted object, unwon))
+      where
+        none : (n : ℕ) → (0 < n → 1 ≤ 0) → n ≡ 0
+        none zero never = refl
+        none (suc n) never = absurd (let one = never (omega arith) in omega (arith, one))
+
+        unseen : times object view.seen ≡ 0
+        unseen =
+            none (times object view.seen) (λ seen. subst (λ n. 1 ≤ n) white (unseen_word object inside seen))
+
+        unwon : times object view.won ≡ 0
+        unwon = none (times object view.won) (λ won. let seen = its.won object won in omega (arith, seen, unseen))
+
 module _ (marking : Marking) {S : Type 0} (slots id : ℕ) (before : Me S View) where
   -- a look
   pub look_allowed : (object : ℕ) → object < marking.graph.count → 1 ≤ before.0.weight
@@ -92,19 +130,23 @@ module _ (marking : Marking) {S : Type 0} (slots id : ℕ) (before : Me S View) 
     tt,
     record {
       shades = kept.shades;
+      sums = kept.sums;
       words = set-get_or table.words object 0 ∙ kept.words;
       lawful =
-          subst (λ (shade : Shade). IsLawful marking record { shades = kept.shades; passes = set table.views id (looked object shade before.0) })
+          subst (λ (shade : Shade). IsLawful marking record { shades = kept.shades; sums = kept.sums; passes = set table.views id (looked object shade before.0) })
           (sym (shade_is marking table kept object inside))
-          (subst (λ (view : View). IsLawful marking record { shades = kept.shades; passes = set table.views id (looked object (shade_at kept.shades object) view) })
+          (subst (λ (view : View). IsLawful marking record { shades = kept.shades; sums = kept.sums; passes = set table.views id (looked object (shade_at kept.shades object) view) })
           is_view
-          (IsLawful-look marking record { shades = kept.shades; passes = table.views } id (inside_at table.views id before.0 at) kept.lawful object
+          (IsLawful-look marking record { shades = kept.shades; sums = kept.sums; passes = table.views } id (inside_at table.views id before.0 at) kept.lawful object
           (subst (λ (view : View). 1 ≤ view.weight) (sym is_view) weight)));
       few = kept.few;
+      few_words = kept.few_words;
     },
     record {
       small = subst (λ n. n ≤ 2) (sym (word_is marking table kept object inside)) (number_of-le (shade_at kept.shades object));
       knows = refl;
+      unwon = λ won.
+          unseen_word marking table kept id before.0 at object inside ((its marking table kept id before.0 at).won object won);
       unseen = unseen_word marking table kept id before.0 at object inside;
       black = black_word marking table kept id before.0 at object inside;
     },
@@ -122,19 +164,21 @@ module _ (marking : Marking) {S : Type 0} (slots id : ℕ) (before : Me S View) 
     tt,
     record {
       shades = set kept.shades object (greyed shade);
+      sums = kept.sums;
       words =
-          words_set marking table kept object (max (slice_index table.words object) 1) (greyed shade)
+          words_set marking table kept object (max (slice_index table.words object) 1) (greyed shade) inside
           (ap (λ n. max n 1) (word_is marking table kept object inside) ∙ number_of-greyed shade);
       lawful =
-          subst (λ (s : Shade). IsLawful marking record { shades = set kept.shades object (greyed shade); passes = set table.views id (claimed object s before.0) })
+          subst (λ (s : Shade). IsLawful marking record { shades = set kept.shades object (greyed shade); sums = kept.sums; passes = set table.views id (claimed object s before.0) })
           (sym (shade_is marking table kept object inside))
-          (subst (λ (view : View). IsLawful marking record { shades = set kept.shades object (greyed shade); passes = set table.views id (claimed object shade view) })
+          (subst (λ (view : View). IsLawful marking record { shades = set kept.shades object (greyed shade); sums = kept.sums; passes = set table.views id (claimed object shade view) })
           is_view
-          (IsLawful-claim marking record { shades = kept.shades; passes = table.views } id (inside_at table.views id before.0 at) kept.lawful
+          (IsLawful-claim marking record { shades = kept.shades; sums = kept.sums; passes = table.views } id (inside_at table.views id before.0 at) kept.lawful
           parent object (subst (λ (view : View). HasSeen view parent) (sym is_view) seen) inside edge));
       few = kept.few;
+      few_words = kept.few_words;
     },
-    record { knows = refl; unseen = unseen_word marking table kept id before.0 at object inside },
+    record { knows = refl; new = new_word marking table kept id before.0 at object inside },
   )
     where
       shade : Shade
@@ -142,6 +186,55 @@ module _ (marking : Marking) {S : Type 0} (slots id : ℕ) (before : Me S View) 
 
       is_view : pass_at table.views id ≡ before.0
       is_view = item_at table.views id before.0 spent at
+
+  -- an object that the pass won is counted
+  pub count_allowed : (object : ℕ) → HasWon before.0 object → times object before.0.counted ≡ 0 → marking.region object < marking.regions
+      → Allows (IsKept marking {S = S}) slots id before (marking.graph.count + marking.region object) (λ n. (n + marking.words object) % 2 ^ 64)
+      (Counted object (step slots (marking.graph.count + marking.region object) (marking.words object) 0 none) before)
+  count_allowed object won new inside table kept long at small = (
+    counted object before.0,
+    keeps,
+    tt,
+    record {
+      shades = kept.shades;
+      sums = sums;
+      words =
+          ap (λ w. set table.words (marking.graph.count + region) w) exact
+          ∙ sums_set marking table kept region (get_or kept.sums region 0 + marking.words object);
+      lawful = lawful;
+      few = kept.few;
+      few_words = kept.few_words;
+    },
+    refl,
+  )
+    where
+      region : ℕ
+      region = marking.region object
+
+      sums : List ℕ
+      sums = grown kept.sums region (marking.words object)
+
+      is_view : pass_at table.views id ≡ before.0
+      is_view = item_at table.views id before.0 spent at
+
+      lawful : IsLawful marking record { shades = kept.shades; sums = sums; passes = set table.views id (counted object before.0) }
+      lawful =
+          subst (λ (view : View). IsLawful marking record { shades = kept.shades; sums = sums; passes = set table.views id (counted object view) })
+          is_view
+          (IsLawful-count marking record { shades = kept.shades; sums = kept.sums; passes = table.views } id (inside_at table.views id before.0 at)
+          kept.lawful object (subst (λ (view : View). HasWon view object) (sym is_view) won)
+          (subst (λ (view : View). times object view.counted ≡ 0) (sym is_view) new))
+
+      exact : (slice_index table.words (marking.graph.count + region) + marking.words object) % 2 ^ 64
+          ≡ get_or kept.sums region 0 + marking.words object
+      exact =
+          let is = sum_is marking table kept region in
+          let few = total_counted-few marking record { shades = kept.shades; sums = sums; passes = set table.views id (counted object before.0) }
+          lawful kept.few_words region in
+          let each = lawful.sums.each region inside in
+          let now = get_or-set_same kept.sums region (get_or kept.sums region 0 + marking.words object) 0
+          (subst (λ n. region < n) (sym kept.lawful.sums.sized) inside) in
+          ap (λ n. (n + marking.words object) % 2 ^ 64) is ∙ mod-eq_of_lt (omega (arith, few, each, now))
 
   -- an object becomes black
   pub blacken_allowed : (object : ℕ) → object < marking.graph.count → HasSeen before.0 object
@@ -153,16 +246,18 @@ module _ (marking : Marking) {S : Type 0} (slots id : ℕ) (before : Me S View) 
     tt,
     record {
       shades = set kept.shades object Black;
+      sums = kept.sums;
       words =
-          words_set marking table kept object (max (slice_index table.words object) 2) Black
+          words_set marking table kept object (max (slice_index table.words object) 2) Black inside
           (ap (λ n. max n 2) (word_is marking table kept object inside) ∙ number_of-black (shade_at kept.shades object));
       lawful =
-          subst (λ (view : View). IsLawful marking record { shades = set kept.shades object Black; passes = set table.views id (blackened object view) })
+          subst (λ (view : View). IsLawful marking record { shades = set kept.shades object Black; sums = kept.sums; passes = set table.views id (blackened object view) })
           is_view
-          (IsLawful-blacken marking record { shades = kept.shades; passes = table.views } id (inside_at table.views id before.0 at) kept.lawful
+          (IsLawful-blacken marking record { shades = kept.shades; sums = kept.sums; passes = table.views } id (inside_at table.views id before.0 at) kept.lawful
           object (subst (λ (view : View). HasSeen view object) (sym is_view) seen) inside
           (λ target edge. subst (λ (view : View). HasSeen view target) (sym is_view) (targets target edge)));
       few = kept.few;
+      few_words = kept.few_words;
     },
     refl,
   )
@@ -178,11 +273,13 @@ module _ (marking : Marking) {S : Type 0} (slots id : ℕ) (before : Me S View) 
     tt,
     record {
       shades = kept.shades;
+      sums = kept.sums;
       words = set-get_or table.words 0 0 ∙ kept.words;
       lawful =
-          subst (λ (views : List View). IsLawful marking record { shades = kept.shades; passes = views })
+          subst (λ (views : List View). IsLawful marking record { shades = kept.shades; sums = kept.sums; passes = views })
           (sym (same_views table.views id before.0 at)) kept.lawful;
       few = kept.few;
+      few_words = kept.few_words;
     },
     (
       refl,
@@ -204,13 +301,15 @@ module _ (marking : Marking) {S : Type 0} (id : ℕ) (view : View) where
   split_allowed weight positive below table kept at =
       record {
         shades = kept.shades;
+        sums = kept.sums;
         words = kept.words;
         lawful =
-            subst (λ (v : View). IsLawful marking record { shades = kept.shades; passes = set table.views id (kept_of weight v) ++ part_of weight ∷ [] })
+            subst (λ (v : View). IsLawful marking record { shades = kept.shades; sums = kept.sums; passes = set table.views id (kept_of weight v) ++ part_of weight ∷ [] })
             is_view
-            (IsLawful-split marking record { shades = kept.shades; passes = table.views } id (inside_at table.views id view at) kept.lawful
+            (IsLawful-split marking record { shades = kept.shades; sums = kept.sums; passes = table.views } id (inside_at table.views id view at) kept.lawful
             weight positive (subst (λ (v : View). weight < v.weight) (sym is_view) below));
         few = kept.few;
+        few_words = kept.few_words;
       } where
         is_view : pass_at table.views id ≡ view
         is_view = item_at table.views id view spent at
@@ -221,15 +320,17 @@ module _ (marking : Marking) {S : Type 0} (id : ℕ) (view : View) where
   join_allowed other theirs weight table kept at differs at_other =
       record {
         shades = kept.shades;
+        sums = kept.sums;
         words = kept.words;
         lawful =
-            subst (λ (v : View). IsLawful marking record { shades = kept.shades; passes = set (set table.views id (joined v theirs)) other spent })
+            subst (λ (v : View). IsLawful marking record { shades = kept.shades; sums = kept.sums; passes = set (set table.views id (joined v theirs)) other spent })
             is_view
-            (subst (λ (v : View). IsLawful marking record { shades = kept.shades; passes = set (set table.views id (joined (pass_at table.views id) v)) other spent })
+            (subst (λ (v : View). IsLawful marking record { shades = kept.shades; sums = kept.sums; passes = set (set table.views id (joined (pass_at table.views id) v)) other spent })
             is_theirs
-            (IsLawful-join marking record { shades = kept.shades; passes = table.views } id (inside_at table.views id view at) kept.lawful
+            (IsLawful-join marking record { shades = kept.shades; sums = kept.sums; passes = table.views } id (inside_at table.views id view at) kept.lawful
             other differs within (subst (λ (v : View). 1 ≤ v.weight) (sym is_theirs) weight)));
         few = kept.few;
+        few_words = kept.few_words;
       } where
         is_view : pass_at table.views id ≡ view
         is_view = item_at table.views id view spent at

@@ -1,13 +1,14 @@
 -- What passes know stays so as objects get darker, and what a step tells them is so.
 use Rattle.std.proofs.Common.{◌≡◌, ℕ, zero, suc, ◌<◌, ◌≤◌, true, List, ◌∷◌, refl, sym, subst, arith, inl, inr}
+use Rattle.std.proofs.lemmas.Bool.{cases_eq}
 use Rattle.sqz_trace.specs.declared.shades.Shade.{Shade}
-use Rattle.sqz_trace.specs.declared.shades.Shade.TheVariants.{White, Grey, Black}
+use Rattle.sqz_trace.specs.declared.shades.Shade.TheVariants.{Black}
 use Rattle.sqz_trace.specs.Graph.{is_marked}
 use Rattle.sqz_trace.specs.Shades.{shade_at, marks_of}
 use Rattle.sqz_marks.specs.declared.view.View.{View}
-use Rattle.sqz_marks.specs.Core.{times, HasWon, HasSeen, spent, claimed, blackened, kept_of, part_of, joined}
+use Rattle.sqz_marks.specs.Core.{times, HasWon, HasSeen, spent, seen_by, won_by, counted, blackened, kept_of, part_of, joined}
 use Rattle.sqz_marks.specs.Lawful.{KnowsTruth}
-use Rattle.sqz_marks.proofs.TimesLemmas.{times-same, times-more, times-either, times-append, times-in_two}
+use Rattle.sqz_marks.proofs.TimesLemmas.{times-same, times-other, times-more, times-either, times-append, times-in_two}
 
 -- what is marked stays marked, and what is black stays black
 pub record AreDarker (old new : List Shade) : Type 0 where
@@ -32,6 +33,7 @@ module _ (shades : List Shade) where
       record {
         won = truth.won;
         seen = λ object seen. darker.marked object (truth.seen object seen);
+        counted = truth.counted;
         blackened = λ object black. darker.black object (truth.blackened object black);
         idle = truth.idle;
       }
@@ -42,6 +44,7 @@ module _ (shades : List Shade) where
       record {
         won = λ object some. absurd (omega arith);
         seen = λ object some. absurd (omega arith);
+        counted = λ object. omega arith;
         blackened = λ object some. absurd (omega arith);
         idle = λ e. refl;
       }
@@ -51,6 +54,7 @@ module _ (shades : List Shade) where
       record {
         won = λ object some. absurd (omega arith);
         seen = λ object some. absurd (omega arith);
+        counted = λ object. omega arith;
         blackened = λ object some. absurd (omega arith);
         idle = λ e. absurd (omega arith);
       }
@@ -68,11 +72,12 @@ module _ (shades : List Shade) where
       won_is other won = omega (arith, truth.won other won, times-more other object view.seen)
 
       -- it saw an object that is marked
-      pub KnowsTruth-seen : KnowsTruth shades (claimed object Grey view)
-      KnowsTruth-seen = record { won = won_is; seen = seen_is; blackened = truth.blackened; idle = λ e. absurd (omega arith) }
+      pub KnowsTruth-seen : KnowsTruth shades (seen_by object view)
+      KnowsTruth-seen =
+          record { won = won_is; seen = seen_is; counted = truth.counted; blackened = truth.blackened; idle = λ e. absurd (omega arith) }
 
       -- it won one
-      pub KnowsTruth-won : KnowsTruth shades (claimed object White view)
+      pub KnowsTruth-won : KnowsTruth shades (won_by object view)
       KnowsTruth-won =
           record {
             won = λ other won. elim (times-either other object view.won won) [
@@ -81,9 +86,26 @@ module _ (shades : List Shade) where
               | inr won ↦ won_is other won
             ];
             seen = seen_is;
+            counted = λ other. omega (arith, truth.counted other, times-more other object view.won);
             blackened = truth.blackened;
             idle = λ e. absurd (omega arith);
           }
+
+    -- it counted one that it won
+    pub KnowsTruth-counted : (object : ℕ) → HasWon view object → times object view.counted ≡ 0 → 1 ≤ view.weight
+        → KnowsTruth shades (counted object view)
+    KnowsTruth-counted object won new weight =
+        record {
+          won = truth.won;
+          seen = truth.seen;
+          counted = λ other. elim (cases_eq other object) [
+            | inl same ↦ subst (λ (o : ℕ). times o (object ∷ view.counted) ≤ times o view.won) (sym same)
+                (omega (arith, won, new, times-same object view.counted))
+            | inr differs ↦ omega (arith, truth.counted other, times-other other object view.counted differs)
+          ];
+          blackened = truth.blackened;
+          idle = λ e. absurd (omega arith);
+        }
 
     -- it knows a black object
     pub KnowsTruth-blackened : (object : ℕ) → 1 ≤ view.weight → shade_at shades object ≡ Black → KnowsTruth shades (blackened object view)
@@ -91,6 +113,7 @@ module _ (shades : List Shade) where
         record {
           won = truth.won;
           seen = truth.seen;
+          counted = truth.counted;
           blackened = λ other known. elim (times-either other object view.blackened known) [
             | inl same ↦ subst (λ (o : ℕ). shade_at shades o ≡ Black) (sym same) black
             | inr known ↦ truth.blackened other known
@@ -101,7 +124,13 @@ module _ (shades : List Shade) where
     -- it gave up a part of its weight
     pub KnowsTruth-kept : (weight : ℕ) → weight < view.weight → KnowsTruth shades (kept_of weight view)
     KnowsTruth-kept weight below =
-        record { won = truth.won; seen = truth.seen; blackened = truth.blackened; idle = λ e. absurd (omega arith) }
+        record {
+          won = truth.won;
+          seen = truth.seen;
+          counted = truth.counted;
+          blackened = truth.blackened;
+          idle = λ e. absurd (omega arith);
+        }
 
     -- it took in another
     pub KnowsTruth-joined : (other : View) → KnowsTruth shades other → 1 ≤ other.weight → KnowsTruth shades (joined view other)
@@ -115,6 +144,14 @@ module _ (shades : List Shade) where
             | inl seen ↦ truth.seen object seen
             | inr seen ↦ its.seen object seen
           ];
+          counted = λ object.
+              omega (
+                arith,
+                truth.counted object,
+                its.counted object,
+                times-append object view.counted other.counted,
+                times-append object view.won other.won,
+              );
           blackened = λ object known. elim (times-in_two object view.blackened other.blackened known) [
             | inl known ↦ truth.blackened object known
             | inr known ↦ its.blackened object known

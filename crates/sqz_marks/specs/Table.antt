@@ -1,5 +1,5 @@
 -- The mark table and its passes as contracts see them, what its words mean, and what each step tells its pass.
-use Rattle.std.specs.Prelude.{◌≡◌, ℕ, zero, suc, ◌<◌, ◌≤◌, nat_lt, if◌then◌else◌, true, List, map, unwrap_or}
+use Rattle.std.specs.Prelude.{◌≡◌, ℕ, zero, suc, ◌^◌, ◌<◌, ◌≤◌, ◌++◌, nat_lt, if◌then◌else◌, true, List, map, unwrap_or}
 use Rattle.atomic_table.specs.Table.{Step, Me}
 use Rattle.atomic_table.specs.Table.{State as TableState}
 use Rattle.atomic_table.specs.Seated.{TableId}
@@ -10,8 +10,8 @@ use Rattle.sqz_trace.specs.Graph.{is_marked}
 use Rattle.sqz_trace.specs.Shades.{shade_at, marks_of, AreLawfulOf}
 use Rattle.sqz_regions.specs.Regions.{Regioning}
 use Rattle.sqz_marks.specs.declared.view.View.{View}
-use Rattle.sqz_marks.specs.Core.{Marking, marking_of, times, HasSeen, HasBlackened, looked, claimed, blackened}
-use Rattle.sqz_marks.specs.Lawful.{IsLawful, wins}
+use Rattle.sqz_marks.specs.Core.{Marking, marking_of, times, HasWon, HasSeen, HasCounted, HasBlackened, looked, claimed, counted, blackened}
+use Rattle.sqz_marks.specs.Lawful.{IsLawful, wins, words_listed}
 
 -- a mark table: which one it is, the object memory and its cut, and how many workers share it
 pub record SharedMarks : Type 0 where
@@ -36,6 +36,14 @@ knowing pass view = record { table = pass.table; workers = pass.workers; view = 
 -- what a pass had seen it still has seen
 abbrev pub KeepsSeen : View → View → Type 0
 KeepsSeen old new = (object : ℕ) → HasSeen old object → HasSeen new object
+
+-- the pass has neither seen nor counted the object
+abbrev pub IsNewTo : View → ℕ → Type 0
+IsNewTo view object = (times object view.seen ≡ 0) × (times object view.counted ≡ 0)
+
+-- the pass has counted all that it won
+abbrev pub HasCountedAll : View → Type 0
+HasCountedAll view = (object : ℕ) → HasWon view object → HasCounted view object
 
 -- the chunk is that of an object that the pass has seen
 pub record IsSeenChunk (memory : Memory) (view : View) (chunk : List ℕ) : Type 0 where
@@ -63,25 +71,37 @@ shade_of zero = White
 shade_of (suc zero) = Grey
 shade_of (suc (suc more)) = Black
 
--- between any two steps the words say shades, and these and the passes are a lawful state
+-- objects of a list, each of which stands there once, have fewer than 2^30 words in each region
+abbrev pub HasFewWords : Marking → Type 0
+HasFewWords marking =
+    (region : ℕ) (list : List ℕ) → ((object : ℕ) → times object list ≤ 1) → ((object : ℕ) → marking.graph.count ≤ object → times object list ≡ 0)
+    → words_listed marking region list < 2 ^ 30
+
+-- between any two steps the words say shades, and behind these the number of each region; and these and the passes are a lawful state
 pub record IsKept (marking : Marking) {S : Type 0} (table : TableState S View) : Type 0 where
   pub shades : List Shade
-  pub words : table.words ≡ map number_of shades
-  pub lawful : IsLawful marking record { shades = shades; passes = table.views }
+  pub sums : List ℕ
+  pub words : table.words ≡ map number_of shades ++ sums
+  pub lawful : IsLawful marking record { shades = shades; sums = sums; passes = table.views }
   pub few : marking.workers ≤ 64
+  pub few_words : HasFewWords marking
 
 module _ {S : Type 0} where
   -- a look tells the shade
   pub record Looked (step : Step S) (before : Me S View) (found : ℕ) (after : Me S View) : Type 0 where
     pub small : found ≤ 2
     pub knows : after ≡ (looked step.word (shade_of found) before.0, before.1)
+    pub unwon : HasWon before.0 step.word → 1 ≤ found
     pub unseen : HasSeen before.0 step.word → 1 ≤ found
     pub black : HasBlackened before.0 step.word → found ≡ 2
 
-  -- a claim tells the shade that was found
+  -- a claim tells the shade that was found; what was white the pass has neither seen nor counted
   pub record Claimed (step : Step S) (before : Me S View) (found : ℕ) (after : Me S View) : Type 0 where
     pub knows : after ≡ (claimed step.word (shade_of found) before.0, before.1)
-    pub unseen : HasSeen before.0 step.word → 1 ≤ found
+    pub new : found ≡ 0 → IsNewTo before.0 step.word
+
+  abbrev pub Counted : ℕ → Step S → Me S View → ℕ → Me S View → Type 0
+  Counted object step before found after = after ≡ (counted object before.0, before.1)
 
   abbrev pub Blackened : Step S → Me S View → ℕ → Me S View → Type 0
   Blackened step before found after = after ≡ (blackened step.word before.0, before.1)

@@ -42,6 +42,26 @@ impl Play<(), View> for Claiming {
     ghost then = { Claimed };
 }
 
+/// The object whose words a pass counts.
+pub(crate) trait CountedObject {
+    ghost object: { ℕ };
+}
+
+impl CountedObject for Brand {
+    ghost object = { 0 };
+}
+
+/// A pass counts an object's words.
+pub(crate) struct Counting<O> {
+    object: PhantomData<O>,
+}
+
+impl<O: CountedObject> Play<(), View> for Counting<O> {
+    ghost use Rattle.sqz_marks.specs.Table.{Counted};
+
+    ghost then = { Counted O.object };
+}
+
 /// An object becomes black.
 pub(crate) struct Blacken;
 

@@ -1,21 +1,30 @@
 //! The table of marks that workers share without waiting.
 
-ghost use Rattle.std.specs.Prelude.{◌≡◌, ◌≢◌, ◌⊎◌, ℕ, ◌<◌, ◌≤◌, ◌==◌, [], length, map, true, Option, Some, None, IfOk, IfErr, IfSome};
+ghost use Rattle.std.specs.Prelude.{◌≡◌, ◌≢◌, ◌⊎◌, ℕ, ◌+◌, ◌*◌, ◌%◌, ◌^◌, ◌<◌, ◌≤◌, ◌==◌, [], length, map, take, sum, slice_index, true, Option, Some, None, IfOk, IfErr, IfSome};
 ghost use Rattle.std.specs.Slots.{slots_items, slots_len, IsFull};
 ghost use Rattle.sqz_image.specs.declared.fault.Fault.TheVariants.{OutOfMemory};
-ghost use Rattle.sqz_image.specs.Objects.{object_count};
+ghost use Rattle.sqz_image.specs.Objects.{object_count, chunk_words};
 ghost use Rattle.sqz_trace.specs.declared.shades.Shade.TheVariants.{White, Grey, Black};
+ghost use Rattle.sqz_marks.specs.declared.claim.Claim.TheVariants.{Won};
 ghost use Rattle.sqz_trace.specs.Edges.{HasEdge, named_in, target};
-ghost use Rattle.sqz_marks.specs.Core.{HasSeen, HasBlackened, first_view, looked, blackened, kept_of, part_of, joined};
-ghost use Rattle.sqz_marks.specs.Table.{IsPassOf, knowing, KeepsSeen, IsSeenChunk, start_of, shade_of, AreClosed};
+ghost use Rattle.sqz_trace.specs.Shades.{marks_of};
+ghost use Rattle.sqz_regions.specs.Bases.{AreSums};
+ghost use Rattle.sqz_regions.specs.Places.{live_words};
+ghost use Rattle.sqz_regions.specs.Regions.{region_at, region_count};
+ghost use Rattle.sqz_marks.specs.Core.{times, HasWon, HasSeen, HasBlackened, first_view, looked, counted, blackened, kept_of, part_of, joined};
+ghost use Rattle.sqz_marks.specs.Table.{IsPassOf, knowing, KeepsSeen, IsNewTo, HasCountedAll, IsSeenChunk, start_of, shade_of, AreClosed};
 ghost use Rattle.sqz_marks.specs.Claims.{IsClaim};
 
 use crate::claim::Claim;
 use crate::pass::Pass;
-use crate::plays::{Blacken, Claiming, Joining, Key, Look, MarkingRule, Parting, Share, Weigh};
+use crate::plays::{
+    Blacken, Claiming, CountedObject, Counting, Joining, Key, Look, MarkingRule, Parting, Share,
+    Weigh,
+};
 use crate::view::View;
 use crate::workers::Workers;
 use atomic_table::{Seat, Table};
+use sqz_image::laws::heap_bounds;
 use sqz_image::{Fault, Heap, Slot};
 use sqz_regions::Regions;
 use sqz_trace::{Shade, Shades, TracedObject};
@@ -23,8 +32,9 @@ use std::alloc::Global;
 use std::marker::{Brand, Model};
 use std::snapshot::Snapshot;
 
-/// A word for each object of a heap, which says its shade and changes in single atomic steps. Workers share it by `&`,
-/// each with a pass of its own; no call waits.
+/// A word for each object of a heap, which says its shade, and one for each region, which says how many words of marked
+/// objects were counted there. They change in single atomic steps. Workers share them by `&`, each with a pass of its own; no
+/// call waits.
 #[derive(Drop)]
 pub struct MarkTable<'a> {
     heap: &'a Heap,
@@ -34,8 +44,9 @@ pub struct MarkTable<'a> {
 }
 
 impl<'a> Model for MarkTable<'a> {
-    ghost use Rattle.std.specs.Prelude.{◌≡◌, Some};
+    ghost use Rattle.std.specs.Prelude.{◌≡◌, ◌+◌, Some};
     ghost use Rattle.sqz_image.specs.Objects.{object_count, find};
+    ghost use Rattle.sqz_regions.specs.Regions.{region_count};
     ghost use Rattle.sqz_marks.specs.Table.{SharedMarks, start_of};
 
     ghost Value = { SharedMarks };
@@ -44,7 +55,7 @@ impl<'a> Model for MarkTable<'a> {
 
     ghost invariant = { λ marks. (marks.heap.now ≡ marks.regions.now.memory)
         × (marks.table.shared.key.0.value ≡ marks.regions.now) × (marks.table.shared.key.1 ≡ marks.workers)
-        × (marks.table.shared.table_id.words ≡ object_count marks.regions.now.memory) × (marks.table.shared.table_id.slots ≡ 0)
+        × (marks.table.shared.table_id.words ≡ object_count marks.regions.now.memory + region_count marks.regions.now.cut marks.regions.now.memory) × (marks.table.shared.table_id.slots ≡ 0)
         × (find marks.regions.now.memory marks.regions.now.memory.special ≡ Some (start_of marks.regions.now.memory)) };
 }
 
@@ -53,12 +64,14 @@ impl<'a> Model for MarkTable<'a> {
 pub struct Closed {
     /// The shade of each object, as `finish` takes them.
     pub shades: Shades,
+    /// For each region the sum of the lengths of its marked objects' chunks, in words.
+    pub live_words: Vec<u32>,
 }
 
 impl<'a> MarkTable<'a> {
-    /// The table at which marking begins, and the pass that is all workers' share: the special objects array is grey and
-    /// won by it, all else white. Takes 8 bytes for each object, and as much again while it is made. Fails for want of
-    /// memory alone.
+    /// The table at which marking begins, and the pass that is all workers' share: the special objects array is grey, won by
+    /// it and counted, all else white. Takes 8 bytes for each object and each region, and as much again while it is made.
+    /// Fails for want of memory alone.
     pub fn new(
         alloc: Global,
         heap: &'a Heap,
@@ -70,8 +83,12 @@ impl<'a> MarkTable<'a> {
         ensures pass { IfOk result (λ made. IsPassOf made.0 made.1 × (made.1.view ≡ first_view workers (start_of heap.now))) }
         ensures refused { IfErr result (λ fault. fault ≡ OutOfMemory) }
     {
-        let mut words = vec![in alloc; 0u64; heap.len() as usize]?;
-        words[heap.special() as usize] = 1;
+        heap_bounds(heap);
+        let special = heap.special();
+        let objects = heap.len() as usize;
+        let mut words = vec![in alloc; 0u64; objects + regions.count() as usize]?;
+        words[special as usize] = 1;
+        words[objects + regions.region(special) as usize] = u64::from(heap.chunk(special).length);
         let weight = workers.number();
         let key = (Snapshot::of(regions), workers);
         let (table, seat) = Table::of_words(alloc, &words, &key)?;
@@ -97,6 +114,7 @@ impl<'a> MarkTable<'a> {
         requires of { IsPassOf self.now pass.old }
         requires inside { object < object_count self.now.heap.memory }
         ensures step { pass.new ≡ knowing pass.old (looked object result pass.old.view) }
+        ensures unwon { HasWon pass.old.view object → result ≢ White }
         ensures unseen { HasSeen pass.old.view object → result ≢ White }
         ensures black { HasBlackened pass.old.view object → result ≡ Black }
         ensures keeps { KeepsSeen pass.old.view pass.new.view }
@@ -114,6 +132,7 @@ impl<'a> MarkTable<'a> {
         requires inside { parent < object_count self.now.heap.memory }
         requires seen { HasSeen pass.old.view parent }
         ensures claim { IsClaim (target self.now.heap.memory parent slot) pass.old pass.new result }
+        ensures new { (object : ℕ) → result ≡ Won object → IsNewTo pass.old.view object }
         ensures keeps { KeepsSeen pass.old.view pass.new.view }
     {
         self.claim_of(pass, &TracedObject::of(self.heap, parent), slot)
@@ -124,6 +143,7 @@ impl<'a> MarkTable<'a> {
         requires of { IsPassOf self.now pass.old }
         requires seen { IsSeenChunk self.now.heap.memory pass.old.view parent.now }
         ensures claim { IsClaim (named_in self.now.heap.memory parent.now slot) pass.old pass.new result }
+        ensures new { (object : ℕ) → result ≡ Won object → IsNewTo pass.old.view object }
         ensures keeps { KeepsSeen pass.old.view pass.new.view }
     {
         let Some(object) = parent.target(self.heap, slot) else {
@@ -137,6 +157,19 @@ impl<'a> MarkTable<'a> {
             0 => Claim::Won(object),
             _ => Claim::Seen(object),
         }
+    }
+
+    /// Adds the length of an object's chunk to the number of its region. The pass won the object and has not counted it.
+    pub fn count(&self, pass: &mut Pass, object: u32)
+        requires of { IsPassOf self.now pass.old }
+        requires inside { object < object_count self.now.heap.memory }
+        requires won { HasWon pass.old.view object }
+        requires new { times object pass.old.view.counted ≡ 0 }
+        ensures step { pass.new ≡ knowing pass.old (counted object pass.old.view) }
+    {
+        let region = self.regions.region(object);
+        let words = self.heap.chunk(object).length;
+        self.grow::<Brand>(&mut pass.seat, object, region, words);
     }
 
     /// Makes an object black. The pass has seen it marked, and all objects to which it has an edge.
@@ -207,15 +240,26 @@ impl<'a> MarkTable<'a> {
         pass
     }
 
-    /// Ends the marking by the pass that is all workers' share, and gives the shades. Refused for want of memory alone; table
-    /// and pass come back as they were.
+    /// Ends the marking by the pass that is all workers' share, which has counted all that it won. Gives the shades, and the
+    /// sums of the regions; behind the heap's base there is room below 2^32 for all of these, which `bases` asks for. Refused
+    /// for want of memory alone; table and pass come back as they were.
     pub fn close(self, alloc: Global, pass: Pass) -> Result<Closed, (Self, Pass)>
         requires of { IsPassOf self pass }
         requires whole { pass.view.weight ≡ self.workers }
+        requires counted { HasCountedAll pass.view }
         ensures closed { IfOk result (λ closed. AreClosed self.entry.heap.memory pass.view closed.shades.items) }
+        ensures sums { IfOk result (λ closed. AreSums self.entry.heap (marks_of closed.shades.items) closed.live_words.items) }
+        ensures whole { IfOk result (λ closed. sum closed.live_words.items ≡ live_words self.entry.heap.memory (marks_of closed.shades.items)) }
+        ensures room { IfOk result (λ closed. self.entry.heap.memory.base + 4 * sum closed.live_words.items ≤ 2 ^ 32) }
         ensures refused { IfErr result (λ back. (back.0 ≡ self.entry) × (back.1 ≡ pass)) }
     {
-        let Ok(mut shades) = vec![in alloc; Shade::White; self.heap.len() as usize] else {
+        heap_bounds(self.heap);
+        let objects = self.heap.len() as usize;
+        let regions = self.regions.count() as usize;
+        let Ok(mut shades) = vec![in alloc; Shade::White; objects] else {
+            return Err((self, pass));
+        };
+        let Ok(mut live_words) = vec![in alloc; 0u32; regions] else {
             return Err((self, pass));
         };
         let MarkTable {
@@ -231,8 +275,34 @@ impl<'a> MarkTable<'a> {
         } = pass;
         let closed = table.close_with(seat);
         read_shades(&closed, &mut shades);
+        read_sums(&closed, objects, &mut live_words);
         closed.free();
-        Ok(Closed { shades })
+        Ok(Closed { shades, live_words })
+    }
+
+    /// Adds an object's length to the number of its region.
+    fn grow<O: CountedObject>(
+        &self,
+        seat: &mut Seat<(), View>,
+        object: u32,
+        region: u32,
+        words: u32,
+    )
+        requires of { seat.old.table_id ≡ self.now.table }
+        requires object { object ≡ O.object }
+        requires region { region ≡ region_at self.now.heap.cut self.now.heap.memory object }
+        requires inside { region < region_count self.now.heap.cut self.now.heap.memory }
+        requires words { words ≡ length (chunk_words self.now.heap.memory object) }
+        requires won { HasWon seat.old.me.0 object }
+        requires new { times object seat.old.me.0.counted ≡ 0 }
+        ensures table { seat.new.table_id ≡ seat.old.table_id }
+        ensures step { seat.new.me ≡ (counted object seat.old.me.0, seat.old.me.1) }
+    {
+        let _ = object;
+        let word = self.heap.len() as usize + region as usize;
+        self.table
+            .shared
+            .fetch_add::<Counting<O>>(seat, word, u64::from(words));
     }
 
     /// The seat of a new pass.
@@ -262,11 +332,24 @@ fn shade_of(word: u64) -> Shade
 
 /// Puts the shade that each word says in the place of the object's.
 fn read_shades(closed: &atomic_table::Closed<(), Global>, shades: &mut [Shade])
-    requires sized { length shades.old ≡ slots_len closed.now.words }
+    requires inside { length shades.old ≤ slots_len closed.now.words }
     requires full { IsFull closed.now.words }
-    ensures { shades.new ≡ map shade_of (slots_items closed.now.words) }
+    ensures { shades.new ≡ map shade_of (take (length shades.old) (slots_items closed.now.words)) }
 {
     for object in 0..shades.len() {
         shades[object] = shade_of(closed.word(object));
+    }
+}
+
+/// Puts the number that each word from this one on says in the place of the region's.
+fn read_sums(closed: &atomic_table::Closed<(), Global>, first: usize, sums: &mut [u32])
+    requires inside { first + length sums.old ≤ slots_len closed.now.words }
+    requires full { IsFull closed.now.words }
+    requires few { (region : ℕ) → region < length sums.old → slice_index (slots_items closed.now.words) (first + region) < 2 ^ 30 }
+    ensures sized { length sums.new ≡ length sums.old }
+    ensures read { (region : ℕ) → region < length sums.old → slice_index sums.new region ≡ slice_index (slots_items closed.now.words) (first + region) }
+{
+    for region in 0..sums.len() {
+        sums[region] = closed.word(first + region) as u32;
     }
 }

@@ -10,6 +10,8 @@ pub struct View {
     pub won: LinkedList<u32>,
     /// Objects that it knows to be marked.
     pub seen: LinkedList<u32>,
+    /// The objects whose words it counted in their regions.
+    pub counted: LinkedList<u32>,
     /// Objects that it knows to be black.
     pub blackened: LinkedList<u32>,
 }

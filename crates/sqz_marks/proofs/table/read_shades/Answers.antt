@@ -1,6 +1,6 @@
-use Rattle.std.proofs.Common.{◌≡◌, ◌<◌, length, get_or, map, set, sym, ap, subst, ◌∙◌, arith, inl, inr}
+use Rattle.std.proofs.Common.{◌≡◌, ◌<◌, ◌≤◌, length, get_or, map, take, set, sym, ap, subst, ◌∙◌, arith, inl, inr}
 use Rattle.std.proofs.lemmas.Bool.{cases_eq}
-use Rattle.std.proofs.lemmas.List.{ext_get_or, get_or-map, get_or-set_same, get_or-set_other, length-map, length-set}
+use Rattle.std.proofs.lemmas.List.{ext_get_or, get_or-map, get_or-set_same, get_or-set_other, get_or-take, length-map, length-set, length-take-le}
 use Rattle.std.specs.Slots.{slots_items, slots_counts}
 use Rattle.sqz_trace.specs.declared.shades.Shade.TheVariants.{White}
 use Rattle.sqz_marks.specs.Table.{shade_of}
@@ -24,9 +24,12 @@ loop-object-preserved c =
 
 pub returns : goal.returns
 returns c =
-    let words = slots_items c.args.closed.now.words in let shades = c.loop-object.shades in
-    let sized : length shades ≡ length words = c.loop-object.invariant.sized ∙ (slots_counts c.args.closed.now.words).0 in
-    ext_get_or White shades (map shade_of words) (sized ∙ sym (length-map words shade_of))
+    let words = slots_items c.args.closed.now.words in let shades = c.loop-object.shades in let count = length c.args.shades.now in
+    let few : count ≤ length words = omega (arith, c.requires.inside, (slots_counts c.args.closed.now.words).0) in
+    ext_get_or White shades (map shade_of (take count words))
+    (c.loop-object.invariant.sized ∙ sym (length-map (take count words) shade_of ∙ length-take-le count words few))
     (λ object lt.
+    let below : object < count = omega (arith, lt, c.loop-object.invariant.sized) in
     c.loop-object.invariant.read object (omega (arith, lt, c.loop-object-test.false, c.loop-object.auto.shades))
-    ∙ sym (get_or-map shade_of words object 0 White (omega (arith, lt, sized))))
+    ∙ ap shade_of (sym (get_or-take count words object 0 below))
+    ∙ sym (get_or-map shade_of (take count words) object 0 White (omega (arith, below, length-take-le count words few))))
