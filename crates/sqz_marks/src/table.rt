@@ -132,6 +132,7 @@ impl<'a> MarkTable<'a> {
         requires inside { parent < object_count self.now.heap.memory }
         requires seen { HasSeen pass.old.view parent }
         ensures claim { IsClaim (target self.now.heap.memory parent slot) pass.old pass.new result }
+        ensures inside { (object : ℕ) → result ≡ Won object → object < object_count self.now.heap.memory }
         ensures new { (object : ℕ) → result ≡ Won object → IsNewTo pass.old.view object }
         ensures keeps { KeepsSeen pass.old.view pass.new.view }
     {
@@ -143,6 +144,7 @@ impl<'a> MarkTable<'a> {
         requires of { IsPassOf self.now pass.old }
         requires seen { IsSeenChunk self.now.heap.memory pass.old.view parent.now }
         ensures claim { IsClaim (named_in self.now.heap.memory parent.now slot) pass.old pass.new result }
+        ensures inside { (object : ℕ) → result ≡ Won object → object < object_count self.now.heap.memory }
         ensures new { (object : ℕ) → result ≡ Won object → IsNewTo pass.old.view object }
         ensures keeps { KeepsSeen pass.old.view pass.new.view }
     {

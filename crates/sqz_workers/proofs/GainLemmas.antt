@@ -1,5 +1,7 @@
 -- What a pass gains by one step after another.
-use Rattle.std.proofs.Common.{◌≡◌, ℕ, ◌+◌, List, length, Some, refl, ap, ◌∙◌, arith, inl, inr}
+use Rattle.std.proofs.Common.{◌≡◌, ◌≢◌, ℕ, ◌+◌, ◌<◌, List, ◌∷◌, Some, refl, sym, ap, subst, ◌∙◌, arith, inl, inr}
+use Rattle.std.specs.Prelude.{Option, None}
+use Rattle.std.proofs.lemmas.Option.{same_Some}
 use Rattle.sqz_image.specs.declared.fault.Slot.TheVariants.{ClassWord, Field}
 use Rattle.sqz_image.specs.Objects.{Memory}
 use Rattle.sqz_trace.specs.declared.shades.Shade.{Shade}
@@ -8,12 +10,25 @@ use Rattle.sqz_trace.specs.Edges.{named_in}
 use Rattle.sqz_trace.specs.Targets.{IsTargetBelow}
 use Rattle.sqz_trace.proofs.TargetLemmas.{IsTargetBelow-next, IsTargetBelow-none}
 use Rattle.sqz_marks.specs.declared.view.View.{View}
-use Rattle.sqz_marks.specs.Core.{HasSeen, looked}
-use Rattle.sqz_marks.specs.Table.{SharedMarks, HeldPass, IsPassOf, KeepsSeen, knowing}
-use Rattle.sqz_workers.specs.Gains.{HasGained}
+use Rattle.sqz_marks.specs.Core.{times, HasSeen, looked, claimed, seen_by, counted, blackened}
+use Rattle.sqz_marks.specs.Table.{SharedMarks, HeldPass, IsPassOf, knowing}
+use Rattle.sqz_marks.proofs.TimesLemmas.{times-same, times-more, times-either}
+use Rattle.sqz_marks.specs.declared.claim.Claim.{Claim}
+use Rattle.sqz_marks.specs.declared.claim.Claim.TheVariants.{Won, Seen, Nothing}
+use Rattle.sqz_marks.specs.Claims.{IsClaim}
+use Rattle.sqz_workers.specs.Gains.{HasGained, HasGainedSome}
 
 pub HasGained-none : (pass : HeldPass) → HasGained pass pass 0
-HasGained-none pass = record { table = refl; workers = refl; weight = refl; won = omega arith; seen = λ object seen. seen }
+HasGained-none pass =
+    record {
+      table = refl;
+      workers = refl;
+      weight = refl;
+      won = omega arith;
+      seen = λ object seen. seen;
+      counted = λ all. all;
+      blackened = λ object known. known;
+    }
 
 pub HasGained-then : (old pass new : HeldPass) (first more : ℕ) → HasGained old pass first → HasGained pass new more
     → HasGained old new (first + more)
@@ -24,28 +39,123 @@ HasGained-then old pass new first more before after =
       weight = after.weight ∙ before.weight;
       won = omega (arith, before.won, after.won);
       seen = λ object seen. after.seen object (before.seen object seen);
+      counted = λ all. after.counted (before.counted all);
+      blackened = λ object known. after.blackened object (before.blackened object known);
     }
 
--- a look, and then what was gained
-pub HasGained-looked : (old pass new : HeldPass) (shade : Shade) (object more : ℕ) → pass ≡ knowing old (looked object shade old.view)
-    → KeepsSeen old.view pass.view → HasGained pass new more → HasGained old new more
-HasGained-looked old pass new shade object more step keeps after =
-    record {
-      table = after.table ∙ ap (λ (p : HeldPass). p.table) step;
-      workers = after.workers ∙ ap (λ (p : HeldPass). p.workers) step;
-      weight = after.weight ∙ ap (λ (p : HeldPass). p.view.weight) step ∙ looked-weight shade;
-      won = after.won ∙ ap (λ (p : HeldPass). length p.view.won + more) step ∙ ap (λ (list : List ℕ). length list + more) (looked-won shade);
-      seen = λ other seen. after.seen other (keeps other seen);
-    } where
-      looked-weight : (shade : Shade) → (looked object shade old.view).weight ≡ old.view.weight
-      looked-weight White = refl
-      looked-weight Grey = refl
-      looked-weight Black = refl
+-- the same where the first step won none
+pub HasGained-after : (old pass new : HeldPass) (more : ℕ) → HasGained old pass 0 → HasGained pass new more → HasGained old new more
+HasGained-after old pass new more before after =
+    let sum : 0 + more ≡ more = omega arith in
+    subst (HasGained old new) sum (HasGained-then old pass new 0 more before after)
 
-      looked-won : (shade : Shade) → (looked object shade old.view).won ≡ old.view.won
-      looked-won White = refl
-      looked-won Grey = refl
-      looked-won Black = refl
+-- or the second
+pub HasGained-before : (old pass new : HeldPass) (objects : ℕ) → HasGained old pass objects → HasGained pass new 0 → HasGained old new objects
+HasGained-before old pass new objects before after =
+    let sum : objects + 0 ≡ objects = omega arith in
+    subst (HasGained old new) sum (HasGained-then old pass new objects 0 before after)
+
+-- an object that became black
+pub HasGained-blackened : (old : HeldPass) (object : ℕ) → HasGained old (knowing old (blackened object old.view)) 0
+HasGained-blackened old object =
+    record {
+      table = refl;
+      workers = refl;
+      weight = refl;
+      won = omega arith;
+      seen = λ other seen. seen;
+      counted = λ all. all;
+      blackened = λ other known. omega (arith, known, times-more other object old.view.blackened);
+    }
+
+-- a look
+pub HasGained-looked : (old new : HeldPass) (shade : Shade) (object : ℕ) → new ≡ knowing old (looked object shade old.view) → HasGained old new 0
+HasGained-looked old new shade object step = subst (λ (pass : HeldPass). HasGained old pass 0) (sym step) (by_shade shade)
+  where
+    saw : HasGained old (knowing old (seen_by object old.view)) 0
+    saw =
+        record {
+          table = refl;
+          workers = refl;
+          weight = refl;
+          won = omega arith;
+          seen = λ other seen. omega (arith, seen, times-more other object old.view.seen);
+          counted = λ all. all;
+          blackened = λ other known. known;
+        }
+
+    by_shade : (shade : Shade) → HasGained old (knowing old (looked object shade old.view)) 0
+    by_shade White = HasGained-none old
+    by_shade Grey = saw
+    by_shade Black = HasGained-then old (knowing old (seen_by object old.view)) (knowing old (looked object Black old.view)) 0 0 saw
+        (HasGained-blackened (knowing old (seen_by object old.view)) object)
+
+-- a claim of an object that was marked
+pub HasGained-seen : (old : HeldPass) (object : ℕ) → HasGained old (knowing old (claimed object Grey old.view)) 0
+HasGained-seen old object = HasGained-looked old (knowing old (seen_by object old.view)) Grey object refl
+
+-- a claim of a white one, which is counted then
+pub HasGained-won : (old : HeldPass) (object : ℕ)
+    → HasGained old (knowing (knowing old (claimed object White old.view)) (counted object (claimed object White old.view))) 1
+HasGained-won old object =
+    record {
+      table = refl;
+      workers = refl;
+      weight = refl;
+      won = omega arith;
+      seen = λ other seen. omega (arith, seen, times-more other object old.view.seen);
+      counted = λ all other won. elim (times-either other object old.view.won won) [
+        | inl same ↦ subst (λ (o : ℕ). 0 < times o (object ∷ old.view.counted)) (sym same) (omega (arith, times-same object old.view.counted))
+        | inr won ↦ omega (arith, all other won, times-more other object old.view.counted)
+      ];
+      blackened = λ other known. known;
+    }
+
+-- where it does not matter how many objects were won
+pub HasGainedSome-of : (old new : HeldPass) (objects : ℕ) → HasGained old new objects → HasGainedSome old new
+HasGainedSome-of old new objects gained = record { objects = objects; gained = gained }
+
+pub HasGainedSome-then : (old pass new : HeldPass) → HasGainedSome old pass → HasGainedSome pass new → HasGainedSome old new
+HasGainedSome-then old pass new before after =
+    record {
+      objects = before.objects + after.objects;
+      gained = HasGained-then old pass new before.objects after.objects before.gained after.gained;
+    }
+
+-- the object that a claim names
+abbrev object_in : Claim → ℕ
+object_in (Won object) = object
+object_in (Seen object) = object
+object_in Nothing = 0
+
+module _ (old pass : HeldPass) (answer : Claim) where
+  -- an object that a slot names is won and counted
+  pub HasGained-claimed : (names : Option ℕ) (object : ℕ) (new : HeldPass) → IsClaim names old pass answer → answer ≡ Won object
+      → new ≡ knowing pass (counted object pass.view) → HasGained old new 1
+  HasGained-claimed None object new claim is step = absurd (let no : Nothing ≡ Won object = sym claim.0 ∙ is in cc)
+  HasGained-claimed (Some target) object new (inl claim) is step =
+      let same : target ≡ object = ap object_in (sym claim.0 ∙ is) in
+      subst (λ (p : HeldPass). HasGained old p 1)
+      (sym (step ∙ ap (λ (p : HeldPass). knowing p (counted object p.view)) claim.1
+      ∙ ap (λ o. knowing (knowing old (claimed o White old.view)) (counted object (claimed o White old.view))) same))
+      (HasGained-won old object)
+  HasGained-claimed (Some target) object new (inr claim) is step = absurd (let no : Seen target ≡ Won object = sym claim.0 ∙ is in cc)
+
+  -- or seen, or there is none
+  pub HasGained-unclaimed : (names : Option ℕ) → IsClaim names old pass answer → ((object : ℕ) → answer ≢ Won object) → HasGained old pass 0
+  HasGained-unclaimed None claim other = subst (λ (p : HeldPass). HasGained old p 0) (sym claim.1) (HasGained-none old)
+  HasGained-unclaimed (Some target) (inl claim) other = absurd (other target claim.0)
+  HasGained-unclaimed (Some target) (inr claim) other = subst (λ (p : HeldPass). HasGained old p 0) (sym claim.1) (HasGained-seen old target)
+
+  -- what the slot names was seen
+  pub HasSeen-claimed : (names : Option ℕ) (object : ℕ) → IsClaim names old pass answer → names ≡ Some object → HasSeen pass.view object
+  HasSeen-claimed None object claim is = absurd (let no : None ≡ Some object = is in cc)
+  HasSeen-claimed (Some target) object (inl claim) is =
+      subst (λ (p : HeldPass). HasSeen p.view object) (sym claim.1)
+      (subst (λ o. 0 < times object (o ∷ old.view.seen)) (sym (same_Some _ _ is)) (omega (arith, times-same object old.view.seen)))
+  HasSeen-claimed (Some target) object (inr claim) is =
+      subst (λ (p : HeldPass). HasSeen p.view object) (sym claim.1)
+      (subst (λ o. 0 < times object (o ∷ old.view.seen)) (sym (same_Some _ _ is)) (omega (arith, times-same object old.view.seen)))
 
 -- it is a pass of the same table
 pub IsPassOf-gained : (marks : SharedMarks) (old new : HeldPass) (objects : ℕ) → IsPassOf marks old → HasGained old new objects → IsPassOf marks new

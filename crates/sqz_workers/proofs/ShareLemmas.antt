@@ -1,9 +1,9 @@
 -- What a pass gains whose shares were worked on apart.
-use Rattle.std.proofs.Common.{◌≡◌, ℕ, ◌+◌, ◌-◌, ◌≤◌, List, [], ◌∷◌, ◌++◌, length, set, sum, sym, ap, subst, ◌∙◌, arith}
+use Rattle.std.proofs.Common.{◌≡◌, ℕ, ◌+◌, ◌-◌, ◌≤◌, List, [], ◌∷◌, ◌++◌, length, set, sum, sym, ap, subst, ◌∙◌, arith, inl, inr}
 use Rattle.std.proofs.lemmas.List.{length-append}
-use Rattle.sqz_marks.specs.Core.{HasSeen, kept_of, part_of, joined}
-use Rattle.sqz_marks.specs.Table.{HeldPass, knowing}
-use Rattle.sqz_marks.proofs.TimesLemmas.{times-append}
+use Rattle.sqz_marks.specs.Core.{HasSeen, HasBlackened, kept_of, part_of, joined}
+use Rattle.sqz_marks.specs.Table.{HeldPass, HasCountedAll, knowing}
+use Rattle.sqz_marks.proofs.TimesLemmas.{times-append, times-in_two}
 use Rattle.sqz_workers.specs.Gains.{HasGained}
 
 -- one worker's number is the sum
@@ -35,4 +35,18 @@ HasGained-joined old kept part first second new weight one other below is_kept i
           (let before : HasSeen kept.view object = subst (λ (p : HeldPass). HasSeen p.view object) (sym is_kept) seen in
           subst (λ (p : HeldPass). HasSeen p.view object) (sym is_new)
           (omega (arith, gained.seen object before, times-append object first.view.seen second.view.seen)));
-    }
+      counted = λ all.
+          (let kept_all : HasCountedAll kept.view = subst (λ (p : HeldPass). HasCountedAll p.view) (sym is_kept) all in
+          let part_all : HasCountedAll part.view = subst (λ (p : HeldPass). HasCountedAll p.view) (sym is_part) (λ object none. absurd (omega arith)) in
+          subst (λ (p : HeldPass). HasCountedAll p.view) (sym is_new) (both (gained.counted kept_all) (part_gained.counted part_all)));
+      blackened = λ object known.
+          (let before : HasBlackened kept.view object = subst (λ (p : HeldPass). HasBlackened p.view object) (sym is_kept) known in
+          subst (λ (p : HeldPass). HasBlackened p.view object) (sym is_new)
+          (omega (arith, gained.blackened object before, times-append object first.view.blackened second.view.blackened)));
+    } where
+      both : HasCountedAll first.view → HasCountedAll second.view → HasCountedAll (joined first.view second.view)
+      both first_all second_all object won =
+          elim (times-in_two object first.view.won second.view.won won) [
+            | inl won ↦ omega (arith, first_all object won, times-append object first.view.counted second.view.counted)
+            | inr won ↦ omega (arith, second_all object won, times-append object first.view.counted second.view.counted)
+          ]

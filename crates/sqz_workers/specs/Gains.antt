@@ -1,11 +1,41 @@
 -- What a pass gains as its worker marks.
-use Rattle.std.specs.Prelude.{◌≡◌, ℕ, ◌+◌, length}
-use Rattle.sqz_marks.specs.Table.{HeldPass, KeepsSeen}
+use Rattle.std.specs.Prelude.{◌≡◌, ℕ, ◌+◌, ◌<◌, length}
+use Rattle.sqz_marks.specs.declared.view.View.{View}
+use Rattle.sqz_marks.specs.Core.{times, HasWon, HasBlackened}
+use Rattle.sqz_marks.specs.Table.{HeldPass, KeepsSeen, HasCountedAll}
 
--- the same pass, of the same weight: it has won so many objects more, and what it had seen it still has seen
+-- what a pass knew to be black it still knows to be black
+abbrev pub KeepsBlackened : View → View → Type 0
+KeepsBlackened old new = (object : ℕ) → HasBlackened old object → HasBlackened new object
+
+-- the same pass, of the same weight: it has won so many objects more, and counted these; and what it had seen, or known to be black, it
+-- still has
 pub record HasGained (old new : HeldPass) (objects : ℕ) : Type 0 where
   pub table : new.table ≡ old.table
   pub workers : new.workers ≡ old.workers
   pub weight : new.view.weight ≡ old.view.weight
   pub won : length new.view.won ≡ length old.view.won + objects
   pub seen : KeepsSeen old.view new.view
+  pub counted : HasCountedAll old.view → HasCountedAll new.view
+  pub blackened : KeepsBlackened old.view new.view
+
+-- the same, with so many objects more as there are
+pub record HasGainedSome (old new : HeldPass) : Type 0 where
+  pub objects : ℕ
+  pub gained : HasGained old new objects
+
+-- an object that the pass won it knows to be black
+abbrev pub IsSettled : View → ℕ → Type 0
+IsSettled view object = HasWon view object → HasBlackened view object
+
+-- a pass came to know that an object is black, one of so many
+pub record HasBlackenedMore (count : ℕ) (old new : View) : Type 0 where
+  pub object : ℕ
+  pub inside : object < count
+  pub before : times object old.blackened ≡ 0
+  pub now : HasBlackened new object
+
+-- a pass looked at an object that is not grey: it has won none more, and if it won this one, it knows it to be black
+pub record IsPassedBy (object : ℕ) (old new : View) : Type 0 where
+  pub won : new.won ≡ old.won
+  pub settled : IsSettled new object

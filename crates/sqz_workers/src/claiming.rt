@@ -3,7 +3,7 @@
 ghost use Rattle.std.specs.Prelude.{◌≡◌, ℕ, ◌+◌, ◌<◌, ◌≤◌, ◌^◌, Some};
 ghost use Rattle.sqz_image.specs.Objects.{object_count};
 ghost use Rattle.sqz_trace.specs.Edges.{named_in};
-ghost use Rattle.sqz_marks.specs.Core.{HasSeen};
+ghost use Rattle.sqz_marks.specs.Core.{HasSeen, HasBlackened};
 ghost use Rattle.sqz_marks.specs.Table.{IsPassOf, IsSeenChunk};
 ghost use Rattle.sqz_workers.specs.Gains.{HasGained};
 
@@ -35,9 +35,9 @@ pub(crate) fn mark_taken<L: Worklist>(
     }
 }
 
-/// Claims what each slot of a grey object names, puts what was won into the worklist, and makes the object black. Answers
+/// Claims what each slot of a grey object names, counts what was won and puts it into the worklist, and makes the object black. Answers
 /// how many objects were won.
-fn mark_slots<L: Worklist>(
+pub(crate) fn mark_slots<L: Worklist>(
     heap: &Heap,
     table: &MarkTable<'_>,
     pass: &mut Pass,
@@ -50,6 +50,7 @@ fn mark_slots<L: Worklist>(
     requires seen { HasSeen pass.old.view object }
     ensures gained { HasGained pass.old pass.new result }
     ensures few { result ≤ 2 ^ 30 }
+    ensures black { HasBlackened pass.new.view object }
 {
     let parent = TracedObject::of(heap, object);
     let mut won = claim_slot(table, pass, worklist, &parent, Slot::ClassWord);
@@ -60,7 +61,7 @@ fn mark_slots<L: Worklist>(
     won
 }
 
-/// Claims what a slot names, and puts it into the worklist if it was won. Answers how many objects were won.
+/// Claims what a slot names, and counts it and puts it into the worklist if it was won. Answers how many objects were won.
 fn claim_slot<L: Worklist>(
     table: &MarkTable<'_>,
     pass: &mut Pass,
@@ -76,6 +77,7 @@ fn claim_slot<L: Worklist>(
 {
     match table.claim_of(pass, parent, slot) {
         Claim::Won(object) => {
+            table.count(pass, object);
             worklist.put(object);
             1
         }

@@ -1,36 +1,83 @@
 //! Marking what the workers left grey.
 
-ghost use Rattle.std.specs.Prelude.{◌≡◌, ◌+◌, ◌≤◌, unwrap_or};
+ghost use Rattle.std.specs.Prelude.{◌≡◌, ℕ, ◌<◌, ◌≤◌, true, false};
+ghost use Rattle.sqz_image.specs.Objects.{object_count};
 ghost use Rattle.sqz_marks.specs.Table.{IsPassOf};
-ghost use Rattle.sqz_workers.specs.Gains.{HasGained};
+ghost use Rattle.sqz_workers.specs.Gains.{HasGainedSome, IsSettled, HasBlackenedMore, IsPassedBy};
 
-use crate::claiming::mark_taken;
+use crate::claiming::{mark_slots, mark_taken};
 use sqz_image::Heap;
 use sqz_marks::{MarkTable, Pass};
+use sqz_trace::Shade;
 
-/// Marks on the table what the workers left grey, object by object, each with all that becomes grey on the way: a worklist
-/// with room for all objects takes these. Answers how many objects were won.
+/// Marks on the table what the workers left grey, and all that becomes grey on the way, until none is grey: a worklist with
+/// room for all objects takes these. Each time that it has gone over the objects and found a grey one it goes over them again.
 pub(crate) fn mark_rest(
     heap: &Heap,
     table: &MarkTable<'_>,
     pass: &mut Pass,
     worklist: &mut Vec<u32>,
-) -> u64
+)
     requires heap { table.now.heap.memory ≡ heap.now }
     requires of { IsPassOf table.now pass.old }
-    ensures { HasGained pass.old pass.new result }
+    ensures gained { HasGainedSome pass.old pass.new }
+    ensures settled { (object : ℕ) → object < object_count heap.now → IsSettled pass.new.view object }
 {
-    let mut won = 0u64;
-    let mut objects = 0..heap.len();
-    for _ in 0..2 * heap.len() {
-        let next = match worklist.pop() {
-            Some(object) => Some(object),
-            None => objects.next(),
-        };
-        let Some(object) = next else {
+    while mark_greys(heap, table, pass, worklist) {}
+}
+
+/// Goes over all objects and marks on from each that is grey. Says whether there was one.
+fn mark_greys(heap: &Heap, table: &MarkTable<'_>, pass: &mut Pass, worklist: &mut Vec<u32>) -> bool
+    requires heap { table.now.heap.memory ≡ heap.now }
+    requires of { IsPassOf table.now pass.old }
+    ensures gained { HasGainedSome pass.old pass.new }
+    ensures more { result ≡ true → HasBlackenedMore (object_count heap.now) pass.old.view pass.new.view }
+    ensures settled { result ≡ false → (object : ℕ) → object < object_count heap.now → IsSettled pass.new.view object }
+{
+    let mut found = false;
+    for object in 0..heap.len() {
+        if mark_from(heap, table, pass, worklist, object) {
+            found = true;
+        }
+    }
+    found
+}
+
+/// Marks on from an object, if it is grey. Says whether it was.
+fn mark_from(
+    heap: &Heap,
+    table: &MarkTable<'_>,
+    pass: &mut Pass,
+    worklist: &mut Vec<u32>,
+    object: u32,
+) -> bool
+    requires heap { table.now.heap.memory ≡ heap.now }
+    requires of { IsPassOf table.now pass.old }
+    requires inside { object < object_count heap.now }
+    ensures gained { HasGainedSome pass.old pass.new }
+    ensures more { result ≡ true → HasBlackenedMore (object_count heap.now) pass.old.view pass.new.view }
+    ensures passed { result ≡ false → IsPassedBy object pass.old.view pass.new.view }
+{
+    match table.look(pass, object) {
+        Shade::Grey => {
+            mark_slots(heap, table, pass, worklist, object);
+            mark_listed(heap, table, pass, worklist);
+            true
+        }
+        Shade::White | Shade::Black => false,
+    }
+}
+
+/// Marks on from the objects of a worklist until it is empty. No more are put into it than there are.
+fn mark_listed(heap: &Heap, table: &MarkTable<'_>, pass: &mut Pass, worklist: &mut Vec<u32>)
+    requires heap { table.now.heap.memory ≡ heap.now }
+    requires of { IsPassOf table.now pass.old }
+    ensures { HasGainedSome pass.old pass.new }
+{
+    for _ in 0..heap.len() {
+        let Some(object) = worklist.pop() else {
             break;
         };
-        won += u64::from(mark_taken(heap, table, pass, worklist, object));
+        mark_taken(heap, table, pass, worklist, object);
     }
-    won
 }

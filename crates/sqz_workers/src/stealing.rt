@@ -15,7 +15,7 @@ use crate::turns::take_turns;
 use crossbeam_deque::{Stealer, Worker};
 use sqz_image::{Fault, Heap};
 use sqz_marks::{MarkTable, Pass, Workers};
-use sqz_regions::{Regions, live_words};
+use sqz_regions::Regions;
 use sqz_trace::{Marks, finish};
 use std::alloc::{AllocError, Global};
 use std::thread::{Threads, join_mut};
@@ -77,10 +77,9 @@ pub fn mark<R: Threads + Sync, G: Gate>(
     };
     let marks = finish(heap, closed.shades);
     let (claims, finished) = counted(alloc, &claims, marks.count())?;
-    let live_words = live_words(alloc, heap, regions, &marks)?;
     Ok(Marked {
         marks,
-        live_words,
+        live_words: closed.live_words,
         claims,
         finished,
     })

@@ -5,9 +5,11 @@ use Rattle.sqz_trace.specs.Edges.{named_in, HasEdge}
 use Rattle.sqz_trace.specs.Slots.{traced}
 use Rattle.sqz_trace.specs.Targets.{IsTargetBelow}
 use Rattle.sqz_trace.proofs.TargetLemmas.{IsTargetBelow-edge}
+use Rattle.sqz_marks.specs.Core.{HasBlackened}
 use Rattle.sqz_marks.specs.Table.{HeldPass}
+use Rattle.sqz_marks.proofs.TimesLemmas.{times-same}
 use Rattle.sqz_workers.specs.Gains.{HasGained}
-use Rattle.sqz_workers.proofs.GainLemmas.{HasGained-then, HasSeenBelow-next}
+use Rattle.sqz_workers.proofs.GainLemmas.{HasGained-then, HasGained-before, HasGained-blackened, HasSeenBelow-next}
 use Rattle.sqz_workers.proofs.claiming.mark_slots.Goals as goal
 
 pub claim_slot-won-requires-in-loop-k-clause-seen : goal.claim_slot-won-requires-in-loop-k-clause-seen
@@ -43,6 +45,11 @@ blacken-requires-clause-targets g c target edge =
 
 pub returns-clause-gained : goal.returns-clause-gained
 returns-clause-gained g c =
-    let gained = c.loop-k.invariant.gained in
-    subst (λ (pass : HeldPass). HasGained c.args.pass.now pass c.loop-k.won) (sym c.blacken.ensures.step)
-    record { table = gained.table; workers = gained.workers; weight = gained.weight; won = gained.won; seen = gained.seen }
+    let pass = c.loop-k.pass in
+    HasGained-before c.args.pass.now pass c.blacken.new.pass c.loop-k.won c.loop-k.invariant.gained
+    (subst (λ (p : HeldPass). HasGained pass p 0) (sym c.blacken.ensures.step) (HasGained-blackened pass c.args.object))
+
+pub returns-clause-black : goal.returns-clause-black
+returns-clause-black g c =
+    subst (λ (p : HeldPass). HasBlackened p.view c.args.object) (sym c.blacken.ensures.step)
+    (omega (arith, times-same c.args.object c.loop-k.pass.view.blackened))

@@ -1,0 +1,24 @@
+use Rattle.std.proofs.Common.{◌≡◌, sym, ◌∙◌, arith, inl, inr}
+use Rattle.sqz_marks.specs.declared.claim.Claim.TheVariants.{Won, Seen, Nothing}
+use Rattle.sqz_trace.specs.Edges.{named_in}
+use Rattle.sqz_workers.proofs.GainLemmas.{HasGained-claimed, HasGained-unclaimed, HasSeen-claimed}
+use Rattle.sqz_workers.proofs.claiming.claim_slot.Goals as goal
+
+pub returns-in-Won-clause-gained : goal.returns-in-Won-clause-gained
+returns-in-Won-clause-gained g c =
+    HasGained-claimed c.args.pass.now c.claim_of.new.pass c.claim_of.result (named_in c.args.table.now.heap.memory c.args.parent.now c.args.slot)
+    c.in-Won.object c.count.new.pass c.claim_of.ensures.claim c.in-Won.is c.count.ensures.step
+
+pub returns-in-Seen : goal.returns-in-Seen
+returns-in-Seen g c =
+    let names = named_in c.args.table.now.heap.memory c.args.parent.now c.args.slot in
+    record {
+      gained =
+          HasGained-unclaimed c.args.pass.now c.claim_of.new.pass c.claim_of.result names c.claim_of.ensures.claim
+          (λ object won. elim c.in-Seen.is [
+            | inl seen ↦ (let no : Seen seen.0 ≡ Won object = sym seen.1 ∙ won in cc)
+            | inr nothing ↦ (let no : Nothing ≡ Won object = sym nothing ∙ won in cc)
+          ]);
+      one = omega arith;
+      named = λ object is. HasSeen-claimed c.args.pass.now c.claim_of.new.pass c.claim_of.result names object c.claim_of.ensures.claim is;
+    }

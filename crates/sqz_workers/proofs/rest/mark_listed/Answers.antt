@@ -1,0 +1,14 @@
+use Rattle.sqz_workers.proofs.GainLemmas.{HasGained-none, HasGainedSome-of, HasGainedSome-then, IsPassOf-gained}
+use Rattle.sqz_workers.proofs.rest.mark_listed.Goals as goal
+
+pub loop-init : goal.loop-init
+loop-init c = HasGainedSome-of c.args.pass.now c.args.pass.now 0 (HasGained-none c.args.pass.now)
+
+pub mark_taken-requires-clause-of : goal.mark_taken-requires-clause-of
+mark_taken-requires-clause-of c =
+    IsPassOf-gained c.args.table.now c.args.pass.now c.loop.pass c.loop.invariant.objects c.requires.of c.loop.invariant.gained
+
+pub loop-preserved : goal.loop-preserved
+loop-preserved c =
+    HasGainedSome-then c.args.pass.now c.loop.pass c.mark_taken.new.pass c.loop.invariant
+    (HasGainedSome-of c.loop.pass c.mark_taken.new.pass c.mark_taken.result c.mark_taken.ensures.gained)
