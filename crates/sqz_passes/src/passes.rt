@@ -11,7 +11,7 @@ use sqz_image::{Image, ReadSource, WriteSink, read_all, read_image, write_image}
 use sqz_marks::Workers;
 use sqz_regions::{Cut, Forward, Regions, bases};
 use sqz_slide::slide;
-use sqz_trace::first_defect;
+use sqz_trace::{first_defect, mark_plain};
 use sqz_workers::{OpenGate, mark};
 use std::alloc::Global;
 use std::fs::File;
@@ -39,7 +39,7 @@ pub(crate) fn print_passes<R: Files + Threads + Sync + Clock + Print>(
     runs: u32,
 ) -> Result<()> {
     let names = [
-        "read", "heap", "regions", "mark", "defects", "bases", "places", "slide", "census",
+        "read", "heap", "regions", "plain", "mark", "defects", "bases", "places", "slide", "census",
         "print", "write",
     ];
     for name in names {
@@ -69,7 +69,8 @@ fn print_run<R: Files + Threads + Sync + Clock + Print>(
     print_compaction(rt, alloc, work, &image, &mut watch)
 }
 
-/// Prints how long the passes take behind reading. That of marking makes the sums too.
+/// Prints how long the passes take behind reading. That of marking makes the sums too, and plain marking, which a run does
+/// not do, stands before it to compare with.
 fn print_compaction<R: Files + Threads + Sync + Clock + Print>(
     rt: &R,
     alloc: Global,
@@ -82,6 +83,8 @@ fn print_compaction<R: Files + Threads + Sync + Clock + Print>(
     let heap = image.heap();
     heap_bounds(heap);
     let regions = Regions::of(alloc, heap, &work.cut)?;
+    watch.lap(rt)?;
+    drop(mark_plain(alloc, heap)?);
     watch.lap(rt)?;
     let marked = mark(rt, alloc, heap, &regions, work.workers, &OpenGate)?;
     watch.lap(rt)?;
