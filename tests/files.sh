@@ -299,6 +299,44 @@ compacts_in_four_times_its_size() {
   compacts_in_memory "$1" "$1"
 }
 
+# Makes the library that refuses requests for memory, by a C compiler if there is one.
+make_refuser() {
+  cc -shared -fPIC -o refuse_memory.so "$root/tests/refuse_memory.c" 2>/dev/null
+}
+
+# Runs the built program itself with these words, and refuses its request for memory with this number. Where there was
+# one there is a file `refused` then.
+run_with_refusal() {
+  local number=$1
+  shift
+  rm -f refused
+  REFUSED_REQUEST=$number timeout 30 env LD_PRELOAD=./refuse_memory.so "$program" "$@" >printed 2>said
+  status=$?
+}
+
+# Whether the last run ended for want of memory, before it printed or wrote anything.
+wanted_memory() {
+  faulted 4 'fault 15: out of memory' && has_old_output
+}
+
+# Each request for memory is refused in turn, until a run has no more of them. Mostly that is want of memory. A thread
+# that is not started and a list of objects that does not grow are done without; then all is written.
+bears_each_refusal() {
+  local image=$1 answer=$2 census=$3 number wants=0
+  shift 3
+  for ((number = 1; number < 1000; number++)); do
+    put_old_output
+    run_with_refusal "$number" "$@" "$image" out
+    if [ -e refused ] && wanted_memory; then
+      wants=$((wants + 1))
+    else
+      counted out "$answer" "$census" || return
+    fi
+    [ -e refused ] || break
+  done
+  [ ! -e refused ] && [ "$wants" -gt $((number / 2)) ]
+}
+
 # The bytes come through a pipe, a few thousand at a time.
 compacts_from_pipe() {
   local writer
@@ -437,6 +475,20 @@ case_of 'compacts from a pipe' compacts_from_pipe "$image" "$answer"
 if [ "$(id -u)" -ne 0 ]; then
   case_of 'reports an input without the right to read it' reports_input_without_right "$image"
   case_of 'reports an output without the right to write it' reports_output_without_right "$image"
+fi
+
+if make_refuser; then
+  for workers in 1 2; do
+    case_of "bears each refusal of memory with workers $workers" bears_each_refusal "$images/dead_cycle.image" \
+      "$images/dead_cycle.compacted.image" /dev/null --workers "$workers"
+  done
+  for row in '1 dead_cycle' '2 dead_cycle' '1 dozen_classes' '2 big_endian_class_names'; do
+    read -r workers name <<<"$row"
+    case_of "bears each refusal of memory with the census of $name and workers $workers" bears_each_refusal \
+      "$images/$name.image" "$images/$name.compacted.image" "$images/$name.census" --workers "$workers" --census
+  done
+else
+  echo 'left out: refusals of memory, which want a C compiler'
 fi
 
 # Of the first the data are one block of 64 KiB, so that the limit cuts the last write short. Where no object is dead an
