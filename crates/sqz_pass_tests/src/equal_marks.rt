@@ -9,7 +9,7 @@ use super::images::{
 use super::tracing::flags_of;
 use sqz_image::Heap;
 use sqz_marks::Workers;
-use sqz_regions::{Cut, Regions};
+use sqz_regions::{Cut, Regions, live_words};
 use sqz_test_images::{DEAD_CYCLE, class_words, image_of};
 use sqz_trace::mark_plain;
 use sqz_workers::{OpenGate, mark, mark_locked};
@@ -18,14 +18,17 @@ use std::sync::Wait;
 use std::test::Fail;
 use std::thread::Threads;
 
-/// Which objects are marked by three workers who steal.
-fn marked_by_stealing<R: Threads + Sync + AllocGlobal>(
+/// Which objects are marked by three workers who steal. Asserts that the words that they counted in each region are those of
+/// the marked objects there.
+fn marked_by_stealing<R: Threads + Sync + Abort + AllocGlobal>(
     rt: &R,
     heap: &Heap,
 ) -> Result<Vec<bool>, Fail> {
     let cut = Cut::every(4)?;
     let regions = Regions::of(rt.alloc(), heap, &cut)?;
     let marked = mark(rt, rt.alloc(), heap, &regions, Workers::new(3)?, &OpenGate)?;
+    let sums = live_words(rt.alloc(), heap, &regions, &marked.marks)?;
+    assert_eq!(rt; marked.live_words.as_slice(), sums.as_slice(), "words of regions");
     Ok(flags_of(rt.alloc(), heap, &marked.marks)?)
 }
 
