@@ -1,11 +1,11 @@
 -- Whether events of passes over an object memory are a legal run, by a test that computes.
 use Rattle.std.proofs.Common.{◌≡◌, ◌≢◌, ℕ, Bool, true, ◌&&◌, not, eqb, ltb, leb, List, [], ◌∷◌, length, refl}
 use Rattle.std.proofs.Common.{eq-eqb}
-use Rattle.std.proofs.lemmas.Bool.{ltb-true, leb-true, and_parts}
+use Rattle.std.proofs.lemmas.Bool.{ltb-true, leb-true, eqb-true, and_parts}
 use Rattle.sqz_image.specs.Objects.{object_count, chunk_words}
 use Rattle.sqz_regions.specs.Regions.{Regioning}
 use Rattle.sqz_marks.specs.declared.view.View.{View}
-use Rattle.sqz_marks.specs.Core.{State, Event, Look, Claim, Blacken, Split, Join, Meets, LeadsTo, IsLegalRun}
+use Rattle.sqz_marks.specs.Core.{State, Event, Look, Claim, Count, Blacken, Split, Join, Meets, LeadsTo, IsLegalRun}
 use Rattle.sqz_marks.specs.Core.{marking_of, opening, after, pass_at, times}
 use Rattle.sqz_examples.proofs.TracingTest.{has_edge, has_edge-true, all_named_pass, targets_pass}
 
@@ -22,6 +22,8 @@ module _ (heap : Regioning) (workers start : ℕ) where
   is_met state pass (Look object) = leb 1 (pass_at state.passes pass).weight && ltb object (object_count heap.memory)
   is_met state pass (Claim parent object) =
       has_seen (pass_at state.passes pass) parent && (ltb object (object_count heap.memory) && has_edge heap.memory parent object)
+  is_met state pass (Count object) =
+      ltb 0 (times object (pass_at state.passes pass).won) && eqb (times object (pass_at state.passes pass).counted) 0
   is_met state pass (Blacken object) =
       let view : View = pass_at state.passes pass in
       has_seen view object
@@ -40,6 +42,10 @@ module _ (heap : Regioning) (workers start : ℕ) where
       let a = and_parts (has_seen (pass_at state.passes pass) parent) (ltb object (object_count heap.memory) && edge) h in
       let b = and_parts (ltb object (object_count heap.memory)) edge a.1 in
       (ltb-true _ _ a.0, ltb-true _ _ b.0, has_edge-true heap.memory parent object b.1)
+  is_met-true state pass (Count object) h =
+      let view : View = pass_at state.passes pass in
+      let parts = and_parts (ltb 0 (times object view.won)) (eqb (times object view.counted) 0) h in
+      (ltb-true _ _ parts.0, eqb-true _ _ parts.1)
   is_met-true state pass (Blacken object) h =
       let view : View = pass_at state.passes pass in
       let seen : Bool = all_named_pass heap.memory (has_seen view) (chunk_words heap.memory object) in
@@ -59,21 +65,22 @@ module _ (heap : Regioning) (workers start : ℕ) where
   abbrev pub is_legal : State → List (ℕ × Event) → Bool
   is_legal state [] = true
   is_legal state ((pass, event) ∷ run) =
-      ltb pass (length state.passes) && (is_met state pass event && is_legal (after state pass event) run)
+      ltb pass (length state.passes) && (is_met state pass event && is_legal (after (marking_of heap workers start) state pass event) run)
 
   -- the state in which a run ends
   abbrev pub last_state : State → List (ℕ × Event) → State
   last_state state [] = state
-  last_state state ((pass, event) ∷ run) = last_state (after state pass event) run
+  last_state state ((pass, event) ∷ run) = last_state (after (marking_of heap workers start) state pass event) run
 
   LeadsTo-computed : (state : State) (run : List (ℕ × Event)) → is_legal state run ≡ true
       → LeadsTo (marking_of heap workers start) state run (last_state state run)
   LeadsTo-computed state [] h = refl
   LeadsTo-computed state ((pass, event) ∷ run) h =
-      let rest : Bool = is_legal (after state pass event) run in
+      let next : State = after (marking_of heap workers start) state pass event in
+      let rest : Bool = is_legal next run in
       let a = and_parts (ltb pass (length state.passes)) (is_met state pass event && rest) h in
       let b = and_parts (is_met state pass event) rest a.1 in
-      (ltb-true _ _ a.0, is_met-true state pass event b.0, LeadsTo-computed (after state pass event) run b.1)
+      (ltb-true _ _ a.0, is_met-true state pass event b.0, LeadsTo-computed next run b.1)
 
   -- a run that passes leads from the opening to the state that is computed
   pub IsLegalRun-computed : (run : List (ℕ × Event)) → is_legal (opening (marking_of heap workers start)) run ≡ true
