@@ -6,14 +6,15 @@ use Rattle.sqz_marks.specs.declared.view.View.{View}
 use Rattle.sqz_marks.specs.declared.claim.Claim.{Claim}
 use Rattle.sqz_marks.specs.declared.claim.Claim.TheVariants.{Won, Seen, Nothing}
 use Rattle.sqz_marks.specs.Core.{HasSeen}
-use Rattle.sqz_marks.specs.Table.{HeldPass, KeepsSeen}
+use Rattle.sqz_marks.specs.Table.{HeldPass, KeepsSeen, HasCountedAll}
 
--- it is of the same table, has the same weight, and still has seen what it had seen
+-- it is of the same table, has the same weight, still has seen what it had seen, and has counted all that it won if it had before
 pub record IsLater (old new : HeldPass) : Type 0 where
   pub table : new.table ≡ old.table
   pub workers : new.workers ≡ old.workers
   pub weight : new.view.weight ≡ old.view.weight
   pub keeps : KeepsSeen old.view new.view
+  pub counts : HasCountedAll old.view → HasCountedAll new.view
 
 -- it has seen the object that a claim found, if there was one
 abbrev pub Knows : View → Claim → Type 0

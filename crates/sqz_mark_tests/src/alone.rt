@@ -1,25 +1,26 @@
 //! The mark table as a marker by itself: one pass and a list of objects.
 
-ghost use Rattle.std.specs.Prelude.{◌≡◌, ◌<◌, ℕ, IfOk, IfErr, OnOk, Some};
+ghost use Rattle.std.specs.Prelude.{◌≡◌, ◌<◌, ℕ, length, IfOk, IfErr, OnOk, Some};
 ghost use Rattle.sqz_image.specs.declared.fault.Fault.TheVariants.{OutOfMemory};
 ghost use Rattle.sqz_image.specs.Objects.{object_count};
 ghost use Rattle.sqz_trace.specs.Edges.{HasEdge, named_in};
-ghost use Rattle.sqz_trace.specs.Shades.{AreLawfulOf};
+ghost use Rattle.sqz_trace.specs.Shades.{marks_of, AreLawfulOf};
+ghost use Rattle.sqz_regions.specs.Bases.{AreSums};
 ghost use Rattle.sqz_marks.specs.Core.{HasSeen};
 ghost use Rattle.sqz_marks.specs.Table.{IsPassOf, IsSeenChunk};
 ghost use Rattle.sqz_mark_tests.specs.Passes.{AreSeen, ClaimsTargets};
 
 use super::images::{IMAGES, Words};
 use sqz_image::{Fault, Heap, Slot, read_image};
-use sqz_marks::{Claim, MarkTable, Pass, Workers};
-use sqz_regions::{Cut, Regions};
+use sqz_marks::{Claim, Closed, MarkTable, Pass, Workers};
+use sqz_regions::{Cut, Regions, live_words};
 use sqz_test_images::file_of;
-use sqz_trace::{Shade, Shades, TracedObject, mark_plain};
+use sqz_trace::{Marks, Shade, TracedObject, mark_plain};
 use std::alloc::{AllocError, Global};
 use std::process::Abort;
 use std::test::Fail;
 
-/// Claims the object that a slot names, and adds it to a list where the pass won it.
+/// Claims the object that a slot names. Where the pass won it, it is counted and added to a list.
 fn claim_target(
     table: &MarkTable<'_>,
     pass: &mut Pass,
@@ -34,12 +35,14 @@ fn claim_target(
         pass.old pass.new won.new.items) }
 {
     if let Claim::Won(found) = table.claim_of(pass, parent, slot) {
+        table.count(pass, found);
         won.push(found)?;
     }
     Ok(())
 }
 
-/// Claims all objects that an object names, adds those to a list that the pass won, and makes the object black.
+/// Claims all objects that an object names, counts those that the pass won and adds them to a list, and makes the object
+/// black.
 pub(crate) fn mark_targets(
     table: &MarkTable<'_>,
     heap: &Heap,
@@ -63,11 +66,12 @@ pub(crate) fn mark_targets(
     Ok(())
 }
 
-/// The shades of the objects of a heap when one worker has marked them. An object is won once at most, so the list is
-/// empty after as many turns as there are objects.
-fn mark_alone(alloc: Global, heap: &Heap, regions: &Regions<'_>) -> Result<Shades, Fault>
+/// The shades of the objects of a heap when one worker has marked them, and how many live words each region has. An object
+/// is won once at most, so the list is empty after as many turns as there are objects.
+fn mark_alone(alloc: Global, heap: &Heap, regions: &Regions<'_>) -> Result<Closed, Fault>
     requires { regions.now.memory ≡ heap.now }
-    ensures lawful { IfOk result (λ shades. AreLawfulOf heap.now shades.items) }
+    ensures lawful { IfOk result (λ closed. AreLawfulOf heap.now closed.shades.items) }
+    ensures sums { IfOk result (λ closed. AreSums regions.now (marks_of closed.shades.items) closed.live_words.items) }
     ensures refused { IfErr result (λ fault. fault ≡ OutOfMemory) }
 {
     let (table, mut pass) = MarkTable::new(alloc, heap, regions, Workers::new(1)?)?;
@@ -77,14 +81,57 @@ fn mark_alone(alloc: Global, heap: &Heap, regions: &Regions<'_>) -> Result<Shade
         let Some(object) = won.pop() else { break };
         mark_targets(&table, heap, &mut pass, object, &mut won)?;
     }
-    match table.close(alloc, pass) {
-        Ok(closed) => Ok(closed.shades),
-        Err(_) => Err(Fault::OutOfMemory),
+    let Ok(closed) = table.close(alloc, pass) else {
+        return Err(Fault::OutOfMemory);
+    };
+    Ok(closed)
+}
+
+/// Asserts that objects are black where they are marked, and white else.
+fn assert_shades<R: Abort>(rt: &R, heap: &Heap, shades: &[Shade], marks: &Marks, words: &[u32])
+    requires shades { length shades.now ≡ object_count heap.now }
+    requires marks { length marks.now ≡ object_count heap.now }
+{
+    for object in 0..heap.len() {
+        let wanted = if marks.has(object) {
+            Shade::Black
+        } else {
+            Shade::White
+        };
+        assert_eq!(rt;
+            shades[object as usize],
+            wanted,
+            "object {object} of {words:?}"
+        );
     }
+}
+
+/// Asserts that one worker marks what `mark_plain` marks of an image with these words, and counts the live words of the
+/// regions of a cut.
+fn assert_marks<R: Abort + AllocGlobal>(
+    rt: &R,
+    heap: &Heap,
+    cut: &Cut,
+    words: &[u32],
+) -> Result<(), Fail> {
+    let regions = Regions::of(rt.alloc(), heap, cut)?;
+    let closed = mark_alone(rt.alloc(), heap, &regions)?;
+    let marks = mark_plain(rt.alloc(), heap)?;
+    assert_eq!(rt; closed.shades.len(), heap.len() as usize);
+    assert_shades(rt, heap, &closed.shades, &marks, words);
+    let wanted = live_words(rt.alloc(), heap, &regions, &marks)?;
+    assert_eq!(rt;
+        closed.live_words.as_slice(),
+        wanted.as_slice(),
+        "{words:?}"
+    );
+    Ok(())
 }
 
 #[test]
 fn marks_what_mark_plain_marks(rt: HostRuntime) -> Result<(), Fail> {
+    let each_word = Cut::every(1)?;
+    let one_region = Cut::every(65536)?;
     for Words {
         order,
         base,
@@ -94,20 +141,8 @@ fn marks_what_mark_plain_marks(rt: HostRuntime) -> Result<(), Fail> {
         assert!(rt; words.len() < 1000);
         let file = file_of(rt.alloc(), order, base, words, special)?;
         let image = read_image(rt.alloc(), &file)?;
-        let heap = image.heap();
-        let cut = Cut::every(1)?;
-        let regions = Regions::of(rt.alloc(), heap, &cut)?;
-        let shades = mark_alone(rt.alloc(), heap, &regions)?;
-        let marks = mark_plain(rt.alloc(), heap)?;
-        assert_eq!(rt; shades.len(), heap.len() as usize);
-        for (object, shade) in shades.iter().enumerate() {
-            let wanted = if marks.has(object as u32) {
-                Shade::Black
-            } else {
-                Shade::White
-            };
-            assert_eq!(rt; *shade, wanted, "object {object} of {words:?}");
-        }
+        assert_marks(&rt, image.heap(), &each_word, words)?;
+        assert_marks(&rt, image.heap(), &one_region, words)?;
     }
     Ok(())
 }

@@ -4,21 +4,21 @@ ghost use Rattle.std.specs.Prelude.{◌≡◌, ◌≢◌, ◌<◌, true, OnOk};
 ghost use Rattle.sqz_trace.specs.declared.shades.Shade.TheVariants.{White};
 ghost use Rattle.sqz_image.specs.Objects.{object_count};
 ghost use Rattle.sqz_marks.specs.Core.{HasSeen};
-ghost use Rattle.sqz_marks.specs.Table.{IsPassOf, start_of};
+ghost use Rattle.sqz_marks.specs.Table.{IsPassOf, HasCountedAll, start_of};
 ghost use Rattle.sqz_mark_tests.specs.Passes.{IsLater, Knows};
 
 use super::alone::mark_targets;
 use sqz_image::{Fault, Heap, Slot};
-use sqz_marks::{Claim, MarkTable, Pass, Workers};
+use sqz_marks::{Claim, Closed, MarkTable, Pass, Workers};
 use sqz_regions::{Cut, Regions};
 use sqz_test_images::{DEAD_CYCLE, image_of};
-use sqz_trace::{Shade, Shades};
+use sqz_trace::Shade;
 use std::alloc::Global;
 use std::process::Abort;
 use std::test::Fail;
 
 /// The shades of the dead cycle's image when it is marked.
-pub(crate) const DEAD_CYCLE_SHADES: [Shade; 6] = [
+const DEAD_CYCLE_SHADES: [Shade; 6] = [
     Shade::Black,
     Shade::Black,
     Shade::White,
@@ -52,7 +52,7 @@ pub(crate) fn assert_looks<R: Abort>(
     assert_eq!(rt; table.look(pass, object), wanted, "object {object}");
 }
 
-/// What a claim of the object that a slot names finds.
+/// What a claim of the object that a slot names finds. Where the pass won it, it is counted.
 pub(crate) fn claim(table: &MarkTable<'_>, pass: &mut Pass, parent: u32, slot: Slot) -> Claim
     requires of { IsPassOf table.now pass.old }
     requires inside { parent < object_count table.now.heap.memory }
@@ -60,7 +60,11 @@ pub(crate) fn claim(table: &MarkTable<'_>, pass: &mut Pass, parent: u32, slot: S
     ensures later { IsLater pass.old pass.new }
     ensures knows { Knows pass.new.view result }
 {
-    table.claim(pass, parent, slot)
+    let found = table.claim(pass, parent, slot);
+    if let Claim::Won(object) = found {
+        table.count(pass, object);
+    }
+    found
 }
 
 /// Whether two answers are one.
@@ -108,7 +112,7 @@ pub(crate) fn assert_claims<R: Abort>(
     );
 }
 
-/// Asserts that an object is marked, claims all that it names, asserts that this won so many objects, and makes the object black.
+/// Asserts that an object is grey, claims all that it names, asserts that this won these objects, and makes the object black.
 pub(crate) fn assert_blackens<R: Abort + AllocGlobal>(
     rt: &R,
     table: &MarkTable<'_>,
@@ -122,26 +126,45 @@ pub(crate) fn assert_blackens<R: Abort + AllocGlobal>(
     requires inside { object < object_count table.now.heap.memory }
     ensures { OnOk result (IsLater pass.old pass.new) }
 {
-    assert_marked(rt, table, pass, object);
+    assert_looks(rt, table, pass, object, Shade::Grey);
     let mut won = Vec::new(rt.alloc());
     mark_targets(table, heap, pass, object, &mut won)?;
     assert_eq!(rt; won.as_slice(), wanted, "object {object}");
     Ok(())
 }
 
-/// The shades that are left of a table. Where memory is refused once, it is asked for again: table and pass are as before.
-pub(crate) fn close_again(alloc: Global, table: MarkTable<'_>, pass: Pass) -> Result<Shades, Fault>
+/// What is left of a table. Where memory is refused once, it is asked for again: table and pass are as before.
+pub(crate) fn close_again(alloc: Global, table: MarkTable<'_>, pass: Pass) -> Result<Closed, Fault>
     requires of { IsPassOf table pass }
     requires whole { pass.view.weight ≡ table.workers }
+    requires counted { HasCountedAll pass.view }
 {
     let (table, pass) = match table.close(alloc, pass) {
-        Ok(closed) => return Ok(closed.shades),
+        Ok(closed) => return Ok(closed),
         Err(refused) => refused,
     };
-    match table.close(alloc, pass) {
-        Ok(closed) => Ok(closed.shades),
-        Err(_) => Err(Fault::OutOfMemory),
-    }
+    let Ok(closed) = table.close(alloc, pass) else {
+        return Err(Fault::OutOfMemory);
+    };
+    Ok(closed)
+}
+
+/// How many words the marked objects of the dead cycle's image have in each region, which is cut before objects 1 and 2.
+fn dead_cycle_words(heap: &Heap) -> [u32; 3]
+    requires { object_count heap.now ≡ 6 }
+{
+    let third = heap.chunk(3).length + heap.chunk(5).length;
+    [heap.chunk(0).length, heap.chunk(1).length, third]
+}
+
+/// Asserts that this is what is left of a table on which the dead cycle's image was marked.
+pub(crate) fn assert_closed<R: Abort>(rt: &R, heap: &Heap, closed: &Closed)
+    requires { object_count heap.now ≡ 6 }
+{
+    let words = dead_cycle_words(heap);
+    assert_eq!(rt; words.as_slice(), [1, 2, 5].as_slice());
+    assert_eq!(rt; closed.live_words.as_slice(), words.as_slice());
+    assert_eq!(rt; closed.shades.as_slice(), DEAD_CYCLE_SHADES.as_slice());
 }
 
 /// What the pass does with the special objects array.
@@ -195,6 +218,23 @@ fn blacken_named<R: Abort + AllocGlobal>(
     Ok(())
 }
 
+/// Marks the dead cycle's image with one pass, which is so many workers' share.
+fn mark_dead_cycle<R: Abort + AllocGlobal>(
+    rt: &R,
+    heap: &Heap,
+    regions: &Regions<'_>,
+    workers: Workers,
+) -> Result<Closed, Fail>
+    requires memory { regions.now.memory ≡ heap.now }
+    requires count { object_count heap.now ≡ 6 }
+{
+    let (table, mut pass) = MarkTable::new(rt.alloc(), heap, regions, workers)?;
+    mark_special(rt, &table, heap, &mut pass)?;
+    mark_named(rt, &table, &mut pass);
+    blacken_named(rt, &table, heap, &mut pass)?;
+    Ok(close_again(rt.alloc(), table, pass)?)
+}
+
 #[test]
 fn one_pass(rt: HostRuntime) -> Result<(), Fail> {
     let image = image_of(rt.alloc(), &DEAD_CYCLE, 0x1024)?;
@@ -202,11 +242,9 @@ fn one_pass(rt: HostRuntime) -> Result<(), Fail> {
     assert_dead_cycle(&rt, heap);
     let cut = Cut::at([1, 3].to_vec(rt.alloc())?)?;
     let regions = Regions::of(rt.alloc(), heap, &cut)?;
-    let (table, mut pass) = MarkTable::new(rt.alloc(), heap, &regions, Workers::new(2)?)?;
-    mark_special(&rt, &table, heap, &mut pass)?;
-    mark_named(&rt, &table, &mut pass);
-    blacken_named(&rt, &table, heap, &mut pass)?;
-    let shades = close_again(rt.alloc(), table, pass)?;
-    assert_eq!(rt; shades.as_slice(), DEAD_CYCLE_SHADES.as_slice());
+    for number in [1, 2, 64] {
+        let closed = mark_dead_cycle(&rt, heap, &regions, Workers::new(number)?)?;
+        assert_closed(&rt, heap, &closed);
+    }
     Ok(())
 }

@@ -2,7 +2,7 @@ use Rattle.std.proofs.Common.{◌∙◌, sym, ap, subst}
 use Rattle.sqz_image.specs.Objects.{Memory}
 use Rattle.sqz_regions.specs.Regions.{Regioning}
 use Rattle.sqz_mark_tests.specs.Passes.{AreSeen}
-use Rattle.sqz_mark_tests.proofs.PassLemmas.{IsLater-then, AreSeen-last, AreSeen-front}
+use Rattle.sqz_mark_tests.proofs.PassLemmas.{IsLater-then, AreSeen-last, AreSeen-front, HasCountedAll-first}
 use Rattle.sqz_mark_tests.proofs.alone.mark_alone.Goals as goal
 
 pub mark_targets-requires-clause-seen : goal.mark_targets-requires-clause-seen
@@ -23,3 +23,7 @@ loop-preserved c =
       later = IsLater-then c.in_ok-table.pass c.loop.pass c.mark_targets.new.pass c.loop.invariant.later step.later;
       listed = subst (λ (m : Memory). AreSeen m c.mark_targets.new.pass.view c.mark_targets.new.won.items) same step.listed;
     }
+
+pub close-requires-clause-counted : goal.close-requires-clause-counted
+close-requires-clause-counted c =
+    c.loop.invariant.later.counts (HasCountedAll-first _ c.in_ok-table.ensures.pass.1)

@@ -1,11 +1,34 @@
 use Rattle.sqz_trace.specs.Edges.{target}
-use Rattle.sqz_mark_tests.proofs.PassLemmas.{IsClaim-later, IsClaim-knows}
+use Rattle.sqz_trace.proofs.EdgeLemmas.{target-lt}
+use Rattle.sqz_mark_tests.proofs.PassLemmas.{IsClaim-won, IsClaim-wins, IsClaim-counted, IsClaim-later, IsClaim-knows}
 use Rattle.sqz_mark_tests.proofs.steps.claim.Goals as goal
 
-pub returns-clause-later : goal.returns-clause-later
-returns-clause-later c =
-    IsClaim-later c.args.pass.now c.claim.new.pass c.claim.result (target c.args.table.now.heap.memory c.args.parent c.args.slot) c.claim.ensures.claim
+pub count-requires-clause-inside : goal.count-requires-clause-inside
+count-requires-clause-inside c =
+    let memory = c.args.table.now.heap.memory in
+    let named = target memory c.args.parent c.args.slot in
+    let won = IsClaim-won c.args.pass.now c.claim-found.new.pass named c.in-Won.object c.in-Won.ensures.claim in
+    target-lt memory c.args.parent c.args.slot c.in-Won.object won.0
 
-pub returns-clause-knows : goal.returns-clause-knows
-returns-clause-knows c =
-    IsClaim-knows c.args.pass.now c.claim.new.pass c.claim.result (target c.args.table.now.heap.memory c.args.parent c.args.slot) c.claim.ensures.claim
+pub count-requires-clause-won : goal.count-requires-clause-won
+count-requires-clause-won c =
+    let named = target c.args.table.now.heap.memory c.args.parent c.args.slot in
+    IsClaim-wins c.args.pass.now c.claim-found.new.pass named c.in-Won.object c.in-Won.ensures.claim
+
+pub returns-in-Won : goal.returns-in-Won
+returns-in-Won c =
+    let named = target c.args.table.now.heap.memory c.args.parent c.args.slot in
+    let counted = IsClaim-counted c.args.pass.now c.claim-found.new.pass named c.in-Won.object c.count.new.pass
+    c.in-Won.ensures.claim c.count.ensures.step in
+    record { later = counted.1; knows = counted.0 }
+
+pub returns-in_default : goal.returns-in_default
+returns-in_default c =
+    let named = target c.args.table.now.heap.memory c.args.parent c.args.slot in
+    let old = c.args.pass.now in
+    let new = c.claim-found.new.pass in
+    let answer = c.claim-found.result in
+    record {
+      later = IsClaim-later old new answer c.in_default.not-Won named c.claim-found.ensures.claim;
+      knows = IsClaim-knows old new answer c.in_default.not-Won named c.claim-found.ensures.claim;
+    }
