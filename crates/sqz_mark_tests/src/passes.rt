@@ -63,7 +63,7 @@ fn split_and_join(rt: HostRuntime) -> Result<(), Fail> {
     Ok(())
 }
 
-/// What is left to do for the pass that has claimed both objects that the special objects array names.
+/// What is left to do for a pass that has claimed object 1 and blackened none.
 fn mark_rest<R: Abort + AllocGlobal>(
     rt: &R,
     table: &MarkTable<'_>,
