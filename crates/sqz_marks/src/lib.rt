@@ -11,17 +11,19 @@
 //!     let Some(object) = won.pop() else { break };
 //!     let parent = TracedObject::of(heap, object);
 //!     if let Claim::Won(found) = table.claim_of(&mut pass, &parent, Slot::ClassWord) {
+//!         table.count(&mut pass, found);
 //!         won.push(found)?;
 //!     }
 //!     for k in 0..parent.traced() {
 //!         if let Claim::Won(found) = table.claim_of(&mut pass, &parent, Slot::Field(k)) {
+//!             table.count(&mut pass, found);
 //!             won.push(found)?;
 //!         }
 //!     }
 //!     table.blacken(&mut pass, object);
 //! }
 //! match table.close(alloc, pass) {
-//!     Ok(closed) => Ok(closed.shades),
+//!     Ok(closed) => Ok((closed.shades, closed.live_words)),
 //!     Err(_) => Err(Fault::OutOfMemory),
 //! }
 //! ```
