@@ -320,7 +320,8 @@ wanted_memory() {
 }
 
 # Each request for memory is refused in turn, until a run has no more of them. Mostly that is want of memory. A thread
-# that is not started and a list of objects that does not grow are done without; then all is written.
+# that is not started, a list of objects that does not grow, and room for more words of the command line than the next
+# are done without; then all is written.
 bears_each_refusal() {
   local image=$1 answer=$2 census=$3 number wants=0
   shift 3
