@@ -28,7 +28,11 @@ fn marked_by_stealing<R: Threads + Sync + Abort + AllocGlobal>(
     let regions = Regions::of(rt.alloc(), heap, &cut)?;
     let marked = mark(rt, rt.alloc(), heap, &regions, Workers::new(3)?, &OpenGate)?;
     let sums = live_words(rt.alloc(), heap, &regions, &marked.marks)?;
-    assert_eq!(rt; marked.live_words.as_slice(), sums.as_slice(), "words of regions");
+    assert_eq!(rt;
+        marked.live_words.as_slice(),
+        sums.as_slice(),
+        "words of regions"
+    );
     Ok(flags_of(rt.alloc(), heap, &marked.marks)?)
 }
 

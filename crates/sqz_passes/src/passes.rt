@@ -39,8 +39,8 @@ pub(crate) fn print_passes<R: Files + Threads + Sync + Clock + Print>(
     runs: u32,
 ) -> Result<()> {
     let names = [
-        "read", "heap", "regions", "plain", "mark", "defects", "bases", "places", "slide", "census",
-        "print", "write",
+        "read", "heap", "regions", "plain", "mark", "defects", "bases", "places", "slide",
+        "census", "print", "write",
     ];
     for name in names {
         print!(rt; "{name:>9}")?;
