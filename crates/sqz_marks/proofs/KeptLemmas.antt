@@ -19,9 +19,9 @@ use Rattle.sqz_trace.specs.declared.shades.Shade.TheVariants.{White, Grey, Black
 use Rattle.sqz_trace.specs.Graph.{is_marked}
 use Rattle.sqz_trace.specs.Shades.{shade_at, has_mark, marks_of}
 use Rattle.sqz_trace.proofs.ShadeLemmas.{white-black, grey-black, is_marked-shade}
-use Rattle.sqz_regions.specs.Regions.{Regioning, region_at, region_count, words_at}
+use Rattle.sqz_regions.specs.Regions.{Regioning, region_at, region_count}
 use Rattle.sqz_regions.specs.Bases.{AreSums}
-use Rattle.sqz_regions.proofs.ListedLemmas.{live_words_in-listed, sum_by-lists-le, upto-words-le}
+use Rattle.sqz_regions.proofs.ListedLemmas.{words_at, live_words_in-listed, sum_by-once-le, upto-words-le}
 use Rattle.sqz_marks.proofs.RunLemmas.{none_at}
 use Rattle.sqz_marks.specs.declared.view.View.{View}
 use Rattle.sqz_marks.specs.Core.{Marking, times, spent, pass_at, first_view, grown}
@@ -35,8 +35,7 @@ use Rattle.sqz_marks.proofs.WonLemmas.{wins-mark}
 -- the data words of a heap are few
 pub HasFewWords-heap : (heap : Regioning) (workers : ℕ) → length (concat heap.memory.chunks) < 2 ^ 30 → HasFewWords (marking_in heap workers)
 HasFewWords-heap heap workers few region list once inside =
-    let le = sum_by-lists-le (λ (l : List ℕ). l) (words_at heap.cut heap.memory region) (list ∷ []) (object_count heap.memory)
-    (λ object. omega (arith, once object)) (λ object past. omega (arith, inside object past)) in
+    let le = sum_by-once-le (words_at heap.cut heap.memory region) list (object_count heap.memory) once inside in
     omega (arith, le, upto-words-le heap.cut heap.memory region, few)
 
 -- it holds where the word of the special objects array is 1, that of its region its length, and each other 0

@@ -16,6 +16,7 @@ use Rattle.sqz_marks.specs.Core.{Marking, times, HasWon, HasSeen, HasBlackened, 
 use Rattle.sqz_marks.specs.Core.{kept_of, part_of, joined}
 use Rattle.sqz_marks.specs.Lawful.{KnowsTruth, IsLawful}
 use Rattle.sqz_marks.specs.Table.{number_of, shade_of, IsNewTo, IsKept, Looked, Claimed, Counted, Blackened, Weighed}
+use Rattle.sqz_marks.proofs.TimesLemmas.{zero-if_never}
 use Rattle.sqz_marks.proofs.CountLemmas.{total_counted-few}
 use Rattle.sqz_marks.proofs.EventLemmas.{IsLawful-look, IsLawful-claim, IsLawful-count, IsLawful-blacken, IsLawful-split, IsLawful-join}
 
@@ -109,16 +110,13 @@ module _ (marking : Marking) {S : Type 0} (table : State S View) (kept : IsKept 
     new_word : (object : ℕ) → object < marking.graph.count → slice_index table.words object ≡ 0 → IsNewTo view object
     new_word object inside white = (unseen, omega (arith, its.counted object, unwon))
       where
-        none : (n : ℕ) → (0 < n → 1 ≤ 0) → n ≡ 0
-        none zero never = refl
-        none (suc n) never = absurd (let one = never (omega arith) in omega (arith, one))
-
         unseen : times object view.seen ≡ 0
         unseen =
-            none (times object view.seen) (λ seen. subst (λ n. 1 ≤ n) white (unseen_word object inside seen))
+            zero-if_never (times object view.seen)
+            (λ seen. absurd (let marked = unseen_word object inside seen in omega (arith, marked, white)))
 
         unwon : times object view.won ≡ 0
-        unwon = none (times object view.won) (λ won. let seen = its.won object won in omega (arith, seen, unseen))
+        unwon = zero-if_never (times object view.won) (λ won. absurd (let seen = its.won object won in omega (arith, seen, unseen)))
 
 module _ (marking : Marking) {S : Type 0} (slots id : ℕ) (before : Me S View) where
   -- a look

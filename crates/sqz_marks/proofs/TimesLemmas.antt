@@ -5,6 +5,11 @@ use Rattle.std.proofs.lemmas.Bool.{cases_eq}
 use Rattle.std.proofs.lemmas.List.Sums.{sum_by-cons, sum_by-append}
 use Rattle.sqz_marks.specs.Core.{times}
 
+-- a number that is not above 0
+pub zero-if_never : (number : ℕ) → (0 < number → ⊥) → number ≡ 0
+zero-if_never zero never = refl
+zero-if_never (suc number) never = absurd (never (omega arith))
+
 module _ (object : ℕ) where
   -- an object more
   pub times-same : (list : List ℕ) → times object (object ∷ list) ≡ 1 + times object list

@@ -1,16 +1,16 @@
 //! The table of marks that workers share without waiting.
 
-ghost use Rattle.std.specs.Prelude.{◌≡◌, ◌≢◌, ◌⊎◌, ℕ, ◌+◌, ◌*◌, ◌%◌, ◌^◌, ◌<◌, ◌≤◌, ◌==◌, [], length, map, take, sum, slice_index, true, Option, Some, None, IfOk, IfErr, IfSome};
+ghost use Rattle.std.specs.Prelude.{◌≡◌, ◌≢◌, ℕ, ◌+◌, ◌*◌, ◌^◌, ◌<◌, ◌≤◌, [], length, map, take, sum, slice_index, Some, IfOk, IfErr};
 ghost use Rattle.std.specs.Slots.{slots_items, slots_len, IsFull};
 ghost use Rattle.sqz_image.specs.declared.fault.Fault.TheVariants.{OutOfMemory};
 ghost use Rattle.sqz_image.specs.Objects.{object_count, chunk_words};
 ghost use Rattle.sqz_trace.specs.declared.shades.Shade.TheVariants.{White, Grey, Black};
-ghost use Rattle.sqz_marks.specs.declared.claim.Claim.TheVariants.{Won};
 ghost use Rattle.sqz_trace.specs.Edges.{HasEdge, named_in, target};
 ghost use Rattle.sqz_trace.specs.Shades.{marks_of};
 ghost use Rattle.sqz_regions.specs.Bases.{AreSums};
 ghost use Rattle.sqz_regions.specs.Places.{live_words};
 ghost use Rattle.sqz_regions.specs.Regions.{region_at, region_count};
+ghost use Rattle.sqz_marks.specs.declared.claim.Claim.TheVariants.{Won};
 ghost use Rattle.sqz_marks.specs.Core.{times, HasWon, HasSeen, HasBlackened, first_view, looked, counted, blackened, kept_of, part_of, joined};
 ghost use Rattle.sqz_marks.specs.Table.{IsPassOf, knowing, KeepsSeen, IsNewTo, HasCountedAll, IsSeenChunk, start_of, shade_of, AreClosed};
 ghost use Rattle.sqz_marks.specs.Claims.{IsClaim};
@@ -55,7 +55,8 @@ impl<'a> Model for MarkTable<'a> {
 
     ghost invariant = { λ marks. (marks.heap.now ≡ marks.regions.now.memory)
         × (marks.table.shared.key.0.value ≡ marks.regions.now) × (marks.table.shared.key.1 ≡ marks.workers)
-        × (marks.table.shared.table_id.words ≡ object_count marks.regions.now.memory + region_count marks.regions.now.cut marks.regions.now.memory) × (marks.table.shared.table_id.slots ≡ 0)
+        × (marks.table.shared.table_id.words ≡ object_count marks.regions.now.memory + region_count marks.regions.now.cut marks.regions.now.memory)
+        × (marks.table.shared.table_id.slots ≡ 0)
         × (find marks.regions.now.memory marks.regions.now.memory.special ≡ Some (start_of marks.regions.now.memory)) };
 }
 
@@ -108,7 +109,7 @@ impl<'a> MarkTable<'a> {
         ))
     }
 
-    /// The shade of an object. What the pass has seen marked is never white, and what it knows to be black is black; of
+    /// The shade of an object. What the pass won or has seen marked is never white, and what it knows to be black is black; of
     /// what it has not seen the answer may be old.
     pub fn look(&self, pass: &mut Pass, object: u32) -> Shade
         requires of { IsPassOf self.now pass.old }
@@ -126,7 +127,8 @@ impl<'a> MarkTable<'a> {
         )
     }
 
-    /// Makes the object that a slot of a parent names grey, if it is white. The pass has seen the parent marked.
+    /// Makes the object that a slot of a parent names grey, if it is white. The pass has seen the parent marked. What it wins it
+    /// had neither seen nor counted.
     pub fn claim(&self, pass: &mut Pass, parent: u32, slot: Slot) -> Claim
         requires of { IsPassOf self.now pass.old }
         requires inside { parent < object_count self.now.heap.memory }

@@ -2,13 +2,14 @@
 use Rattle.std.proofs.Common.{◌≡◌, ◌≢◌, ℕ, zero, suc, ◌+◌, ◌*◌, ◌<◌, ◌≤◌, Bool, true, false, cond, eqb, List, [], ◌∷◌}
 use Rattle.std.proofs.Common.{filter, length, get_or, refl, sym, ap, ◌∙◌, arith, inl, inr}
 use Rattle.std.specs.List.{concat, count_by, sum_by}
+use Rattle.std.specs.Prelude.{if◌then◌else◌, ◌==◌}
 use Rattle.std.proofs.lemmas.Bool.{cases_eq, cases_lt, eq-eqb, ne_eqb}
 use Rattle.std.proofs.lemmas.List.{get_or_past}
 use Rattle.std.proofs.lemmas.List.Sums.{sum_by-cons}
-use Rattle.sqz_image.specs.Objects.{Memory, objects, object_count}
+use Rattle.sqz_image.specs.Objects.{Memory, objects, object_count, chunk_words}
 use Rattle.sqz_trace.specs.Graph.{is_marked}
 use Rattle.sqz_trace.specs.Live.{marked}
-use Rattle.sqz_regions.specs.Regions.{Cutting, region_of, words_at, live_words_in}
+use Rattle.sqz_regions.specs.Regions.{Cutting, region_of, region_at, live_words_in}
 use Rattle.sqz_regions.proofs.PlaceLemmas.{no_object, size}
 use Rattle.sqz_regions.proofs.SumLemmas.{sum_by-filter-cons, words_in-le-concat}
 
@@ -29,11 +30,6 @@ module _ (f g : ℕ → ℕ) where
   pub upto-le : ((index : ℕ) → f index ≤ g index) → (count : ℕ) → upto f count ≤ upto g count
   upto-le le zero = omega arith
   upto-le le (suc count) = omega (arith, upto-le le count, le count)
-
-  -- the sum of sums
-  pub upto-add : (count : ℕ) → upto (λ index. f index + g index) count ≡ upto f count + upto g count
-  upto-add zero = refl
-  upto-add (suc count) = omega (arith, upto-add count)
 
 module _ (f : ℕ → ℕ) where
   -- a factor of all
@@ -62,7 +58,7 @@ upto-parts whole part other g is (suc count) =
 -- ---- one index among those below a count
 
 -- 1 at an object's index, 0 at any other
-abbrev pub hit : ℕ → ℕ → ℕ
+abbrev hit : ℕ → ℕ → ℕ
 hit object index = cond (eqb object index) 1 0
 
 module _ (object : ℕ) where
@@ -75,13 +71,13 @@ module _ (object : ℕ) where
   hit-other index differs = ap (λ b. cond b 1 0) (ne_eqb object index differs)
 
   -- it is not among the indexes below a lesser count
-  pub none_below : (count : ℕ) → count ≤ object → upto (hit object) count ≡ 0
+  none_below : (count : ℕ) → count ≤ object → upto (hit object) count ≡ 0
   none_below zero le = refl
   none_below (suc count) le =
       omega (arith, none_below count (omega arith), hit-other count (λ same. absurd (omega arith)))
 
   -- it is once among those below a greater count
-  pub one_below : (count : ℕ) → object < count → upto (hit object) count ≡ 1
+  one_below : (count : ℕ) → object < count → upto (hit object) count ≡ 1
   one_below zero lt = absurd (omega arith)
   one_below (suc count) lt =
       elim (cases_eq object count) [
@@ -151,45 +147,20 @@ upto-length count list inside =
     ones [] = refl
     ones (object ∷ list) = omega (arith, sum_by-cons (λ (index : ℕ). 1) object list, ones list)
 
--- ---- sums along many lists
-
-module _ {X : Type 0} (list : X → List ℕ) (g : ℕ → ℕ) where
-  -- how often an index stands in all lists
-  abbrev times_in : ℕ → List X → ℕ
-  times_in index xs = sum_by (λ x. times index (list x)) xs
-
-  -- with a list more
-  times_in-cons : (index : ℕ) (x : X) (xs : List X) → times_in index (x ∷ xs) ≡ times index (list x) + times_in index xs
-  times_in-cons index x xs = sum_by-cons (λ (x : X). times index (list x)) x xs
-
-  -- the sum along all lists is the sum over the indexes, each as often as it stands in any
-  sum_by-lists : (xs : List X) (count : ℕ) → ((index : ℕ) → count ≤ index → times_in index xs ≡ 0)
-      → sum_by (λ x. sum_by g (list x)) xs ≡ upto (λ index. times_in index xs * g index) count
-  sum_by-lists [] count inside = sym (upto-none (λ index. 0 * g index) (λ index. omega arith) count)
-  sum_by-lists (x ∷ xs) count inside =
-      sum_by-cons (λ (x : X). sum_by g (list x)) x xs
-      ∙ omega (
-        arith,
-        sum_by-listed g (list x) count (λ index le. omega (arith, inside index le, times_in-cons index x xs)),
-        sum_by-lists xs count (λ index le. omega (arith, inside index le, times_in-cons index x xs)),
-        upto-parts (λ index. times_in index (x ∷ xs)) (λ index. times index (list x)) (λ index. times_in index xs) g
-            (λ index. times_in-cons index x xs) count,
-      )
-
-  -- where no index stands twice in them, the sum along all lists is no more than that over the indexes
-  pub sum_by-lists-le : (xs : List X) (count : ℕ) → ((index : ℕ) → times_in index xs ≤ 1)
-      → ((index : ℕ) → count ≤ index → times_in index xs ≡ 0) → sum_by (λ x. sum_by g (list x)) xs ≤ upto g count
-  sum_by-lists-le xs count once inside =
-      omega (
-        arith,
-        sum_by-lists xs count inside,
-        upto-le (λ index. times_in index xs * g index) g (λ index. at_most_once (times_in index xs) (g index) (once index)) count,
-      )
-    where
-      at_most_once : (n words : ℕ) → n ≤ 1 → n * words ≤ words
-      at_most_once zero words le = omega arith
-      at_most_once (suc zero) words le = omega arith
-      at_most_once (suc (suc n)) words le = absurd (omega arith)
+-- where no index stands twice in a list, the sum along it is no more than that over the indexes
+pub sum_by-once-le : (g : ℕ → ℕ) (list : List ℕ) (count : ℕ) → ((index : ℕ) → times index list ≤ 1)
+    → ((index : ℕ) → count ≤ index → times index list ≡ 0) → sum_by g list ≤ upto g count
+sum_by-once-le g list count once inside =
+    omega (
+      arith,
+      sum_by-listed g list count inside,
+      upto-le (λ index. times index list * g index) g (λ index. at_most_once (times index list) (g index) (once index)) count,
+    )
+  where
+    at_most_once : (n words : ℕ) → n ≤ 1 → n * words ≤ words
+    at_most_once zero words le = omega arith
+    at_most_once (suc zero) words le = omega arith
+    at_most_once (suc (suc n)) words le = absurd (omega arith)
 
 -- ---- the words of objects
 
@@ -226,13 +197,16 @@ module _ {X : Type 0} (g : X → ℕ) (d : X) where
           sum_by-filter-marked marks xs,
         )
 
+-- how many words an object has that begins in this region; another has none there
+abbrev pub words_at : Cutting → Memory → ℕ → ℕ → ℕ
+words_at cut memory region index = if region_at cut memory index == region then length (chunk_words memory index) else 0
+
 module _ (cut : Cutting) (memory : Memory) where
   module _ (marks : List Bool) where
     -- the live words of a region, by the indexes of the objects
-    pub live_words_in-upto : (region : ℕ) → length marks ≡ object_count memory
-        → live_words_in cut memory marks region
+    live_words_in-upto : (region : ℕ) → live_words_in cut memory marks region
         ≡ upto (λ index. cond (is_marked marks index) 1 0 * words_at cut memory region index) (object_count memory)
-    live_words_in-upto region sized =
+    live_words_in-upto region =
         sum_by-filter-marked size no_object (λ object. eqb (region_of cut object) region) marks (objects memory)
 
     -- and along a list in which each marked object stands once, and no other
@@ -245,7 +219,7 @@ module _ (cut : Cutting) (memory : Memory) where
         ∙ upto-same (λ index. times index list * words_at cut memory region index)
         (λ index. cond (is_marked marks index) 1 0 * words_at cut memory region index)
         (λ index. ap (λ n. n * words_at cut memory region index) (once index)) (object_count memory)
-        ∙ sym (live_words_in-upto region sized)
+        ∙ sym (live_words_in-upto region)
 
   -- the objects of a region have no more words than there are
   pub upto-words-le : (region : ℕ) → upto (words_at cut memory region) (object_count memory) ≤ length (concat memory.chunks)

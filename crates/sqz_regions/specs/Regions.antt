@@ -1,7 +1,7 @@
 -- Regions of an object memory: where its data words are cut, and which objects begin in each part.
-use Rattle.std.specs.Prelude.{ℕ, ◌+◌, ◌-◌, ◌/◌, ◌==◌, nat_le, nat_lt, Bool, if◌then◌else◌, List, length, filter, count_by}
+use Rattle.std.specs.Prelude.{ℕ, ◌+◌, ◌-◌, ◌/◌, ◌==◌, nat_le, nat_lt, Bool, List, length, filter, count_by}
 use Rattle.std.specs.List.{concat}
-use Rattle.sqz_image.specs.Objects.{Memory, Object, objects, object_at, chunk_words}
+use Rattle.sqz_image.specs.Objects.{Memory, Object, objects, object_at}
 use Rattle.sqz_trace.specs.Live.{live}
 use Rattle.sqz_regions.specs.Places.{words_in}
 
@@ -31,11 +31,6 @@ region_count (At points) memory = length points + 1
 abbrev pub objects_before : Cutting → Memory → ℕ → ℕ
 objects_before cut memory region =
     count_by (λ object. nat_lt (region_of cut object) region) (objects memory)
-
--- how many words an object has that begins in this region; another has none there
-abbrev pub words_at : Cutting → Memory → ℕ → ℕ → ℕ
-words_at cut memory region index =
-    if region_at cut memory index == region then length (chunk_words memory index) else 0
 
 -- how many words the marked objects of a region have together
 abbrev pub live_words_in : Cutting → Memory → List Bool → ℕ → ℕ

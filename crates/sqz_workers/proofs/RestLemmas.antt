@@ -16,7 +16,7 @@ use Rattle.sqz_regions.proofs.ListedLemmas.{upto, upto-le}
 use Rattle.sqz_marks.specs.declared.view.View.{View}
 use Rattle.sqz_marks.specs.Core.{times, HasWon, HasBlackened, looked}
 use Rattle.sqz_marks.specs.Table.{HeldPass, AreClosed, knowing}
-use Rattle.sqz_marks.proofs.TimesLemmas.{times-same}
+use Rattle.sqz_marks.proofs.TimesLemmas.{times-same, zero-if_never}
 use Rattle.sqz_workers.specs.Gains.{KeepsBlackened, IsSettled, HasBlackenedMore, IsPassedBy}
 
 -- 1 for none
@@ -68,12 +68,10 @@ HasBlackenedMore-within count first old new last before after more =
     record {
       object = more.object;
       inside = more.inside;
-      before = none (times more.object first.blackened) (before more.object);
+      before = zero-if_never (times more.object first.blackened)
+          (λ known. absurd (let later = before more.object known in omega (arith, later, more.before)));
       now = after more.object more.now;
-    } where
-      none : (known : ℕ) → (0 < known → 0 < times more.object old.blackened) → known ≡ 0
-      none zero kept = refl
-      none (suc known) kept = absurd (let later = kept (omega arith) in omega (arith, later, more.before))
+    }
 
 -- a look at an object that is not grey
 pub IsPassedBy-looked : (old new : HeldPass) (shade : Shade) (object : ℕ) → new ≡ knowing old (looked object shade old.view)

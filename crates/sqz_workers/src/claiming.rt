@@ -35,8 +35,8 @@ pub(crate) fn mark_taken<L: Worklist>(
     }
 }
 
-/// Claims what each slot of a grey object names, counts what was won and puts it into the worklist, and makes the object black. Answers
-/// how many objects were won.
+/// Claims what each slot of a grey object names, counts what was won and puts it into the worklist, and makes the object
+/// black. Answers how many objects were won.
 pub(crate) fn mark_slots<L: Worklist>(
     heap: &Heap,
     table: &MarkTable<'_>,

@@ -1,7 +1,8 @@
-use Rattle.std.proofs.Common.{◌≡◌, ℕ, zero, suc, ◌<◌, refl, sym, ◌∙◌, arith, inl, inr}
-use Rattle.sqz_trace.specs.declared.shades.Shade.TheVariants.{Grey, Black}
+use Rattle.std.proofs.Common.{sym, ◌∙◌, inl, inr}
+use Rattle.sqz_trace.specs.declared.shades.Shade.TheVariants.{Grey}
 use Rattle.sqz_trace.proofs.ShadeLemmas.{white-grey, grey-black}
 use Rattle.sqz_marks.specs.Core.{times}
+use Rattle.sqz_marks.proofs.TimesLemmas.{zero-if_never}
 use Rattle.sqz_workers.proofs.GainLemmas.{HasGained-looked, HasGainedSome-of, HasGainedSome-then}
 use Rattle.sqz_workers.proofs.RestLemmas.{IsPassedBy-looked}
 use Rattle.sqz_workers.proofs.rest.mark_from.Goals as goal
@@ -20,12 +21,9 @@ returns-in-Grey-clause-more c found =
     record {
       object = c.args.object;
       inside = c.requires.inside;
-      before = none (times c.args.object c.args.pass.now.view.blackened) (λ known. c.in-Grey.ensures.black known);
+      before = zero-if_never (times c.args.object c.args.pass.now.view.blackened) (λ known. grey-black (c.in-Grey.ensures.black known));
       now = c.mark_listed.ensures.gained.blackened c.args.object c.mark_slots.ensures.black;
-    } where
-      none : (known : ℕ) → (0 < known → Grey ≡ Black) → known ≡ 0
-      none zero black = refl
-      none (suc known) black = absurd (grey-black (black (omega arith)))
+    }
 
 pub returns-in-White : goal.returns-in-White
 returns-in-White c =
