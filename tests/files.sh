@@ -1,8 +1,8 @@
 #!/usr/bin/env bash
 # Runs the program on the files of images/, and looks at what it writes, what it prints and how it
 # ends. NAME.image is to become NAME.compacted.image, or is refused with the line of NAME.fault, and
-# NAME.census is what is printed of it where a census is asked for. The last line is
-# 'N passed, M failed'.
+# NAME.census is what is printed of it where a census is asked for. The folder images/cleared has what differs
+# from that where weak slots are cleared. The last line is 'N passed, M failed'.
 set -u
 shopt -s nullglob
 
@@ -410,7 +410,8 @@ refuses_number() {
 helps() {
   run --help
   [ "$status" -eq 0 ] && [ ! -s said ] && grep -q '^ *--workers <N> .*\[default: 4\]$' printed \
-    && grep -q '^ *--region-words <N> .*\[default: 65536\]$' printed && grep -q '^ *--census ' printed
+    && grep -q '^ *--region-words <N> .*\[default: 65536\]$' printed && grep -q '^ *--census ' printed \
+    && grep -q '^ *--clear-weak .*Let go of what only weak references name' printed
 }
 
 if ! "$root/sqzcompact" --help >printed; then
@@ -438,6 +439,28 @@ for fault in "$images"/*.fault; do
   case_of "refuses $name and prints no census" refuses "$images/$name.image" "$fault" --census
 done
 
+# Where weak slots are cleared, what becomes of an image is what a file of images/cleared says, and else the same.
+for image in "$images"/*.image; do
+  name=$(basename "$image" .image)
+  answer=$images/$name.compacted.image
+  fault=$images/$name.fault
+  if [ -e "$images/cleared/$name.image" ]; then
+    answer=$images/cleared/$name.image
+  elif [ -e "$images/cleared/$name.fault" ]; then
+    answer=
+    fault=$images/cleared/$name.fault
+  fi
+  if [ -e "$answer" ]; then
+    case_of "compacts $name with weak slots cleared" compacts "$image" "$answer" --clear-weak
+  elif [ -e "$fault" ]; then
+    case_of "refuses $name with weak slots cleared" refuses "$image" "$fault" --clear-weak
+  fi
+done
+for census in "$images"/cleared/*.census; do
+  name=$(basename "$census" .census)
+  case_of "counts $name with weak slots cleared" counts "$images/$name.image" "$images/cleared/$name.image" "$census" --clear-weak
+done
+
 image=$images/dead_array.image
 answer=$images/dead_array.compacted.image
 census=$images/dead_array.census
@@ -461,6 +484,7 @@ case_of 'refuses workers above 32 bits' refuses_option "$image" --workers 429496
 case_of 'wants a number of workers' refuses_option "$image" --workers
 case_of "refuses a region's words that are no number" refuses_option "$image" --region-words x
 case_of "wants a number of a region's words" refuses_option "$image" --region-words
+case_of 'wants no value for weak slots to be cleared' refuses_option "$image" --clear-weak=1
 case_of 'refuses an option that it does not know' refuses_option "$image" --count
 workers='fault 18: workers must be from 1 to 64'
 case_of 'refuses to have no worker' refuses_number "$image" "$workers" --workers 0

@@ -6,6 +6,7 @@ use Rattle.std.proofs.lemmas.Bool.{cases_lt, cases_Bool, lt-ltb}
 use Rattle.std.proofs.lemmas.List.{length-map, get_or-map, get_or_default}
 use Rattle.sqz_object.specs.Chunk.{before}
 use Rattle.sqz_image.specs.Objects.{Memory, object_count, chunk_words}
+use Rattle.sqz_trace.specs.declared.weak.Weak.{Weak}
 use Rattle.sqz_trace.specs.Graph.{is_marked}
 use Rattle.sqz_trace.specs.Live.{live}
 use Rattle.sqz_trace.specs.Reachability.{IsReachability}
@@ -57,28 +58,28 @@ module _ (memory : Memory) (marks : List Bool) where
       let rises : live_words_below memory marks (one + 1) ≤ live_words_below memory marks other = rw there at words in
       omega (arith, here, rises)
 
-module _ (memory : Memory) (marks : List Bool) (places : List (Option ℕ)) (entries : List Entry) (tallies : List Tally)
-    (shares : List Share) (kept : AreEntries memory marks entries) (counted : AreTallies memory marks tallies)
-    (in_order : AreSharesInOrder tallies shares) (reach : IsReachability memory marks)
+module _ (memory : Memory) (weak : Weak) (marks : List Bool) (places : List (Option ℕ)) (entries : List Entry)
+    (tallies : List Tally) (shares : List Share) (kept : AreEntries memory weak marks entries)
+    (counted : AreTallies memory weak marks tallies) (in_order : AreSharesInOrder tallies shares) (reach : IsReachability memory weak marks)
     (placed : ArePlacesOf memory marks places) where
   -- the group of a share
   abbrev group_of_share : Share → Group
   group_of_share share = group_with (object_count memory) share.key
 
   abbrev Has : Group → Type 0
-  Has group = 0 < length (members memory marks group)
+  Has group = 0 < length (members memory weak marks group)
 
   -- ---- what a share says
 
   module _ (share : Share) (is : IsShareOf tallies share) where
-    tally_of_share : tally_in memory (live memory marks) (group_of_share share)
+    tally_of_share : tally_in memory weak (live memory marks) (group_of_share share)
         ≡ record { count = share.count; words = share.words }
     tally_of_share = sym (counted.each share.key (omega (arith, is.inside, counted.sized))) ∙ is.tally
 
-    share_count : share.count ≡ length (members memory marks (group_of_share share))
+    share_count : share.count ≡ length (members memory weak marks (group_of_share share))
     share_count = sym (ap (λ (tally : Tally). tally.count) tally_of_share)
 
-    share_words : share.words ≡ words_in (members memory marks (group_of_share share))
+    share_words : share.words ≡ words_in (members memory weak marks (group_of_share share))
     share_words = sym (ap (λ (tally : Tally). tally.words) tally_of_share)
 
     share_has : Has (group_of_share share)
@@ -89,26 +90,27 @@ module _ (memory : Memory) (marks : List Bool) (places : List (Option ℕ)) (ent
   class_placed : (class : ℕ) → Has (Class class) → class < object_count memory
       → get_or places class None ≡ Some (place memory marks class)
   class_placed class has inside =
-      let marked = class_of_group-marked memory marks reach class has in
+      let marked = class_of_group-marked memory weak marks reach class has in
       placed.each class inside ∙ rw marked refl
 
-  row_by-row_with : (group : Group) (count words : ℕ) → Has group → count ≡ length (members memory marks group)
-      → words ≡ words_in (members memory marks group) → row_by memory places group count words ≡ row_of memory marks group
+  row_by-row_with : (group : Group) (count words : ℕ) → Has group → count ≡ length (members memory weak marks group)
+      → words ≡ words_in (members memory weak marks group)
+      → row_by memory weak places group count words ≡ row_of memory weak marks group
   row_by-row_with (Class class) count words has count_is words_is =
-      let inside = member-inside memory marks (Class class) has in
+      let inside = member-inside memory weak marks (Class class) has in
       let place_is = class_placed class has inside in
       λ i. record {
         place = place_is i;
         compact = 0;
-        name = class_name memory class;
+        name = class_name memory weak class;
         count = count_is i;
         bytes = 4 * words_is i;
       }
   row_by-row_with (Compact index) count words has count_is words_is =
-      λ i. row_with memory marks (Compact index) (count_is i) (4 * words_is i)
+      λ i. row_with memory weak marks (Compact index) (count_is i) (4 * words_is i)
 
   share_row : (share : Share) → IsShareOf tallies share
-      → row_at memory places share ≡ row_of memory marks (group_of_share share)
+      → row_at memory weak places share ≡ row_of memory weak marks (group_of_share share)
   share_row share is =
       row_by-row_with (group_of_share share) share.count share.words (share_has share is) (share_count share is)
       (share_words share is)
@@ -118,7 +120,7 @@ module _ (memory : Memory) (marks : List Bool) (places : List (Option ℕ)) (ent
   class_rises : (one other : ℕ) → one < other → other < object_count memory → Has (Class one)
       → place memory marks one < place memory marks other
   class_rises one other lt inside has =
-      let marked = class_of_group-marked memory marks reach one has in
+      let marked = class_of_group-marked memory weak marks reach one has in
       let headed = ((kept.each one (omega arith)).marked marked).headed in
       place_rises memory marks one other lt inside marked headed
 
@@ -146,7 +148,7 @@ module _ (memory : Memory) (marks : List Bool) (places : List (Option ℕ)) (ent
 
   -- shares are in the order of their groups
   share_before : (one other : Share) → IsShareOf tallies one → IsShareOf tallies other → IsBefore one other
-      → ComesBefore memory marks (group_of_share one) (group_of_share other)
+      → ComesBefore memory weak marks (group_of_share one) (group_of_share other)
   share_before one other one_is other_is (inl more) =
       inl (omega (arith, more, share_words one one_is, share_words other other_is))
   share_before one other one_is other_is (inr tied) =
@@ -171,7 +173,7 @@ module _ (memory : Memory) (marks : List Bool) (places : List (Option ℕ)) (ent
   listed_if_has : (group : Group) → Has group → Contains groups group
   listed_if_has group has =
       let count = object_count memory in
-      let valid = member-inside memory marks group has in
+      let valid = member-inside memory weak marks group has in
       let key = key_of count group in
       let back = group_with-key_of count group valid in
       let low = key_of-lt count group valid in
@@ -184,7 +186,7 @@ module _ (memory : Memory) (marks : List Bool) (places : List (Option ℕ)) (ent
       (found.0, inside, group_there found.0 group inside ∙ ap (group_with count) found.2 ∙ back)
 
   all_ordered : (i j : ℕ) (d : Group) → i < j → j < length groups
-      → ComesBefore memory marks (get_or groups i d) (get_or groups j d)
+      → ComesBefore memory weak marks (get_or groups i d) (get_or groups j d)
   all_ordered i j d lt inside =
       let long = length-map shares group_of_share in
       let low : i < length shares = omega (arith, long) in
@@ -194,21 +196,20 @@ module _ (memory : Memory) (marks : List Bool) (places : List (Option ℕ)) (ent
       rw (group_there i d (omega (arith, long)), group_there j d inside) before
 
   -- the rows of the shares are a census
-  pub IsCensus-rows : (rows : List CensusRow) → rows ≡ map (row_at memory places) shares → IsCensus memory marks rows
+  pub IsCensus-rows : (rows : List CensusRow) → rows ≡ map (row_at memory weak places) shares → IsCensus memory weak marks rows
   IsCensus-rows rows rows_are =
       record {
         groups = groups;
         are = rows_are
-            ∙ map_by_way (row_at memory places) group_of_share (row_of memory marks) shares no_share
+            ∙ map_by_way (row_at memory weak places) group_of_share (row_of memory weak marks) shares no_share
             (λ i lt. share_row (get_or shares i no_share) (in_order.each i lt));
         all = λ group. (has_if_listed group, listed_if_has group);
         ordered = all_ordered;
       }
 
 -- the keys of shares are keys of groups
-pub keys_inside : (memory : Memory) (marks : List Bool) (tallies : List Tally) (shares : List Share)
-    → AreTallies memory marks tallies → AreSharesInOrder tallies shares
-    → All (λ share. share.key < key_count memory) shares
-keys_inside memory marks tallies shares counted in_order k d lt =
+pub keys_inside : (memory : Memory) (tallies : List Tally) (shares : List Share) → length tallies ≡ key_count memory
+    → AreSharesInOrder tallies shares → All (λ share. share.key < key_count memory) shares
+keys_inside memory tallies shares sized in_order k d lt =
     let same = ap (λ (share : Share). share.key) (get_or_default shares k d no_share lt) in
-    omega (arith, same, (in_order.each k lt).inside, counted.sized)
+    omega (arith, same, (in_order.each k lt).inside, sized)

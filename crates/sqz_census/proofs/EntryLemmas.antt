@@ -2,12 +2,13 @@
 use Rattle.std.proofs.Common.{◌≡◌, ℕ, zero, suc, ◌+◌, ◌<◌, Bool, List, [], ◌∷◌, length, get_or, refl, ap, subst, ◌∙◌, arith}
 use Rattle.std.specs.List.{AllZip, range_with_len}
 use Rattle.sqz_image.specs.Objects.{Memory, object_count}
+use Rattle.sqz_trace.specs.declared.weak.Weak.{Weak}
 use Rattle.sqz_census.specs.declared.entries.Entry.{Entry}
 use Rattle.sqz_census.specs.Keys.{IsEntryOf, AreEntries, no_entry}
 
-module _ (memory : Memory) (marks : List Bool) where
+module _ (memory : Memory) (weak : Weak) (marks : List Bool) where
   abbrev AreZipped : ℕ → ℕ → List Entry → Type 0
-  AreZipped from count = AllZip (IsEntryOf memory marks) (range_with_len from count)
+  AreZipped from count = AllZip (IsEntryOf memory weak marks) (range_with_len from count)
 
   length-zipped : (from count : ℕ) (entries : List Entry) → AreZipped from count entries → length entries ≡ count
   length-zipped from zero [] zipped = refl
@@ -16,7 +17,7 @@ module _ (memory : Memory) (marks : List Bool) where
   length-zipped from (suc count) (entry ∷ entries) zipped = ap suc (length-zipped (from + 1) count entries zipped.1)
 
   zipped-each : (from count : ℕ) (entries : List Entry) → AreZipped from count entries → (k : ℕ) → k < count
-      → IsEntryOf memory marks (from + k) (get_or entries k no_entry)
+      → IsEntryOf memory weak marks (from + k) (get_or entries k no_entry)
   zipped-each from zero entries zipped k lt = absurd (omega arith)
   zipped-each from (suc count) [] zipped k lt = absurd zipped
   zipped-each from (suc count) (entry ∷ entries) zipped zero lt =
@@ -27,12 +28,12 @@ module _ (memory : Memory) (marks : List Bool) where
 
   -- the entries of as many objects as there are
   pub AreEntries-zipped : (count : ℕ) (entries : List Entry) → count ≡ object_count memory → AreZipped 0 count entries
-      → AreEntries memory marks entries
+      → AreEntries memory weak marks entries
   AreEntries-zipped count entries is zipped =
       record {
         sized = length-zipped 0 count entries zipped ∙ is;
         each = λ index lt.
             let at = index in let same : 0 + index ≡ index = omega arith in
-            subst (λ (index : ℕ). IsEntryOf memory marks index (get_or entries at no_entry)) same
+            subst (λ (index : ℕ). IsEntryOf memory weak marks index (get_or entries at no_entry)) same
             (zipped-each 0 count entries zipped index (omega arith));
       }

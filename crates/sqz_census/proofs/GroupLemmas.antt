@@ -10,43 +10,45 @@ use Rattle.sqz_image.specs.declared.fault.Slot.{Slot}
 use Rattle.sqz_image.specs.declared.fault.Slot.TheVariants.{ClassWord, Field}
 use Rattle.sqz_image.specs.Objects.{Memory, Object, objects, object_count, chunk_words}
 use Rattle.sqz_image.proofs.ObjectLemmas.{find_in-lt}
-use Rattle.sqz_trace.specs.Slots.{slot_word}
-use Rattle.sqz_trace.specs.Edges.{named_by, target}
+use Rattle.sqz_trace.specs.declared.weak.Weak.{Weak}
+use Rattle.sqz_trace.specs.Slots.{traced}
+use Rattle.sqz_trace.specs.Strong.{strong_by_word, held_by_word, compact_classes, compact_class, class_by, class_of}
+use Rattle.sqz_trace.specs.Edges.{strong_target}
 use Rattle.sqz_trace.specs.Graph.{is_marked}
 use Rattle.sqz_trace.specs.Live.{marked}
 use Rattle.sqz_trace.specs.Reachability.{graph_from, IsReachability}
-use Rattle.sqz_trace.proofs.EdgeLemmas.{named_by-lt, target-lt}
+use Rattle.sqz_trace.proofs.EdgeLemmas.{named_among-lt}
+use Rattle.sqz_trace.proofs.StrongLemmas.{held_by_word-target}
 use Rattle.sqz_trace.proofs.ReachabilityLemmas.{IsClosed-reachable}
-use Rattle.sqz_census.specs.Classes.{compact_classes, compact_class, class_by, class_of}
 use Rattle.sqz_census.specs.Census.{Group, Class, Compact, is_same, group_by, group_of, members}
 use Rattle.sqz_census.specs.Keys.{key_of, group_with}
 
 -- ---- classes are objects
 
-module _ (memory : Memory) where
-  named_at-lt : (word : Option ℕ) (class : ℕ) → option_and_then (named_by memory) word ≡ Some class
-      → class < object_count memory
-  named_at-lt None class e = absurd cc
-  named_at-lt (Some word) class e = named_by-lt memory word class e
+module _ (memory : Memory) (weak : Weak) where
+  held_by_word-lt : (index field held : ℕ) → held_by_word memory weak index field ≡ Some held → held < object_count memory
+  held_by_word-lt index field held e =
+      let chunk = chunk_words memory index in
+      named_among-lt memory (strong_by_word memory weak chunk) chunk (Field field) held e
 
-  compact_class-lt : (index class : ℕ) → compact_class memory index ≡ Some class → class < object_count memory
+  compact_class-lt : (index class : ℕ) → compact_class memory weak index ≡ Some class → class < object_count memory
   compact_class-lt zero class e = absurd cc
-  compact_class-lt (suc field) class e = by_array (compact_classes memory) e
+  compact_class-lt (suc field) class e = by_array (compact_classes memory weak) e
     where
-      by_array : (array : Option ℕ) → option_and_then (λ array. target memory array (Field field)) array ≡ Some class
+      by_array : (array : Option ℕ) → option_and_then (λ array. held_by_word memory weak array field) array ≡ Some class
           → class < object_count memory
       by_array None e = absurd cc
-      by_array (Some array) e = target-lt memory array (Field field) class e
+      by_array (Some array) e = held_by_word-lt array field class e
 
-  class_by-lt : (chunk : List ℕ) (kind : Kind) (class : ℕ) → class_by memory chunk kind ≡ Some class
+  class_by-lt : (chunk : List ℕ) (kind : Kind) (class : ℕ) → class_by memory weak chunk kind ≡ Some class
       → class < object_count memory
-  class_by-lt chunk Three class e = named_at-lt (slot_word chunk ClassWord) class e
-  class_by-lt chunk Two class e = named_at-lt (slot_word chunk ClassWord) class e
+  class_by-lt chunk Three class e = named_among-lt memory (traced chunk) chunk ClassWord class e
+  class_by-lt chunk Two class e = named_among-lt memory (traced chunk) chunk ClassWord class e
   class_by-lt chunk Free class e = absurd cc
   class_by-lt chunk Short class e = compact_class-lt (compact_index chunk) class e
 
   -- the class of an object is one
-  pub class_of-lt : (chunk : List ℕ) (class : ℕ) → class_of memory chunk ≡ Some class → class < object_count memory
+  pub class_of-lt : (chunk : List ℕ) (class : ℕ) → class_of memory weak chunk ≡ Some class → class < object_count memory
   class_of-lt chunk class e = class_by-lt chunk (chunk_kind chunk) class e
 
 -- ---- groups and keys
@@ -57,12 +59,12 @@ IsInside count (Class class) = class < count
 IsInside count (Compact index) = index < 32
 
 -- the group of an object is one
-pub group_of-inside : (memory : Memory) (chunk : List ℕ) → IsInside (object_count memory) (group_of memory chunk)
-group_of-inside memory chunk = by_class (class_of memory chunk) refl
+pub group_of-inside : (memory : Memory) (weak : Weak) (chunk : List ℕ) → IsInside (object_count memory) (group_of memory weak chunk)
+group_of-inside memory weak chunk = by_class (class_of memory weak chunk) refl
   where
-    by_class : (class : Option ℕ) → class_of memory chunk ≡ class
+    by_class : (class : Option ℕ) → class_of memory weak chunk ≡ class
         → IsInside (object_count memory) (group_by class (compact_index chunk))
-    by_class (Some class) e = class_of-lt memory chunk class e
+    by_class (Some class) e = class_of-lt memory weak chunk class e
     by_class None e = omega arith
 
 module _ (count : ℕ) where
@@ -136,61 +138,67 @@ some_marked p (false ∷ marks) (x ∷ xs) d lt =
 abbrev pub no_object : Object
 no_object = record { first = 0; chunk = [] }
 
-module _ (memory : Memory) (marks : List Bool) (group : Group) (some : 0 < length (members memory marks group)) where
+module _ (memory : Memory) (weak : Weak) (marks : List Bool) (group : Group) (some : 0 < length (members memory weak marks group)) where
   -- a group that has a member has one with an index
   abbrev IsMember : ℕ → Type 0
   IsMember index =
       (index < object_count memory) × (is_marked marks index ≡ true)
-      × (group_of memory (chunk_words memory index) ≡ group)
+      × (group_of memory weak (chunk_words memory index) ≡ group)
 
   pub some_member : (index : ℕ) × IsMember index
   some_member =
-      let found = some_marked (λ object. is_same group (group_of memory object.chunk)) marks (objects memory) no_object some in
-      (found.0, (found.1, found.2, sym (is_same-equal group (group_of memory (chunk_words memory found.0)) found.3)))
+      let found = some_marked (λ object. is_same group (group_of memory weak object.chunk)) marks (objects memory) no_object some in
+      (found.0, (found.1, found.2, sym (is_same-equal group (group_of memory weak (chunk_words memory found.0)) found.3)))
 
   -- and so some object may be in it
   pub member-inside : IsInside (object_count memory) group
   member-inside =
       let found = some_member in
-      subst (IsInside (object_count memory)) found.1.2 (group_of-inside memory (chunk_words memory found.0))
+      subst (IsInside (object_count memory)) found.1.2 (group_of-inside memory weak (chunk_words memory found.0))
 
 -- ---- the class of a live object is live
 
-module _ (memory : Memory) (marks : List Bool) (reach : IsReachability memory marks) where
+module _ (memory : Memory) (weak : Weak) (marks : List Bool) (reach : IsReachability memory weak marks) where
   edge_marked : (from : ℕ) → from < object_count memory → is_marked marks from ≡ true → (slot : Slot) (to : ℕ)
-      → target memory from slot ≡ Some to → is_marked marks to ≡ true
+      → strong_target memory weak from slot ≡ Some to → is_marked marks to ≡ true
   edge_marked from inside is slot to names =
-      (IsClosed-reachable (graph_from reach.start memory) marks reach.reached).along from to is
+      (IsClosed-reachable (graph_from reach.start memory weak) marks reach.reached).along from to is
       (record { inside = inside; slot = slot; names = names })
+
+  held_marked : (from field held : ℕ) → from < object_count memory → is_marked marks from ≡ true
+      → held_by_word memory weak from field ≡ Some held → is_marked marks held ≡ true
+  held_marked from field held inside is e =
+      edge_marked from inside is (Field field) held (held_by_word-target memory weak from field held e)
 
   special_marked : is_marked marks reach.start ≡ true
   special_marked = reach.reached.complete reach.start (record { path = []; leads = refl })
 
-  array_marked : (array : ℕ) → compact_classes memory ≡ Some array → is_marked marks array ≡ true
+  array_held : (array : ℕ) → compact_classes memory weak ≡ Some array → held_by_word memory weak reach.start 28 ≡ Some array
+  array_held array e =
+      ap (option_and_then (λ (special : ℕ). held_by_word memory weak special 28)) (sym reach.is_special) ∙ e
+
+  array_marked : (array : ℕ) → compact_classes memory weak ≡ Some array → is_marked marks array ≡ true
   array_marked array e =
       let inside = find_in-lt memory.base (objects memory) memory.special reach.start reach.is_special in
-      let same =
-      ap (option_and_then (λ (special : ℕ). target memory special (Field 28))) (sym reach.is_special) in
-      edge_marked reach.start inside special_marked (Field 28) array (same ∙ e)
+      held_marked reach.start 28 array inside special_marked (array_held array e)
 
-  compact_marked : (index class : ℕ) → compact_class memory index ≡ Some class → is_marked marks class ≡ true
+  compact_marked : (index class : ℕ) → compact_class memory weak index ≡ Some class → is_marked marks class ≡ true
   compact_marked zero class e = absurd cc
-  compact_marked (suc field) class e = by_array (compact_classes memory) refl e
+  compact_marked (suc field) class e = by_array (compact_classes memory weak) refl e
     where
-      by_array : (array : Option ℕ) → compact_classes memory ≡ array
-          → option_and_then (λ array. target memory array (Field field)) array ≡ Some class
+      by_array : (array : Option ℕ) → compact_classes memory weak ≡ array
+          → option_and_then (λ array. held_by_word memory weak array field) array ≡ Some class
           → is_marked marks class ≡ true
       by_array None is e = absurd cc
       by_array (Some array) is e =
-          let special = ap (option_and_then (λ (special : ℕ). target memory special (Field 28))) (sym reach.is_special) in
-          let inside = target-lt memory reach.start (Field 28) array (special ∙ is) in
-          edge_marked array inside (array_marked array is) (Field field) class e
+          let inside = held_by_word-lt memory weak reach.start 28 array (array_held array is) in
+          held_marked array field class inside (array_marked array is) e
 
   class_marked : (index class : ℕ) → index < object_count memory → is_marked marks index ≡ true
-      → class_of memory (chunk_words memory index) ≡ Some class → is_marked marks class ≡ true
+      → class_of memory weak (chunk_words memory index) ≡ Some class → is_marked marks class ≡ true
   class_marked index class inside is e = by_kind (chunk_kind (chunk_words memory index)) e
     where
-      by_kind : (kind : Kind) → class_by memory (chunk_words memory index) kind ≡ Some class
+      by_kind : (kind : Kind) → class_by memory weak (chunk_words memory index) kind ≡ Some class
           → is_marked marks class ≡ true
       by_kind Three e = edge_marked index inside is ClassWord class e
       by_kind Two e = edge_marked index inside is ClassWord class e
@@ -198,13 +206,13 @@ module _ (memory : Memory) (marks : List Bool) (reach : IsReachability memory ma
       by_kind Short e = compact_marked (compact_index (chunk_words memory index)) class e
 
   -- the class of a group that has a member is marked
-  pub class_of_group-marked : (class : ℕ) → 0 < length (members memory marks (Class class)) → is_marked marks class ≡ true
+  pub class_of_group-marked : (class : ℕ) → 0 < length (members memory weak marks (Class class)) → is_marked marks class ≡ true
   class_of_group-marked class some =
-      let found = some_member memory marks (Class class) some in
-      by_class found.0 found.1.0 found.1.1 (class_of memory (chunk_words memory found.0)) refl found.1.2
+      let found = some_member memory weak marks (Class class) some in
+      by_class found.0 found.1.0 found.1.1 (class_of memory weak (chunk_words memory found.0)) refl found.1.2
     where
       by_class : (index : ℕ) → index < object_count memory → is_marked marks index ≡ true
-          → (its : Option ℕ) → class_of memory (chunk_words memory index) ≡ its
+          → (its : Option ℕ) → class_of memory weak (chunk_words memory index) ≡ its
           → group_by its (compact_index (chunk_words memory index)) ≡ Class class → is_marked marks class ≡ true
       by_class index inside is (Some other) e same =
           let group_class : Group → ℕ = λ group. key_of 0 group in

@@ -4,17 +4,18 @@ use Rattle.std.specs.Prelude.{IfOk, MatchResult, Contains}
 use Rattle.std.specs.List.{AllZip}
 use Rattle.std.specs.declared.alloc.AllocError.{AllocError}
 use Rattle.sqz_image.specs.Objects.{Memory}
+use Rattle.sqz_trace.specs.declared.weak.Weak.{Weak}
 use Rattle.sqz_census.specs.declared.row.Row.{Row}
 use Rattle.sqz_census.specs.declared.shares.Share.{Share}
 use Rattle.sqz_census.specs.Rows.{shown}
 use Rattle.sqz_census.specs.Shares.{row_at}
 
-module _ (memory : Memory) (places : List (Option ℕ)) where
+module _ (memory : Memory) (weak : Weak) (places : List (Option ℕ)) where
   abbrev pub IsRowOf : Share → Result Row AllocError → Type 0
-  IsRowOf share result = IfOk result (λ row. shown row ≡ row_at memory places share)
+  IsRowOf share result = IfOk result (λ row. shown row ≡ row_at memory weak places share)
 
   rows_along : (shares : List Share) (rows : List Row) → AllZip IsRowOf shares (map Ok rows)
-      → map shown rows ≡ map (row_at memory places) shares
+      → map shown rows ≡ map (row_at memory weak places) shares
   rows_along [] [] zipped = refl
   rows_along [] (row ∷ rows) zipped = absurd zipped
   rows_along (share ∷ shares) [] zipped = absurd zipped
@@ -24,7 +25,7 @@ module _ (memory : Memory) (places : List (Option ℕ)) where
       → MatchResult rows
       (λ rows. (each : List Row) × (results ≡ map Ok each) × (rows.items ≡ each)) (λ error. Contains results (Err error))
       → AllZip IsRowOf shares results
-      → IfOk rows (λ rows. map shown rows.items ≡ map (row_at memory places) shares)
+      → IfOk rows (λ rows. map shown rows.items ≡ map (row_at memory weak places) shares)
   rows_zipped shares results (Ok rows) made zipped =
       let each = subst (λ (results : List (Result Row AllocError)). AllZip IsRowOf shares results) made.1 zipped in
       ap (map shown) made.2 ∙ rows_along shares made.0 each

@@ -5,6 +5,7 @@ use Rattle.std.specs.List.{Contains, sum_by}
 use Rattle.std.proofs.lemmas.Bool.{cases_Bool, eq-eqb}
 use Rattle.std.proofs.lemmas.List.Sums.{sum_by-cons}
 use Rattle.sqz_image.specs.Objects.{Memory, Object}
+use Rattle.sqz_trace.specs.declared.weak.Weak.{Weak}
 use Rattle.sqz_trace.specs.Live.{live}
 use Rattle.sqz_regions.specs.Places.{words_in, live_words}
 use Rattle.sqz_regions.proofs.PlaceLemmas.{words_in-cons}
@@ -44,22 +45,22 @@ module _ (given : Group) (number : ℕ) where
       let others = none_same groups (λ other has. differ other (Contains-tail group groups other has)) in
       omega (arith, sum_by-cons (if_same given number) group groups, first, others)
 
-module _ (memory : Memory) (marks : List Bool) where
+module _ (memory : Memory) (weak : Weak) (marks : List Bool) where
   -- of groups in the order of a census that have a given one, it is the one that is the same
-  one_same : (given : Group) (number : ℕ) (groups : List Group) → IsOrdered (ComesBefore memory marks) groups
+  one_same : (given : Group) (number : ℕ) (groups : List Group) → IsOrdered (ComesBefore memory weak marks) groups
       → Contains groups given → sum_by (if_same given number) groups ≡ number
   one_same given number [] ordered has = absurd (Contains-nil given has)
   one_same given number (group ∷ groups) ordered has =
-      let tail = IsOrdered-tail (ComesBefore memory marks) group groups ordered in
+      let tail = IsOrdered-tail (ComesBefore memory weak marks) group groups ordered in
       by (one_same given number groups tail) (Contains-cons_cases group groups given has)
     where
-      before : (other : Group) → Contains groups other → ComesBefore memory marks group other
-      before other = first_before (ComesBefore memory marks) group groups other ordered
+      before : (other : Group) → Contains groups other → ComesBefore memory weak marks group other
+      before other = first_before (ComesBefore memory weak marks) group groups other ordered
 
       apart : (other : Group) → Contains groups other → group ≡ other → ⊥
       apart other behind same =
-          ComesBefore-itself memory marks other
-          (subst (λ (g : Group). ComesBefore memory marks g other) same (before other behind))
+          ComesBefore-itself memory weak marks other
+          (subst (λ (g : Group). ComesBefore memory weak marks g other) same (before other behind))
 
       by : (Contains groups given → sum_by (if_same given number) groups ≡ number)
           → (group ≡ given) ⊎ Contains groups given → sum_by (if_same given number) (group ∷ groups) ≡ number
@@ -74,7 +75,7 @@ module _ (memory : Memory) (marks : List Bool) where
   -- ---- sums over the objects of each group
 
   abbrev has : Group → Object → Bool
-  has group object = is_same group (group_of memory object.chunk)
+  has group object = is_same group (group_of memory weak object.chunk)
 
   -- a sum over objects, as their number and their words are
   module _ (weight : Object → ℕ) (sum_of : List Object → ℕ) (none : sum_of [] ≡ 0)
@@ -89,19 +90,19 @@ module _ (memory : Memory) (marks : List Bool) where
 
     one_more : (object : Object) (objects : List Object) (group : Group)
         → in_group (object ∷ objects) group
-        ≡ if_same (group_of memory object.chunk) (weight object) group + in_group objects group
+        ≡ if_same (group_of memory weak object.chunk) (weight object) group + in_group objects group
     one_more object objects group =
-        elim (cases_Bool (is_same group (group_of memory object.chunk))) [
+        elim (cases_Bool (is_same group (group_of memory weak object.chunk))) [
           | inl it ↦ rw it (more object (filter (has group) objects))
           | inr other ↦ rw other (omega arith)
         ]
 
     each_more : (object : Object) (objects : List Object) (groups : List Group)
         → sum_by (in_group (object ∷ objects)) groups
-        ≡ sum_by (if_same (group_of memory object.chunk) (weight object)) groups + sum_by (in_group objects) groups
+        ≡ sum_by (if_same (group_of memory weak object.chunk) (weight object)) groups + sum_by (in_group objects) groups
     each_more object objects [] = refl
     each_more object objects (group ∷ groups) =
-        let given = if_same (group_of memory object.chunk) (weight object) in
+        let given = if_same (group_of memory weak object.chunk) (weight object) in
         omega (
           arith,
           sum_by-cons (in_group (object ∷ objects)) group groups,
@@ -112,13 +113,13 @@ module _ (memory : Memory) (marks : List Bool) where
         )
 
     -- where each object's group is among them, the sums over the groups are together the sum over all
-    in_groups : (groups : List Group) → IsOrdered (ComesBefore memory marks) groups → (objects : List Object)
-        → ((object : Object) → Contains objects object → Contains groups (group_of memory object.chunk))
+    in_groups : (groups : List Group) → IsOrdered (ComesBefore memory weak marks) groups → (objects : List Object)
+        → ((object : Object) → Contains objects object → Contains groups (group_of memory weak object.chunk))
         → sum_by (in_group objects) groups ≡ sum_of objects
     in_groups groups ordered [] all = in_no_group groups ∙ sym none
     in_groups groups ordered (object ∷ objects) all =
         let here = all object (Contains-head object objects) in
-        let once = one_same (group_of memory object.chunk) (weight object) groups ordered here in
+        let once = one_same (group_of memory weak object.chunk) (weight object) groups ordered here in
         let others =
         in_groups groups ordered objects (λ other behind. all other (Contains-tail object objects other behind)) in
         omega (arith, each_more object objects groups, once, more object objects, others)
@@ -127,18 +128,18 @@ module _ (memory : Memory) (marks : List Bool) where
 
   -- where an object is among some, its group has one of them
   has_member : (objects : List Object) (object : Object) → Contains objects object
-      → 0 < length (filter (has (group_of memory object.chunk)) objects)
+      → 0 < length (filter (has (group_of memory weak object.chunk)) objects)
   has_member [] object among = absurd (Contains-nil object among)
   has_member (first ∷ objects) object among =
       by (has_member objects object) (Contains-cons_cases first objects object among)
     where
       its : Object → Bool
-      its = has (group_of memory object.chunk)
+      its = has (group_of memory weak object.chunk)
 
       by : (Contains objects object → 0 < length (filter its objects))
           → (first ≡ object) ⊎ Contains objects object → 0 < length (filter its (first ∷ objects))
       by others (inl same) =
-          let it : its first ≡ true = ap its same ∙ is_same-itself (group_of memory object.chunk) in
+          let it : its first ≡ true = ap its same ∙ is_same-itself (group_of memory weak object.chunk) in
           rw it (omega arith)
       by others (inr behind) =
           elim (cases_Bool (its first)) [
@@ -146,11 +147,11 @@ module _ (memory : Memory) (marks : List Bool) where
             | inr other ↦ rw other (others behind)
           ]
 
-  count_of : (group : Group) → (row_of memory marks group).count ≡ length (members memory marks group)
+  count_of : (group : Group) → (row_of memory weak marks group).count ≡ length (members memory weak marks group)
   count_of (Class class) = refl
   count_of (Compact index) = refl
 
-  bytes_are : (group : Group) → (row_of memory marks group).bytes ≡ 4 * words_in (members memory marks group)
+  bytes_are : (group : Group) → (row_of memory weak marks group).bytes ≡ 4 * words_in (members memory weak marks group)
   bytes_are (Class class) = refl
   bytes_are (Compact index) = refl
 
@@ -161,34 +162,34 @@ module _ (memory : Memory) (marks : List Bool) where
   bytes row = row.bytes
 
   counts : (groups : List Group)
-      → sum_by count (map (row_of memory marks) groups) ≡ sum_by (λ group. length (members memory marks group)) groups
+      → sum_by count (map (row_of memory weak marks) groups) ≡ sum_by (λ group. length (members memory weak marks group)) groups
   counts [] = refl
   counts (group ∷ groups) =
       omega (
         arith,
-        sum_by-cons count (row_of memory marks group) (map (row_of memory marks) groups),
-        sum_by-cons (λ group. length (members memory marks group)) group groups,
+        sum_by-cons count (row_of memory weak marks group) (map (row_of memory weak marks) groups),
+        sum_by-cons (λ group. length (members memory weak marks group)) group groups,
         count_of group,
         counts groups,
       )
 
   all_bytes : (groups : List Group)
-      → sum_by bytes (map (row_of memory marks) groups)
-      ≡ 4 * sum_by (λ group. words_in (members memory marks group)) groups
+      → sum_by bytes (map (row_of memory weak marks) groups)
+      ≡ 4 * sum_by (λ group. words_in (members memory weak marks group)) groups
   all_bytes [] = refl
   all_bytes (group ∷ groups) =
       omega (
         arith,
-        sum_by-cons bytes (row_of memory marks group) (map (row_of memory marks) groups),
-        sum_by-cons (λ group. words_in (members memory marks group)) group groups,
+        sum_by-cons bytes (row_of memory weak marks group) (map (row_of memory weak marks) groups),
+        sum_by-cons (λ group. words_in (members memory weak marks group)) group groups,
         bytes_are group,
         all_bytes groups,
       )
 
-  module _ (rows : List CensusRow) (is : IsCensus memory marks rows) where
-    among : (object : Object) → Contains (live memory marks) object → Contains is.groups (group_of memory object.chunk)
+  module _ (rows : List CensusRow) (is : IsCensus memory weak marks rows) where
+    among : (object : Object) → Contains (live memory marks) object → Contains is.groups (group_of memory weak object.chunk)
     among object lives =
-        (is.all (group_of memory object.chunk)).1 (has_member (live memory marks) object lives)
+        (is.all (group_of memory weak object.chunk)).1 (has_member (live memory marks) object lives)
 
     -- the rows count each live object once
     pub sum-counts : sum_by count rows ≡ length (live memory marks)

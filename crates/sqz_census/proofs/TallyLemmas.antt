@@ -9,6 +9,7 @@ use Rattle.std.proofs.lemmas.List.{length-replicate, get_or-replicate}
 use Rattle.std.proofs.lemmas.List.Sums.{length-filter, count_by-le-length, sum_by-append}
 use Rattle.std.proofs.lemmas.List.Elements.{filter-append}
 use Rattle.sqz_image.specs.Objects.{Memory, Object, objects, object_count, object_at, chunk_words}
+use Rattle.sqz_trace.specs.declared.weak.Weak.{Weak}
 use Rattle.sqz_trace.specs.Graph.{is_marked}
 use Rattle.sqz_trace.specs.Live.{marked, live}
 use Rattle.sqz_regions.specs.Places.{words_in}
@@ -36,13 +37,13 @@ words_in-filter p (object ∷ objects) = by_test (p object) (words_in-filter p o
     by_test true le = omega (arith, words_in-cons object (filter p objects), words_in-cons object objects)
     by_test false le = omega (arith, words_in-cons object objects)
 
-module _ (memory : Memory) where
+module _ (memory : Memory) (weak : Weak) where
   abbrev has : Group → Object → Bool
-  has group object = is_same group (group_of memory object.chunk)
+  has group object = is_same group (group_of memory weak object.chunk)
 
   -- one more object of the group
   tally_in-more_yes : (objects : List Object) (object : Object) (group : Group) → has group object ≡ true
-      → tally_in memory (objects ++ object ∷ []) group ≡ with_one (tally_in memory objects group) (length object.chunk)
+      → tally_in memory weak (objects ++ object ∷ []) group ≡ with_one (tally_in memory weak objects group) (length object.chunk)
   tally_in-more_yes objects object group is =
       let one : filter (has group) (object ∷ []) ≡ object ∷ [] = rw is refl in
       let all : filter (has group) (objects ++ object ∷ []) ≡ filter (has group) objects ++ object ∷ [] =
@@ -57,7 +58,7 @@ module _ (memory : Memory) where
 
   -- one more object of another group
   tally_in-more_no : (objects : List Object) (object : Object) (group : Group) → has group object ≡ false
-      → tally_in memory (objects ++ object ∷ []) group ≡ tally_in memory objects group
+      → tally_in memory weak (objects ++ object ∷ []) group ≡ tally_in memory weak objects group
   tally_in-more_no objects object group is =
       let none : filter (has group) (object ∷ []) ≡ [] = rw is refl in
       let all : filter (has group) (objects ++ object ∷ []) ≡ filter (has group) objects =
@@ -66,7 +67,7 @@ module _ (memory : Memory) where
       ap (λ (kept : List Object). record { count = length kept; words = words_in kept }) all
 
   -- no object is counted yet
-  pub AreTalliesOf-none : (count : ℕ) → count ≡ key_count memory → AreTalliesOf memory [] (replicate count no_tally)
+  pub AreTalliesOf-none : (count : ℕ) → count ≡ key_count memory → AreTalliesOf memory weak [] (replicate count no_tally)
   AreTalliesOf-none count is =
       record {
         sized = length-replicate count no_tally ∙ is;
@@ -75,14 +76,14 @@ module _ (memory : Memory) where
 
   -- one object more
   AreTalliesOf-more : (objects : List Object) (object : Object) (key : ℕ) (tallies : List Tally)
-      → key ≡ key_of (object_count memory) (group_of memory object.chunk)
-      → AreTalliesOf memory objects tallies
-      → AreTalliesOf memory (objects ++ object ∷ [])
+      → key ≡ key_of (object_count memory) (group_of memory weak object.chunk)
+      → AreTalliesOf memory weak objects tallies
+      → AreTalliesOf memory weak (objects ++ object ∷ [])
       (set tallies key (with_one (get_or tallies key no_tally) (length object.chunk)))
   AreTalliesOf-more objects object key tallies key_is are =
       let count = object_count memory in
-      let group = group_of memory object.chunk in
-      let inside = group_of-inside memory object.chunk in
+      let group = group_of memory weak object.chunk in
+      let inside = group_of-inside memory weak object.chunk in
       let low : key < key_count memory = omega (arith, key_of-lt count group inside) in
       let changed = with_one (get_or tallies key no_tally) (length object.chunk) in
       let here : has (group_with count key) object ≡ true =
@@ -104,32 +105,32 @@ module _ (memory : Memory) where
             ];
       }
 
-module _ (memory : Memory) (marks : List Bool) (index : ℕ) (inside : index < object_count memory) (tallies : List Tally)
-    (are : AreTalliesBelow memory marks index tallies) where
+module _ (memory : Memory) (weak : Weak) (marks : List Bool) (index : ℕ) (inside : index < object_count memory) (tallies : List Tally)
+    (are : AreTalliesBelow memory weak marks index tallies) where
   -- a dead object is not counted
-  pub AreTalliesBelow-more_no : is_marked marks index ≡ false → AreTalliesBelow memory marks (index + 1) tallies
+  pub AreTalliesBelow-more_no : is_marked marks index ≡ false → AreTalliesBelow memory weak marks (index + 1) tallies
   AreTalliesBelow-more_no is =
-      subst (λ (live : List Object). AreTalliesOf memory live tallies)
+      subst (λ (live : List Object). AreTalliesOf memory weak live tallies)
       (sym (marked_more_no marks (objects memory) index inside is)) are
 
-  module _ (entry : Entry) (is : is_marked marks index ≡ true) (known : IsLiveEntry memory index entry) where
+  module _ (entry : Entry) (is : is_marked marks index ≡ true) (known : IsLiveEntry memory weak index entry) where
     -- its key has a tally
     pub live_key-lt : entry.key < key_count memory
     live_key-lt =
         let chunk = chunk_words memory index in
-        omega (arith, known.key, key_of-lt (object_count memory) (group_of memory chunk) (group_of-inside memory chunk))
+        omega (arith, known.key, key_of-lt (object_count memory) (group_of memory weak chunk) (group_of-inside memory weak chunk))
 
     -- a live object is counted
-    pub AreTalliesBelow-more_yes : AreTalliesBelow memory marks (index + 1)
+    pub AreTalliesBelow-more_yes : AreTalliesBelow memory weak marks (index + 1)
         (set tallies entry.key (with_one (get_or tallies entry.key no_tally) entry.words))
     AreTalliesBelow-more_yes =
         let object = object_at memory index in
         let below = marked (take index marks) (take index (objects memory)) in
-        let more = AreTalliesOf-more memory below object entry.key tallies known.key are in
+        let more = AreTalliesOf-more memory weak below object entry.key tallies known.key are in
         let with_words : ℕ → List Tally =
         λ words. set tallies entry.key (with_one (get_or tallies entry.key no_tally) words) in
-        let counted = subst (λ (words : ℕ). AreTalliesOf memory (below ++ object ∷ []) (with_words words)) (sym known.words) more in
-        subst (λ (live : List Object). AreTalliesOf memory live (with_words entry.words))
+        let counted = subst (λ (words : ℕ). AreTalliesOf memory weak (below ++ object ∷ []) (with_words words)) (sym known.words) more in
+        subst (λ (live : List Object). AreTalliesOf memory weak live (with_words entry.words))
         (sym (marked_more_yes marks (objects memory) index no_object inside is)) counted
 
     -- there is room for it
@@ -139,27 +140,27 @@ module _ (memory : Memory) (marks : List Bool) (index : ℕ) (inside : index < o
     tally_room few_words few =
         let group = group_with (object_count memory) entry.key in
         let below = marked (take index marks) (take index (objects memory)) in
-        let kept = filter (λ (object : Object). is_same group (group_of memory object.chunk)) below in
+        let kept = filter (λ (object : Object). is_same group (group_of memory weak object.chunk)) below in
         let tally = are.each entry.key live_key-lt in
         let count_is : (get_or tallies entry.key no_tally).count ≡ length kept = ap (λ (tally : Tally). tally.count) tally in
         let words_is : (get_or tallies entry.key no_tally).words ≡ words_in kept = ap (λ (tally : Tally). tally.words) tally in
-        let fewer = length-filter (λ (object : Object). is_same group (group_of memory object.chunk)) below in
-        let among = count_by-le-length (λ (object : Object). is_same group (group_of memory object.chunk)) below in
-        let shorter = words_in-filter (λ (object : Object). is_same group (group_of memory object.chunk)) below in
+        let fewer = length-filter (λ (object : Object). is_same group (group_of memory weak object.chunk)) below in
+        let among = count_by-le-length (λ (object : Object). is_same group (group_of memory weak object.chunk)) below in
+        let shorter = words_in-filter (λ (object : Object). is_same group (group_of memory weak object.chunk)) below in
         let live = live_objects-le memory marks index in
         let more = live_words_more_yes memory marks index inside is in
         let most = live_words_below-le-words memory marks (index + 1) in
         (omega (arith, count_is, fewer, among, live), omega (arith, words_is, shorter, more, most, known.words))
 
-module _ (memory : Memory) (marks : List Bool) (index : ℕ) (inside : index < object_count memory) (tallies : List Tally)
-    (are : AreTalliesBelow memory marks index tallies) (entry : Entry) (is : IsEntryOf memory marks index entry) where
+module _ (memory : Memory) (weak : Weak) (marks : List Bool) (index : ℕ) (inside : index < object_count memory) (tallies : List Tally)
+    (are : AreTalliesBelow memory weak marks index tallies) (entry : Entry) (is : IsEntryOf memory weak marks index entry) where
   -- the key of a marked object is not that of dead ones
-  pub dead_more : entry.key ≡ dead → object_count memory < 2 ^ 30 → AreTalliesBelow memory marks (index + 1) tallies
+  pub dead_more : entry.key ≡ dead → object_count memory < 2 ^ 30 → AreTalliesBelow memory weak marks (index + 1) tallies
   dead_more key_is few =
       elim (cases_Bool (is_marked marks index)) [
         | inl alive ↦
-            let lt = live_key-lt memory marks index inside tallies are entry alive (is.marked alive) in absurd (omega (arith, lt))
-        | inr unmarked ↦ AreTalliesBelow-more_no memory marks index inside tallies are unmarked
+            let lt = live_key-lt memory weak marks index inside tallies are entry alive (is.marked alive) in absurd (omega (arith, lt))
+        | inr unmarked ↦ AreTalliesBelow-more_no memory weak marks index inside tallies are unmarked
       ]
 
   module _ (alive : entry.key ≡ dead → ⊥) where
@@ -172,7 +173,7 @@ module _ (memory : Memory) (marks : List Bool) (index : ℕ) (inside : index < o
 
     -- any other key has a tally
     pub entry_key-lt : entry.key < length tallies
-    entry_key-lt = omega (arith, are.sized, live_key-lt memory marks index inside tallies are entry its_mark (is.marked its_mark))
+    entry_key-lt = omega (arith, are.sized, live_key-lt memory weak marks index inside tallies are entry its_mark (is.marked its_mark))
 
     module _ (tally : Tally) (tally_is : tally ≡ get_or tallies entry.key tally) where
       there : tally ≡ get_or tallies entry.key no_tally
@@ -182,39 +183,39 @@ module _ (memory : Memory) (marks : List Bool) (index : ℕ) (inside : index < o
       pub entry_room : length (concat memory.chunks) < 2 ^ 30 → index < 2 ^ 30
           → (tally.count + 1 < 2 ^ 32) × (tally.words + entry.words < 2 ^ 32)
       entry_room few_words few =
-          let room = tally_room memory marks index inside tallies are entry its_mark (is.marked its_mark) few_words few in
+          let room = tally_room memory weak marks index inside tallies are entry its_mark (is.marked its_mark) few_words few in
           let count_is = ap (λ (tally : Tally). tally.count) there in
           let words_is = ap (λ (tally : Tally). tally.words) there in
           (omega (arith, count_is, room.0), omega (arith, words_is, room.1))
 
       -- and the object is counted in it
-      pub entry_more : AreTalliesBelow memory marks (index + 1)
+      pub entry_more : AreTalliesBelow memory weak marks (index + 1)
           (set tallies entry.key (record { count = tally.count + 1; words = tally.words + entry.words }))
       entry_more =
-          let more = AreTalliesBelow-more_yes memory marks index inside tallies are entry its_mark (is.marked its_mark) in
+          let more = AreTalliesBelow-more_yes memory weak marks index inside tallies are entry its_mark (is.marked its_mark) in
           let Next : Tally → Type 0 =
-          λ tally. AreTalliesBelow memory marks (index + 1) (set tallies entry.key (with_one tally entry.words)) in
+          λ tally. AreTalliesBelow memory weak marks (index + 1) (set tallies entry.key (with_one tally entry.words)) in
           subst Next (sym there) more
 
 -- tallies fit, where the data words do
-pub FitWords-tallies : (memory : Memory) (marks : List Bool) (tallies : List Tally) → length marks ≡ object_count memory
-    → length (concat memory.chunks) < 2 ^ 30 → object_count memory < 2 ^ 30 → AreTallies memory marks tallies
-    → FitWords tallies
-FitWords-tallies memory marks tallies sized few_words few are =
+pub FitWords-tallies : (memory : Memory) (weak : Weak) (marks : List Bool) (tallies : List Tally)
+    → length marks ≡ object_count memory → length (concat memory.chunks) < 2 ^ 30 → object_count memory < 2 ^ 30
+    → AreTallies memory weak marks tallies → FitWords tallies
+FitWords-tallies memory weak marks tallies sized few_words few are =
     record {
       sized = omega (arith, are.sized);
       each = λ key lt.
           let group = group_with (object_count memory) key in
           let tally = are.each key (omega (arith, are.sized)) in
           let words_is = ap (λ (tally : Tally). tally.words) tally in
-          let shorter = words_in-filter (λ (object : Object). is_same group (group_of memory object.chunk)) (live memory marks) in
+          let shorter = words_in-filter (λ (object : Object). is_same group (group_of memory weak object.chunk)) (live memory marks) in
           omega (arith, words_is, shorter, live_words-le-words memory marks sized);
     }
 
 -- the tallies below the end are those of all marked objects
-pub AreTallies-all : (memory : Memory) (marks : List Bool) (index : ℕ) (tallies : List Tally)
+pub AreTallies-all : (memory : Memory) (weak : Weak) (marks : List Bool) (index : ℕ) (tallies : List Tally)
     → length marks ≡ object_count memory → object_count memory ≤ index
-    → AreTalliesBelow memory marks index tallies → AreTallies memory marks tallies
-AreTallies-all memory marks index tallies sized le are =
-    subst (λ (live : List Object). AreTalliesOf memory live tallies)
+    → AreTalliesBelow memory weak marks index tallies → AreTallies memory weak marks tallies
+AreTallies-all memory weak marks index tallies sized le are =
+    subst (λ (live : List Object). AreTalliesOf memory weak live tallies)
     (marked_all marks (objects memory) index (omega arith) le) are

@@ -4,9 +4,10 @@ use Rattle.std.specs.Prelude.{filter, slice_index_or, codes, decimal, Option, So
 use Rattle.std.specs.List.{Contains}
 use Rattle.sqz_object.specs.Chunk.{compact_index}
 use Rattle.sqz_image.specs.Objects.{Memory, Object}
+use Rattle.sqz_trace.specs.declared.weak.Weak.{Weak}
+use Rattle.sqz_trace.specs.Strong.{class_of}
 use Rattle.sqz_trace.specs.Live.{live}
 use Rattle.sqz_regions.specs.Places.{words_in, place}
-use Rattle.sqz_census.specs.Classes.{class_of}
 use Rattle.sqz_census.specs.Names.{class_name}
 
 -- what is counted together: the objects of a class, and those without one that have the same compact index
@@ -24,16 +25,16 @@ abbrev pub group_by : Option ℕ → ℕ → Group
 group_by (Some class) compact = Class class
 group_by None compact = Compact compact
 
-abbrev pub group_of : Memory → List ℕ → Group
-group_of memory chunk = group_by (class_of memory chunk) (compact_index chunk)
+abbrev pub group_of : Memory → Weak → List ℕ → Group
+group_of memory weak chunk = group_by (class_of memory weak chunk) (compact_index chunk)
 
 -- the live objects of a group
-abbrev pub members : Memory → List Bool → Group → List Object
-members memory marks group = filter (λ object. is_same group (group_of memory object.chunk)) (live memory marks)
+abbrev pub members : Memory → Weak → List Bool → Group → List Object
+members memory weak marks group = filter (λ object. is_same group (group_of memory weak object.chunk)) (live memory marks)
 
 -- the bytes of their chunks, header words among them
-abbrev pub bytes_of : Memory → List Bool → Group → ℕ
-bytes_of memory marks group = 4 * words_in (members memory marks group)
+abbrev pub bytes_of : Memory → Weak → List Bool → Group → ℕ
+bytes_of memory weak marks group = 4 * words_in (members memory weak marks group)
 
 -- of groups with the same number of bytes classes come first, by their new places, and then compact indexes
 abbrev pub is_lower : Memory → List Bool → Group → Group → Bool
@@ -43,10 +44,10 @@ is_lower memory marks (Compact one) (Class other) = false
 is_lower memory marks (Compact one) (Compact other) = nat_lt one other
 
 -- the group with more bytes comes first
-abbrev pub ComesBefore : Memory → List Bool → Group → Group → Type 0
-ComesBefore memory marks one other =
-    (bytes_of memory marks other < bytes_of memory marks one)
-    ⊎ ((bytes_of memory marks one ≡ bytes_of memory marks other) × (is_lower memory marks one other ≡ true))
+abbrev pub ComesBefore : Memory → Weak → List Bool → Group → Group → Type 0
+ComesBefore memory weak marks one other =
+    (bytes_of memory weak marks other < bytes_of memory weak marks one)
+    ⊎ ((bytes_of memory weak marks one ≡ bytes_of memory weak marks other) × (is_lower memory marks one other ≡ true))
 
 -- a row: the new place of the class, or a compact index; a name; and the number of objects and bytes
 pub record CensusRow : Type 0 where
@@ -57,20 +58,20 @@ pub record CensusRow : Type 0 where
   pub bytes : ℕ
 
 -- what a group is called, with its place where it has one
-abbrev pub row_with : Memory → List Bool → Group → ℕ → ℕ → CensusRow
-row_with memory marks (Class class) count bytes =
-    record { place = Some (place memory marks class); compact = 0; name = class_name memory class; count = count; bytes = bytes }
-row_with memory marks (Compact index) count bytes =
+abbrev pub row_with : Memory → Weak → List Bool → Group → ℕ → ℕ → CensusRow
+row_with memory weak marks (Class class) count bytes =
+    record { place = Some (place memory marks class); compact = 0; name = class_name memory weak class; count = count; bytes = bytes }
+row_with memory weak marks (Compact index) count bytes =
     record { place = None; compact = index; name = codes "compact " ++ decimal index; count = count; bytes = bytes }
 
-abbrev pub row_of : Memory → List Bool → Group → CensusRow
-row_of memory marks group =
-    row_with memory marks group (length (members memory marks group)) (bytes_of memory marks group)
+abbrev pub row_of : Memory → Weak → List Bool → Group → CensusRow
+row_of memory weak marks group =
+    row_with memory weak marks group (length (members memory weak marks group)) (bytes_of memory weak marks group)
 
 -- a row for each group that has a live object, in their order
-pub record IsCensus (memory : Memory) (marks : List Bool) (rows : List CensusRow) : Type 0 where
+pub record IsCensus (memory : Memory) (weak : Weak) (marks : List Bool) (rows : List CensusRow) : Type 0 where
   pub groups : List Group
-  pub are : rows ≡ map (row_of memory marks) groups
-  pub all : (group : Group) → Contains groups group ↔ (0 < length (members memory marks group))
+  pub are : rows ≡ map (row_of memory weak marks) groups
+  pub all : (group : Group) → Contains groups group ↔ (0 < length (members memory weak marks group))
   pub ordered : (i j : ℕ) (d : Group) → i < j → j < length groups
-      → ComesBefore memory marks (slice_index_or groups i d) (slice_index_or groups j d)
+      → ComesBefore memory weak marks (slice_index_or groups i d) (slice_index_or groups j d)

@@ -3,9 +3,10 @@ use Rattle.std.specs.Prelude.{◌≡◌, ℕ, ◌+◌, ◌-◌, ◌<◌, nat_lt,
 use Rattle.std.specs.Prelude.{slice_index_or, Option, None}
 use Rattle.sqz_object.specs.Chunk.{before}
 use Rattle.sqz_image.specs.Objects.{Memory, object_count, chunk_words}
+use Rattle.sqz_trace.specs.declared.weak.Weak.{Weak}
+use Rattle.sqz_trace.specs.Strong.{compact_class}
 use Rattle.sqz_trace.specs.Graph.{is_marked}
 use Rattle.sqz_census.specs.declared.entries.Entry.{Entry}
-use Rattle.sqz_census.specs.Classes.{compact_class}
 use Rattle.sqz_census.specs.Census.{Group, Class, Compact, group_of}
 
 -- how many compact indexes there are
@@ -13,9 +14,9 @@ abbrev pub compact_indexes : ℕ
 compact_indexes = 32
 
 -- the class that each compact index stands for
-pub record AreCompactClasses (memory : Memory) (classes : List (Option ℕ)) : Type 0 where
+pub record AreCompactClasses (memory : Memory) (weak : Weak) (classes : List (Option ℕ)) : Type 0 where
   pub sized : length classes ≡ compact_indexes
-  pub each : (index : ℕ) → index < compact_indexes → slice_index_or classes index None ≡ compact_class memory index
+  pub each : (index : ℕ) → index < compact_indexes → slice_index_or classes index None ≡ compact_class memory weak index
 
 -- the key of a group, where there are so many objects
 abbrev pub key_of : ℕ → Group → ℕ
@@ -35,20 +36,20 @@ abbrev pub dead : ℕ
 dead = 4294967295
 
 -- what is kept of a marked object: its group's key and its words, of which the base header is one
-pub record IsLiveEntry (memory : Memory) (index : ℕ) (entry : Entry) : Type 0 where
-  pub key : entry.key ≡ key_of (object_count memory) (group_of memory (chunk_words memory index))
+pub record IsLiveEntry (memory : Memory) (weak : Weak) (index : ℕ) (entry : Entry) : Type 0 where
+  pub key : entry.key ≡ key_of (object_count memory) (group_of memory weak (chunk_words memory index))
   pub words : entry.words ≡ length (chunk_words memory index)
   pub headed : before (chunk_words memory index) < length (chunk_words memory index)
 
 -- what is kept of an object
-pub record IsEntryOf (memory : Memory) (marks : List Bool) (index : ℕ) (entry : Entry) : Type 0 where
-  pub marked : is_marked marks index ≡ true → IsLiveEntry memory index entry
+pub record IsEntryOf (memory : Memory) (weak : Weak) (marks : List Bool) (index : ℕ) (entry : Entry) : Type 0 where
+  pub marked : is_marked marks index ≡ true → IsLiveEntry memory weak index entry
   pub unmarked : is_marked marks index ≡ false → entry.key ≡ dead
 
 abbrev pub no_entry : Entry
 no_entry = record { key = 0; words = 0 }
 
 -- an entry for each object
-pub record AreEntries (memory : Memory) (marks : List Bool) (entries : List Entry) : Type 0 where
+pub record AreEntries (memory : Memory) (weak : Weak) (marks : List Bool) (entries : List Entry) : Type 0 where
   pub sized : length entries ≡ object_count memory
-  pub each : (index : ℕ) → index < object_count memory → IsEntryOf memory marks index (slice_index_or entries index no_entry)
+  pub each : (index : ℕ) → index < object_count memory → IsEntryOf memory weak marks index (slice_index_or entries index no_entry)

@@ -6,7 +6,8 @@ use Rattle.sqz_object.specs.Bytes.{spelling_of}
 use Rattle.sqz_object.specs.Chunk.{format, fields}
 use Rattle.sqz_image.specs.declared.fault.Slot.TheVariants.{Field}
 use Rattle.sqz_image.specs.Objects.{Memory, chunk_words}
-use Rattle.sqz_trace.specs.Edges.{target}
+use Rattle.sqz_trace.specs.declared.weak.Weak.{Weak}
+use Rattle.sqz_trace.specs.Edges.{strong_target}
 
 -- an object of bytes: the formats 8 to 11
 abbrev pub has_bytes : List ℕ → Bool
@@ -25,9 +26,9 @@ abbrev pub text_in : Order → List ℕ → Option (List ℕ)
 text_in order chunk = if has_bytes chunk then Some (map shown_byte (take 40 (bytes_in order chunk))) else None
 
 -- the name that an object has: its field 6 names an object of bytes
-abbrev pub held_name : Memory → ℕ → Option (List ℕ)
-held_name memory index =
-    option_and_then (λ name. text_in memory.order (chunk_words memory name)) (target memory index (Field 6))
+abbrev pub held_name : Memory → Weak → ℕ → Option (List ℕ)
+held_name memory weak index =
+    option_and_then (λ name. text_in memory.order (chunk_words memory name)) (strong_target memory weak index (Field 6))
 
 -- its own name, or that of its one instance and that it is the class of that, or a question mark
 abbrev pub name_by : Option (List ℕ) → Option (List ℕ) → List ℕ
@@ -36,6 +37,6 @@ name_by None (Some instance) = instance ++ codes " class"
 name_by None None = codes "?"
 
 -- the name of a class: its own, or else that of the class that its field 5 names, whose metaclass it is
-abbrev pub class_name : Memory → ℕ → List ℕ
-class_name memory class =
-    name_by (held_name memory class) (option_and_then (held_name memory) (target memory class (Field 5)))
+abbrev pub class_name : Memory → Weak → ℕ → List ℕ
+class_name memory weak class =
+    name_by (held_name memory weak class) (option_and_then (held_name memory weak) (strong_target memory weak class (Field 5)))

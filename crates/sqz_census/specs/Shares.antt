@@ -1,6 +1,7 @@
 -- The groups that have live objects, by key and in the order of the census, and their rows.
 use Rattle.std.specs.Prelude.{◌≡◌, ◌⊎◌, ℕ, ◌*◌, ◌^◌, ◌<◌, List, ◌++◌, length, slice_index_or, codes, decimal, Option, None}
 use Rattle.sqz_image.specs.Objects.{Memory, object_count}
+use Rattle.sqz_trace.specs.declared.weak.Weak.{Weak}
 use Rattle.sqz_census.specs.declared.tallies.Tally.{Tally}
 use Rattle.sqz_census.specs.declared.shares.Share.{Share}
 use Rattle.sqz_census.specs.Census.{CensusRow, Group, Class, Compact}
@@ -44,17 +45,18 @@ pub record AreSharesInOrder (tallies : List Tally) (shares : List Share) : Type 
       → IsBefore (slice_index_or shares i no_share) (slice_index_or shares j no_share)
 
 -- the row of a group, by a table of places
-abbrev pub row_by : Memory → List (Option ℕ) → Group → ℕ → ℕ → CensusRow
-row_by memory places (Class class) count words =
+abbrev pub row_by : Memory → Weak → List (Option ℕ) → Group → ℕ → ℕ → CensusRow
+row_by memory weak places (Class class) count words =
     record {
       place = slice_index_or places class None;
       compact = 0;
-      name = class_name memory class;
+      name = class_name memory weak class;
       count = count;
       bytes = 4 * words;
     }
-row_by memory places (Compact index) count words =
+row_by memory weak places (Compact index) count words =
     record { place = None; compact = index; name = codes "compact " ++ decimal index; count = count; bytes = 4 * words }
 
-abbrev pub row_at : Memory → List (Option ℕ) → Share → CensusRow
-row_at memory places share = row_by memory places (group_with (object_count memory) share.key) share.count share.words
+abbrev pub row_at : Memory → Weak → List (Option ℕ) → Share → CensusRow
+row_at memory weak places share =
+    row_by memory weak places (group_with (object_count memory) share.key) share.count share.words

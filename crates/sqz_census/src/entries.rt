@@ -2,7 +2,8 @@
 
 ghost use Rattle.std.specs.Prelude.{◌≡◌, ◌<◌, length, IfOk};
 ghost use Rattle.sqz_image.specs.Objects.{object_count};
-ghost use Rattle.sqz_census.specs.Keys.{AreCompactClasses, IsEntryOf, AreEntries};
+ghost use Rattle.sqz_trace.specs.declared.weak.Weak.{Weak};
+ghost use Rattle.sqz_census.specs.Keys.{compact_indexes, AreCompactClasses, IsEntryOf, AreEntries};
 
 use crate::classes::class_of;
 use rayon::prelude::*;
@@ -24,7 +25,7 @@ pub(crate) struct Entry {
     pub(crate) words: u32,
 }
 
-/// An entry for each object. Made in several threads.
+/// An entry for each object. The policy on weak slots is that of the classes. Made in several threads.
 pub(crate) fn entries_of(
     rt: &(impl Threads + Sync),
     alloc: Global,
@@ -33,8 +34,9 @@ pub(crate) fn entries_of(
     classes: &[Option<u32>],
 ) -> Result<Vec<Entry>, AllocError>
     requires sized { length marks.now ≡ object_count heap.now }
-    requires classes { AreCompactClasses heap.now classes.now }
-    ensures { IfOk result (λ entries. AreEntries heap.now marks.now entries.items) }
+    requires classes { length classes.now ≡ compact_indexes }
+    ensures { IfOk result (λ entries. (weak : Weak) → AreCompactClasses heap.now weak classes.now
+        → AreEntries heap.now weak marks.now entries.items) }
 {
     (0..heap.len())
         .into_par_iter()
@@ -42,8 +44,9 @@ pub(crate) fn entries_of(
             |object: u32| -> Entry
                 requires inside { object < object_count heap.now }
                 requires sized { length marks.now ≡ object_count heap.now }
-                requires classes { AreCompactClasses heap.now classes.now }
-                ensures { IsEntryOf heap.entry.now marks.entry.now object result }
+                requires classes { length classes.now ≡ compact_indexes }
+                ensures { (weak : Weak) → AreCompactClasses heap.entry.now weak classes.entry.now
+                    → IsEntryOf heap.entry.now weak marks.entry.now object result }
             { entry_of(heap, marks, classes, object) },
         )
         .collect::<Vec<Entry>>(rt, alloc)
@@ -53,8 +56,8 @@ pub(crate) fn entries_of(
 fn entry_of(heap: &Heap, marks: &Marks, classes: &[Option<u32>], object: u32) -> Entry
     requires inside { object < object_count heap.now }
     requires sized { length marks.now ≡ object_count heap.now }
-    requires classes { AreCompactClasses heap.now classes.now }
-    ensures { IsEntryOf heap.now marks.now object result }
+    requires classes { length classes.now ≡ compact_indexes }
+    ensures { (weak : Weak) → AreCompactClasses heap.now weak classes.now → IsEntryOf heap.now weak marks.now object result }
 {
     if !marks.has(object) {
         return Entry {

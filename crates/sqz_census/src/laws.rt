@@ -2,21 +2,22 @@
 
 ghost use Rattle.std.specs.Prelude.{◌≡◌, ◌*◌, List, Bool, length, sum_by};
 ghost use Rattle.sqz_image.specs.Objects.{Memory};
+ghost use Rattle.sqz_trace.specs.declared.weak.Weak.{Weak};
 ghost use Rattle.sqz_trace.specs.Live.{live};
 ghost use Rattle.sqz_regions.specs.Places.{live_words};
 ghost use Rattle.sqz_census.specs.Census.{CensusRow, IsCensus};
 
 /// The marked objects of an image have one census at most: its rows and their order.
 pub fn one_census()
-    ensures { (memory : Memory) (marks : List Bool) (rows others : List CensusRow)
-        → IsCensus memory marks rows → IsCensus memory marks others → rows ≡ others }
+    ensures { (memory : Memory) (weak : Weak) (marks : List Bool) (rows others : List CensusRow)
+        → IsCensus memory weak marks rows → IsCensus memory weak marks others → rows ≡ others }
 {}
 
 /// The rows of a census have together as many objects as are marked, and the bytes of their chunks: as many as the data
 /// of the compacted image have.
 pub fn census_sums()
-    ensures objects { (memory : Memory) (marks : List Bool) (rows : List CensusRow)
-        → IsCensus memory marks rows → sum_by (λ row. row.count) rows ≡ length (live memory marks) }
-    ensures bytes { (memory : Memory) (marks : List Bool) (rows : List CensusRow)
-        → IsCensus memory marks rows → sum_by (λ row. row.bytes) rows ≡ 4 * live_words memory marks }
+    ensures objects { (memory : Memory) (weak : Weak) (marks : List Bool) (rows : List CensusRow)
+        → IsCensus memory weak marks rows → sum_by (λ row. row.count) rows ≡ length (live memory marks) }
+    ensures bytes { (memory : Memory) (weak : Weak) (marks : List Bool) (rows : List CensusRow)
+        → IsCensus memory weak marks rows → sum_by (λ row. row.bytes) rows ≡ 4 * live_words memory marks }
 {}

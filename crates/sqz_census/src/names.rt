@@ -5,12 +5,12 @@ ghost use Rattle.std.specs.Prelude.{IfOk, option_and_then, option_map};
 ghost use Rattle.sqz_object.specs.Bytes.{spelling_of};
 ghost use Rattle.sqz_image.specs.declared.fault.Slot.TheVariants.{Field};
 ghost use Rattle.sqz_image.specs.Objects.{object_count};
-ghost use Rattle.sqz_trace.specs.Edges.{target};
+ghost use Rattle.sqz_trace.specs.Edges.{strong_target};
 ghost use Rattle.sqz_census.specs.Names.{shown_byte, text_in, held_name, class_name};
 
 use sqz_image::{Heap, Object, Slot};
 use sqz_object::{Order, base_of, put_word};
-use sqz_trace::target;
+use sqz_trace::{Parent, Weak};
 use std::alloc::{AllocError, Global};
 
 /// The field of a class that names its name.
@@ -26,14 +26,19 @@ const MOST_BYTES: usize = 40;
 const MOST_WORDS: usize = 10;
 
 /// The name of a class: its own, or that of its one instance followed by ` class`, or a question mark.
-pub(crate) fn class_name(alloc: Global, heap: &Heap, class: u32) -> Result<Vec<u8>, AllocError>
+pub(crate) fn class_name(
+    alloc: Global,
+    heap: &Heap,
+    weak: Weak,
+    class: u32,
+) -> Result<Vec<u8>, AllocError>
     requires { class < object_count heap.now }
-    ensures { IfOk result (λ name. name.items ≡ class_name heap.now class) }
+    ensures { IfOk result (λ name. name.items ≡ class_name heap.now weak class) }
 {
-    if let Some(own) = held_name(alloc, heap, class)? {
+    if let Some(own) = held_name(alloc, heap, weak, class)? {
         return Ok(own);
     }
-    match instance_name(alloc, heap, class)? {
+    match instance_name(alloc, heap, weak, class)? {
         Some(mut name) => {
             name.extend_from_slice(b" class")?;
             Ok(name)
@@ -51,23 +56,33 @@ pub(crate) fn compact_name(alloc: Global, compact: u32) -> Result<Vec<u8>, Alloc
 }
 
 /// The name of the instance of a metaclass.
-fn instance_name(alloc: Global, heap: &Heap, class: u32) -> Result<Option<Vec<u8>>, AllocError>
+fn instance_name(
+    alloc: Global,
+    heap: &Heap,
+    weak: Weak,
+    class: u32,
+) -> Result<Option<Vec<u8>>, AllocError>
     requires { class < object_count heap.now }
     ensures { IfOk result (λ name.
-        option_map (λ text. text.items) name ≡ option_and_then (held_name heap.now) (target heap.now class (Field 5))) }
+        option_map (λ text. text.items) name ≡ option_and_then (held_name heap.now weak) (strong_target heap.now weak class (Field 5))) }
 {
-    match target(heap, class, Slot::Field(INSTANCE)) {
-        Some(instance) => held_name(alloc, heap, instance),
+    match Parent::of(heap, weak, class).target(heap, Slot::Field(INSTANCE)) {
+        Some(instance) => held_name(alloc, heap, weak, instance),
         None => Ok(None),
     }
 }
 
 /// The name that an object has: its field 6 names an object of bytes.
-fn held_name(alloc: Global, heap: &Heap, object: u32) -> Result<Option<Vec<u8>>, AllocError>
+fn held_name(
+    alloc: Global,
+    heap: &Heap,
+    weak: Weak,
+    object: u32,
+) -> Result<Option<Vec<u8>>, AllocError>
     requires { object < object_count heap.now }
-    ensures { IfOk result (λ name. option_map (λ text. text.items) name ≡ held_name heap.now object) }
+    ensures { IfOk result (λ name. option_map (λ text. text.items) name ≡ held_name heap.now weak object) }
 {
-    match target(heap, object, Slot::Field(NAME)) {
+    match Parent::of(heap, weak, object).target(heap, Slot::Field(NAME)) {
         Some(name) => text_in(alloc, heap.order(), &heap.object(name)),
         None => Ok(None),
     }

@@ -19,7 +19,7 @@ use crate::tallies::tallies_of;
 use rayon::prelude::*;
 use sqz_image::{Fault, Heap};
 use sqz_regions::Forward;
-use sqz_trace::Marks;
+use sqz_trace::{Marks, Weak};
 use std::alloc::{AllocError, Global};
 use std::thread::Threads;
 
@@ -31,21 +31,22 @@ pub fn census(
     rt: &(impl Threads + Sync),
     alloc: Global,
     heap: &Heap,
+    weak: Weak,
     marks: &Marks,
     forward: &Forward,
 ) -> Result<Vec<Row>, Fault>
     requires sized { length marks.now ≡ object_count heap.now }
     requires one_each { length forward.now ≡ object_count heap.now }
-    ensures rows { IfOk result (λ rows. IsReachability heap.now marks.now
+    ensures rows { IfOk result (λ rows. IsReachability heap.now weak marks.now
         → ArePlacesOf heap.now marks.now forward.now
-        → IsCensus heap.now marks.now (map shown rows.items)) }
+        → IsCensus heap.now weak marks.now (map shown rows.items)) }
     ensures refused { IfErr result (λ fault. fault ≡ OutOfMemory) }
 {
-    let classes = compact_classes(alloc, heap)?;
+    let classes = compact_classes(alloc, heap, weak)?;
     let entries = entries_of(rt, alloc, heap, marks, &classes)?;
     let tallies = tallies_of(alloc, heap, marks, &entries)?;
     let shares = shares_of(alloc, &tallies)?;
-    let rows = rows_of(rt, alloc, heap, forward, &shares)?;
+    let rows = rows_of(rt, alloc, heap, weak, forward, &shares)?;
     Ok(rows)
 }
 
@@ -54,12 +55,13 @@ fn rows_of(
     rt: &(impl Threads + Sync),
     alloc: Global,
     heap: &Heap,
+    weak: Weak,
     forward: &Forward,
     shares: &[Share],
 ) -> Result<Vec<Row>, AllocError>
     requires one_each { length forward.now ≡ object_count heap.now }
     requires inside { All (λ share. share.key < key_count heap.now) shares.now }
-    ensures { IfOk result (λ rows. map shown rows.items ≡ map (row_at heap.now forward.now) shares.now) }
+    ensures { IfOk result (λ rows. map shown rows.items ≡ map (row_at heap.now weak forward.now) shares.now) }
 {
     shares
         .par_iter()
@@ -67,24 +69,30 @@ fn rows_of(
             |share: &Share| -> Result<Row, AllocError>
                 requires one_each { length forward.now ≡ object_count heap.now }
                 requires inside { share.now.key < key_count heap.now }
-                ensures { IfOk result (λ row. shown row ≡ row_at heap.entry.now forward.entry.now share.now) }
-            { row_of(alloc, heap, forward, *share) },
+                ensures { IfOk result (λ row. shown row ≡ row_at heap.entry.now weak forward.entry.now share.now) }
+            { row_of(alloc, heap, weak, forward, *share) },
         )
         .collect::<Result<Vec<Row>, AllocError>>(rt, alloc)?
 }
 
 /// The row of a share.
-fn row_of(alloc: Global, heap: &Heap, forward: &Forward, share: Share) -> Result<Row, AllocError>
+fn row_of(
+    alloc: Global,
+    heap: &Heap,
+    weak: Weak,
+    forward: &Forward,
+    share: Share,
+) -> Result<Row, AllocError>
     requires one_each { length forward.now ≡ object_count heap.now }
     requires inside { share.key < key_count heap.now }
-    ensures { IfOk result (λ row. shown row ≡ row_at heap.now forward.now share) }
+    ensures { IfOk result (λ row. shown row ≡ row_at heap.now weak forward.now share) }
 {
     let objects = heap.len();
     let count = share.count;
     let bytes = 4 * u64::from(share.words);
     if share.key < objects {
         let place = forward.place(share.key);
-        let name = class_name(alloc, heap, share.key)?;
+        let name = class_name(alloc, heap, weak, share.key)?;
         Ok(Row {
             place,
             compact: 0,

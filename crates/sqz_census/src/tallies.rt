@@ -2,6 +2,7 @@
 
 ghost use Rattle.std.specs.Prelude.{◌≡◌, length, IfOk};
 ghost use Rattle.sqz_image.specs.Objects.{object_count};
+ghost use Rattle.sqz_trace.specs.declared.weak.Weak.{Weak};
 ghost use Rattle.sqz_census.specs.Keys.{AreEntries};
 ghost use Rattle.sqz_census.specs.Tallies.{AreTallies, FitWords};
 
@@ -19,7 +20,7 @@ pub(crate) struct Tally {
     pub(crate) words: u32,
 }
 
-/// The tally of each group, by key.
+/// The tally of each group, by key. The policy on weak slots is that of the entries.
 pub(crate) fn tallies_of(
     alloc: Global,
     heap: &Heap,
@@ -27,8 +28,9 @@ pub(crate) fn tallies_of(
     entries: &[Entry],
 ) -> Result<Vec<Tally>, AllocError>
     requires sized { length marks.now ≡ object_count heap.now }
-    requires entries { AreEntries heap.now marks.now entries.now }
-    ensures tallies { IfOk result (λ tallies. AreTallies heap.now marks.now tallies.items) }
+    requires entries { (weak : Weak) × AreEntries heap.now weak marks.now entries.now }
+    ensures tallies { IfOk result (λ tallies. (weak : Weak) → AreEntries heap.now weak marks.now entries.now
+        → AreTallies heap.now weak marks.now tallies.items) }
     ensures fit { IfOk result (λ tallies. FitWords tallies.items) }
 {
     heap_bounds(heap);

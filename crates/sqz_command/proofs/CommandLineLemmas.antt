@@ -9,19 +9,21 @@ use Rattle.std.specs.Str.Parse.{ExplainsUnsignedError, HasUnsignedDigitsIfOk, Is
 use Rattle.std.specs.Str.Parse.{digits_value, without_leading_plus}
 use Rattle.std.specs.declared.num.ParseIntError.{ParseIntError}
 use Rattle.std.proofs.lemmas.Slice.Eq.{bytes_eq-Decides}
-use Rattle.clap.specs.Words.{AddsArg, App, HasMatchesOf, IsParsedFrom, Text, app_of, args_of, fault_of, first_of}
+use Rattle.clap.specs.Words.{AddsArg, App, FailsBy, HasMatchesOf, IsParsedFrom, Text, app_of, args_of, fault_of, first_of}
 use Rattle.clap.specs.Words.{first_value, found_of, groups_of, is_simple, is_simple_and_free, matches_of, ReadsOne}
 use Rattle.clap.specs.Words.{new_app, one_of, one_text, with_rule, without_minus, IsPlainArg}
 use Rattle.clap.specs.Built.{AddsInTurn, FitsChain, HasDistinctIds}
 use Rattle.clap.specs.declared.builder.arg.Arg.{Arg}
 use Rattle.clap.specs.declared.builder.command.Command.{Command}
 use Rattle.clap.specs.declared.builder.command.Command.TheViews.{out-Command}
+use Rattle.clap.specs.declared.error.Error.{Error}
 use Rattle.clap.specs.declared.parser.matches.ArgMatches.{ArgMatches}
 use Rattle.clap.proofs.CallerLemmas.{required_in_chain}
 use Rattle.clap.proofs.CallerReads.{signed_reads}
 use Rattle.clap.proofs.WalkLemmas.{first_value-rows, one_text-rows}
 use Rattle.clap.proofs.OnLiterals.{clap_on_literals}
-use Rattle.sqz_command.specs.CommandLine.{GivesAll, HasNumber, IsFlag, IsNumber, IsRequired, command_line, number_parser}
+use Rattle.sqz_command.specs.CommandLine.{GivesAll, HasNumber, IsFlag, IsFlagText, IsNumber, IsRequired}
+use Rattle.sqz_command.specs.CommandLine.{command_line, number_parser}
 use Rattle.clap.specs.declared.builder.value_parser.ValueParser.TheVariants as vp
 use Rattle.sqz_command.proofs.ArgumentLemmas.{default_in_chain, distinct_by_names, read_in_chain}
 
@@ -49,11 +51,12 @@ one_is command words m id shape holds =
     let rows = (holds (ap is_simple shape ∙ command_line_simple)).0 in
     ap (λ (a : App). one_of id (matches_of a words)) (sym shape) ∙ (ap (one_of id) (sym rows) ∙ sym (one_text-rows (found_of m) id))
 
--- where words were taken, there was nothing to refuse
-pub none_refused : (command : Command) (words : List Text) (m : ArgMatches) → app_of command ≡ command_line
-    → (is_simple_and_free (app_of command) ≡ true → fault_of (app_of command) words ≡ []) → fault_of command_line words ≡ []
-none_refused command words m shape holds =
-    ap (λ (a : App). fault_of a words) (sym shape) ∙ holds (ap is_simple_and_free shape ∙ command_line_free)
+-- what is answered by the refusals of the program's command is answered by those of the command line
+pub refusals_are : {T : Type 0} → (command : Command) (words : List Text) (r : Result T Error) → app_of command ≡ command_line
+    → (is_simple_and_free (app_of command) ≡ true → FailsBy (fault_of (app_of command) words) r)
+    → FailsBy (fault_of command_line words) r
+refusals_are command words r shape holds =
+    subst (λ (a : App). FailsBy (fault_of a words) r) shape (holds (ap is_simple_and_free shape ∙ command_line_free))
 
 -- the names that building adds begin with an h and a v
 abbrev is_free_letter : ℕ → Bool
@@ -77,7 +80,7 @@ fits_by_name name a free id simple local = (
 )
 
 abbrev names : List Text
-names = codes "IN" ∷ codes "OUT" ∷ codes "workers" ∷ codes "region-words" ∷ codes "census" ∷ []
+names = codes "IN" ∷ codes "OUT" ∷ codes "workers" ∷ codes "region-words" ∷ codes "census" ∷ codes "clear-weak" ∷ []
 
 -- each name stands at one place
 place_is : (i : ℕ) → i < length names → position_or_len (bytes_eq (slice_index_or names i [])) names ≡ i
@@ -86,7 +89,8 @@ place_is (suc zero) inside = refl
 place_is (suc (suc zero)) inside = refl
 place_is (suc (suc (suc zero))) inside = refl
 place_is (suc (suc (suc (suc zero)))) inside = refl
-place_is (suc (suc (suc (suc (suc i))))) inside = absurd (omega arith)
+place_is (suc (suc (suc (suc (suc zero))))) inside = refl
+place_is (suc (suc (suc (suc (suc (suc i)))))) inside = absurd (omega arith)
 
 names_apart : (i j : ℕ) → i < length names → j < length names → slice_index_or names i [] ≡ slice_index_or names j [] → i ≡ j
 names_apart i j inside within same =
@@ -100,27 +104,29 @@ one_of_two text one other test = at (bytes_eq text one) refl
     at true same = inl ((bytes_eq-Decides text one).0 same)
     at false apart = inr ((bytes_eq-Decides text other).0 (rw apart at test))
 
-module _ (start one two three four cmd : Command) (input output workers region_words census : Arg)
+module _ (start one two three four five cmd : Command) (input output workers region_words census clear_weak : Arg)
     (first : AddsArg start input one) (second : AddsArg one output two) (third : AddsArg two workers three)
-    (fourth : AddsArg three region_words four) (fifth : AddsArg four census cmd)
+    (fourth : AddsArg three region_words four) (fifth : AddsArg four census five) (sixth : AddsArg five clear_weak cmd)
     (for_input : IsRequired (codes "IN") input) (for_output : IsRequired (codes "OUT") output)
     (for_workers : IsNumber (codes "workers") (codes "4") workers)
-    (for_regions : IsNumber (codes "region-words") (codes "65536") region_words) (for_census : IsFlag (codes "census") census) where
+    (for_regions : IsNumber (codes "region-words") (codes "65536") region_words) (for_census : IsFlag (codes "census") census)
+    (for_weak : IsFlag (codes "clear-weak") clear_weak) where
   -- the command's arguments are those of the command line
   pub shape_is : app_of start ≡ new_app (codes "sqzcompact") → app_of cmd ≡ command_line
   shape_is new =
-      fifth.shape for_census.local
+      sixth.shape for_weak.local
+      ∙ ap₂ with_rule (fifth.shape for_census.local
       ∙ ap₂ with_rule (fourth.shape for_regions.local
       ∙ ap₂ with_rule (third.shape for_workers.local
       ∙ ap₂ with_rule (second.shape for_output.local
       ∙ ap₂ with_rule (first.shape for_input.local
-      ∙ ap₂ with_rule new for_input.rule) for_output.rule) for_workers.rule) for_regions.rule) for_census.rule
+      ∙ ap₂ with_rule new for_input.rule) for_output.rule) for_workers.rule) for_regions.rule) for_census.rule) for_weak.rule
 
   abbrev arguments : List Arg
-  arguments = input ∷ output ∷ workers ∷ region_words ∷ census ∷ []
+  arguments = input ∷ output ∷ workers ∷ region_words ∷ census ∷ clear_weak ∷ []
 
   chain : AddsInTurn AddsArg start arguments cmd
-  chain = (one, first, (two, second, (three, third, (four, fourth, (cmd, fifth, refl)))))
+  chain = (one, first, (two, second, (three, third, (four, fourth, (five, fifth, (cmd, sixth, refl))))))
 
   fits : All FitsChain arguments
   fits zero d inside = fits_by_name (codes "IN") input refl for_input.id for_input.simple for_input.local
@@ -129,11 +135,14 @@ module _ (start one two three four cmd : Command) (input output workers region_w
   fits (suc (suc (suc zero))) d inside =
       fits_by_name (codes "region-words") region_words refl for_regions.id for_regions.simple for_regions.local
   fits (suc (suc (suc (suc zero)))) d inside = fits_by_name (codes "census") census refl for_census.id for_census.simple for_census.local
-  fits (suc (suc (suc (suc (suc k))))) d inside = absurd (omega arith)
+  fits (suc (suc (suc (suc (suc zero))))) d inside =
+      fits_by_name (codes "clear-weak") clear_weak refl for_weak.id for_weak.simple for_weak.local
+  fits (suc (suc (suc (suc (suc (suc k)))))) d inside = absurd (omega arith)
 
   distinct : HasDistinctIds arguments
   distinct =
-      distinct_by_names arguments names (rw (for_input.id, for_output.id, for_workers.id, for_regions.id, for_census.id)) names_apart
+      distinct_by_names arguments names
+      (rw (for_input.id, for_output.id, for_workers.id, for_regions.id, for_census.id, for_weak.id)) names_apart
 
   module _ (args : args_of start ≡ []) (groups : groups_of start ≡ []) (globals : (out-Command start).has_globals ≡ false)
       (negates : (out-Command start).subcommand_negates_reqs ≡ false) (m : ArgMatches) (parsed : IsParsedFrom cmd m) where
@@ -156,6 +165,18 @@ module _ (start one two three four cmd : Command) (input output workers region_w
         in
         (got.0, subst (λ (id : Text). one_text (found_of m) id ≡ Some (without_minus got.0)) at.id got.1, got.2)
 
+    -- a flag has a word of two
+    flag_at : (k : ℕ) (name : Text) (a : Arg) → k < length arguments → slice_index_or arguments k a ≡ a → IsFlag name a
+        → IsFlagText m name
+    flag_at k name a inside is flag text read =
+        let at = subst (IsFlag name) (sym is) flag in
+        let got =
+        read_in_chain start cmd arguments m chain args groups globals fits distinct parsed k a inside
+        vp.Bool at.parser text (rw at.id read)
+        in
+        let word = one_of_two got.0 (codes "true") (codes "false") got.2 in
+        elim word [ inl on ↦ inl (got.1 ∙ on) | inr off ↦ inr (got.1 ∙ off) ]
+
     -- a parse gives each argument what its reader counts on
     pub all_given : GivesAll m
     all_given = record {
@@ -163,13 +184,8 @@ module _ (start one two three four cmd : Command) (input output workers region_w
       output = word_at 1 (codes "OUT") output (omega arith) refl for_output;
       workers = number_at 2 (codes "workers") (codes "4") workers (omega arith) refl for_workers;
       region_words = number_at 3 (codes "region-words") (codes "65536") region_words (omega arith) refl for_regions;
-      census = λ text is.
-          let got =
-          read_in_chain start cmd arguments m chain args groups globals fits distinct parsed 4 census (omega arith)
-          vp.Bool for_census.parser text (rw for_census.id is)
-          in
-          let word = one_of_two got.0 (codes "true") (codes "false") got.2 in
-          elim word [ inl on ↦ inl (got.1 ∙ on) | inr off ↦ inr (got.1 ∙ off) ];
+      census = flag_at 4 (codes "census") census (omega arith) refl for_census;
+      clear_weak = flag_at 5 (codes "clear-weak") clear_weak (omega arith) refl for_weak;
     }
 
 -- how `u32` reads a text
@@ -189,8 +205,7 @@ number_read m name r has reads =
     (got.0, got.1, (text, has.1, parsed.0.0.0, sym parsed.0.1))
 
 -- a flag is on where its text says so
-pub flag_read : (m : ArgMatches) (name : Text) (flag : Bool)
-    → ((text : Text) → one_text (found_of m) name ≡ Some text → (text ≡ codes "true") ⊎ (text ≡ codes "false"))
+flag_read : (m : ArgMatches) (name : Text) (flag : Bool) → IsFlagText m name
     → (one_text (found_of m) name ≡ None → flag ≡ false) → (one_text (found_of m) name ≡ Some (codes "true") → flag ≡ true)
     → (one_text (found_of m) name ≡ Some (codes "false") → flag ≡ false)
     → IsTrue flag ↔ (one_text (found_of m) name ≡ Some (codes "true"))
@@ -202,3 +217,14 @@ flag_read m name flag words none on off = (λ set. text_of (one_text (found_of m
       | inl yes_text ↦ is ∙ ap (λ (t : Text). Some t) yes_text
       | inr no_text ↦ let unset = off (is ∙ ap (λ (t : Text). Some t) no_text) in cc
     ]
+
+-- so it is on where the words of the command line say so
+pub flag_is : (command : Command) (words : List Text) (m : ArgMatches) (name : Text) (flag : Bool) → app_of command ≡ command_line
+    → HasMatchesOf (app_of command) words m → IsFlagText m name
+    → (one_text (found_of m) name ≡ None → flag ≡ false) → (one_text (found_of m) name ≡ Some (codes "true") → flag ≡ true)
+    → (one_text (found_of m) name ≡ Some (codes "false") → flag ≡ false)
+    → IsTrue flag ↔ (one_of name (matches_of command_line words) ≡ Some (codes "true"))
+flag_is command words m name flag shape holds given none on off =
+    let is = one_is command words m name shape holds in
+    let read = flag_read m name flag given none on off in
+    (λ set. is ∙ read.0 set, λ text. read.1 (sym is ∙ text))

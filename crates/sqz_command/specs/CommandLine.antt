@@ -36,10 +36,10 @@ flag_option name = record (new_rule name) { long = Some name; action = Some SetT
 -- the path of the image that is read, that of the image that is written, and the options
 abbrev pub command_line : App
 command_line =
-    with_rule (with_rule (with_rule (with_rule (with_rule (new_app (codes "sqzcompact"))
+    with_rule (with_rule (with_rule (with_rule (with_rule (with_rule (new_app (codes "sqzcompact"))
     (required_word (codes "IN"))) (required_word (codes "OUT")))
     (number_option (codes "workers") (codes "4"))) (number_option (codes "region-words") (codes "65536")))
-    (flag_option (codes "census"))
+    (flag_option (codes "census"))) (flag_option (codes "clear-weak"))
 
 -- the option has this number: its text is that in decimal digits, perhaps behind a plus
 abbrev pub ReadsNumber : List Row → Text → ℕ → Type 0
@@ -79,11 +79,15 @@ abbrev pub HasNumber : ArgMatches → Text → Type 0
 HasNumber m name = (text : Text) × (one_text (found_of m) name ≡ Some (without_minus text))
     × IsSignedIn (pos 0) (pos 4294967295) text
 
--- where words are taken, both paths are among them, the options with a number have one, and the flag has a word of two
+-- what the words gave the flag, where they gave it any, is one of two
+abbrev pub IsFlagText : ArgMatches → Text → Type 0
+IsFlagText m name = (text : Text) → one_text (found_of m) name ≡ Some text → (text ≡ codes "true") ⊎ (text ≡ codes "false")
+
+-- where words are taken, both paths are among them, the options with a number have one, and each flag has a word of two
 pub record GivesAll (m : ArgMatches) : Type 0 where
   pub input : is_some (first_value (found_of m) (codes "IN")) ≡ true
   pub output : is_some (first_value (found_of m) (codes "OUT")) ≡ true
   pub workers : HasNumber m (codes "workers")
   pub region_words : HasNumber m (codes "region-words")
-  pub census : (text : Text) → one_text (found_of m) (codes "census") ≡ Some text
-      → (text ≡ codes "true") ⊎ (text ≡ codes "false")
+  pub census : IsFlagText m (codes "census")
+  pub clear_weak : IsFlagText m (codes "clear-weak")

@@ -21,6 +21,8 @@ pub struct Arguments<'a> {
     pub region_words: u32,
     /// Whether a census is asked for.
     pub census: bool,
+    /// Whether what only weak slots name is let go of.
+    pub clear_weak: bool,
 }
 
 /// Reads the words of a command line, of which the first is the program's name.
@@ -40,6 +42,9 @@ pub fn read_arguments<'a>(alloc: Global, words: &'a [String]) -> Result<Argument
     ensures census { IfOk result (λ arguments.
         let rows = matches_of command_line (map string_bytes words.entry.now) in
         IsTrue arguments.census ↔ (one_of (codes "census") rows ≡ Some (codes "true"))) }
+    ensures clear_weak { IfOk result (λ arguments.
+        let rows = matches_of command_line (map string_bytes words.entry.now) in
+        IsTrue arguments.clear_weak ↔ (one_of (codes "clear-weak") rows ≡ Some (codes "true"))) }
     ensures refused { FailsBy (fault_of command_line (map string_bytes words.entry.now)) result }
 {
     let matches = command(alloc)?.try_get_matches_from(words)?;
@@ -49,6 +54,7 @@ pub fn read_arguments<'a>(alloc: Global, words: &'a [String]) -> Result<Argument
         workers: matches.get_one("workers").unwrap(),
         region_words: matches.get_one("region-words").unwrap(),
         census: matches.get_flag("census"),
+        clear_weak: matches.get_flag("clear-weak"),
     })
 }
 
@@ -76,13 +82,19 @@ fn command<'a>(alloc: Global) -> Result<Command<'a>, AllocError>
         "census",
         "Print how many objects each class has, and how many bytes",
     );
+    let clear_weak = flag(
+        alloc,
+        "clear-weak",
+        "Let go of what only weak references name",
+    );
     Command::new(alloc, "sqzcompact")
         .about("Writes an image with its reachable objects alone")
         .arg(input)?
         .arg(output)?
         .arg(workers)?
         .arg(region_words)?
-        .arg(census)
+        .arg(census)?
+        .arg(clear_weak)
 }
 
 /// A word that has to be there.

@@ -9,10 +9,12 @@ pub fn worked_options()
     ensures defaults { let rows = matches_of command_line (codes "sqzcompact" ∷ codes "a" ∷ codes "b" ∷ []) in
         (one_of (codes "workers") rows ≡ Some (codes "4"))
         × (one_of (codes "region-words") rows ≡ Some (codes "65536"))
-        × (one_of (codes "census") rows ≡ Some (codes "false")) }
+        × (one_of (codes "census") rows ≡ Some (codes "false"))
+        × (one_of (codes "clear-weak") rows ≡ Some (codes "false")) }
     ensures given { let rows = matches_of command_line (codes "sqzcompact" ∷ codes "--workers" ∷ codes "8"
-        ∷ codes "--region-words=100" ∷ codes "--census" ∷ codes "a" ∷ codes "b" ∷ []) in
+        ∷ codes "--region-words=100" ∷ codes "--census" ∷ codes "--clear-weak" ∷ codes "a" ∷ codes "b" ∷ []) in
         (one_of (codes "workers") rows ≡ Some (codes "8"))
         × (one_of (codes "region-words") rows ≡ Some (codes "100"))
-        × (one_of (codes "census") rows ≡ Some (codes "true")) }
+        × (one_of (codes "census") rows ≡ Some (codes "true"))
+        × (one_of (codes "clear-weak") rows ≡ Some (codes "true")) }
 {}

@@ -10,17 +10,20 @@ use Rattle.sqz_object.specs.Chunk.{fields}
 use Rattle.sqz_image.specs.declared.fault.Slot.{Slot}
 use Rattle.sqz_image.specs.declared.fault.Slot.TheVariants.{ClassWord, Field}
 use Rattle.sqz_image.specs.Objects.{Memory, Object, objects, object_count, chunk_words, find}
-use Rattle.sqz_trace.specs.Slots.{traced, field_slots}
-use Rattle.sqz_trace.specs.Edges.{named_by, named_in, HasEdge}
+use Rattle.sqz_trace.specs.declared.weak.Weak.{Weak}
+use Rattle.sqz_trace.specs.Slots.{field_slots}
+use Rattle.sqz_trace.specs.Targets.{named_by, named_among}
+use Rattle.sqz_trace.specs.Strong.{strong}
+use Rattle.sqz_trace.specs.Edges.{HasEdge}
 use Rattle.sqz_trace.specs.Graph.{Leads, is_marked}
 use Rattle.sqz_trace.specs.Reachability.{graph_from, IsReachability}
 use Rattle.sqz_trace.proofs.ReachabilityLemmas.{IsClosed, IsTracing, MarksReachable-from_tracing}
 
 -- ---- slots
 
--- the class word, whether or not the object has one, and the traced fields
-abbrev pub possible_slots : List ℕ → List Slot
-possible_slots chunk = ClassWord ∷ field_slots 0 (traced chunk)
+-- the class word, whether or not an object has one, and so many fields
+abbrev pub possible_slots : ℕ → List Slot
+possible_slots count = ClassWord ∷ field_slots 0 count
 
 -- what a test finds of all of these fields it finds of each
 module _ (test : Slot → Bool) where
@@ -49,34 +52,36 @@ is_index-true : (named : Option ℕ) (index : ℕ) → is_index named index ≡ 
 is_index-true None index h = absurd cc
 is_index-true (Some named) index h = ap (λ (n : ℕ). Some n) (eqb-true named index h)
 
-module _ (memory : Memory) where
-  -- whether one of these slots names the object
-  abbrev pub some_names : List ℕ → ℕ → List Slot → Bool
-  some_names chunk to [] = false
-  some_names chunk to (slot ∷ slots) = is_index (named_in memory chunk slot) to || some_names chunk to slots
+module _ (memory : Memory) (weak : Weak) where
+  -- whether one of these slots names the object, among so many fields
+  abbrev pub some_names : ℕ → List ℕ → ℕ → List Slot → Bool
+  some_names count chunk to [] = false
+  some_names count chunk to (slot ∷ slots) = is_index (named_among memory count chunk slot) to || some_names count chunk to slots
 
   -- then there is such a slot
-  naming_slot : (chunk : List ℕ) (to : ℕ) (slots : List Slot) → some_names chunk to slots ≡ true
-      → (slot : Slot) × (named_in memory chunk slot ≡ Some to)
-  naming_slot chunk to [] h = absurd cc
-  naming_slot chunk to (slot ∷ slots) h =
+  naming_slot : (count : ℕ) (chunk : List ℕ) (to : ℕ) (slots : List Slot) → some_names count chunk to slots ≡ true
+      → (slot : Slot) × (named_among memory count chunk slot ≡ Some to)
+  naming_slot count chunk to [] h = absurd cc
+  naming_slot count chunk to (slot ∷ slots) h =
       elim (or_cases _ _ h) [
-        | inl here ↦ (slot, is_index-true (named_in memory chunk slot) to here)
-        | inr later ↦ naming_slot chunk to slots later
+        | inl here ↦ (slot, is_index-true (named_among memory count chunk slot) to here)
+        | inr later ↦ naming_slot count chunk to slots later
       ]
 
   -- whether the one object has an edge to the other
   abbrev pub has_edge : ℕ → ℕ → Bool
   has_edge from to =
       let chunk : List ℕ = chunk_words memory from in
-      ltb from (object_count memory) && some_names chunk to (possible_slots chunk)
+      let count : ℕ = strong memory weak chunk in
+      ltb from (object_count memory) && some_names count chunk to (possible_slots count)
 
   -- then it has one
-  pub has_edge-true : (from to : ℕ) → has_edge from to ≡ true → HasEdge memory from to
+  pub has_edge-true : (from to : ℕ) → has_edge from to ≡ true → HasEdge memory weak from to
   has_edge-true from to h =
       let chunk : List ℕ = chunk_words memory from in
-      let parts = and_parts (ltb from (object_count memory)) (some_names chunk to (possible_slots chunk)) h in
-      let found = naming_slot chunk to (possible_slots chunk) parts.1 in
+      let count : ℕ = strong memory weak chunk in
+      let parts = and_parts (ltb from (object_count memory)) (some_names count chunk to (possible_slots count)) h in
+      let found = naming_slot count chunk to (possible_slots count) parts.1 in
       record { inside = ltb-true _ _ parts.0; slot = found.0; names = found.1 }
 
   -- whether each object of the path has an edge from the one before, and the last is the goal
@@ -86,7 +91,7 @@ module _ (memory : Memory) where
 
   -- then the path leads there
   leads_to-true : (start from : ℕ) (path : List ℕ) (goal : ℕ) → leads_to from path goal ≡ true
-      → Leads (graph_from start memory) from path goal
+      → Leads (graph_from start memory weak) from path goal
   leads_to-true start from [] goal h = eqb-true from goal h
   leads_to-true start from (next ∷ path) goal h =
       let parts = and_parts (has_edge from next) (leads_to next path goal) h in
@@ -106,71 +111,71 @@ module _ (memory : Memory) where
   test_of_named true word to names = refl
   test_of_named false word to names = absurd cc
 
-  -- a field that names an object is one of the traced ones
-  field_is_traced : (chunk : List ℕ) (index to : ℕ) → named_in memory chunk (Field index) ≡ Some to
-      → index < traced chunk
-  field_is_traced chunk index to names =
-      ltb-true _ _ (test_of_named (nat_lt index (traced chunk)) (slice_index (fields chunk) index) to names)
+  -- a field that names an object is one of so many
+  field_is_among : (count : ℕ) (chunk : List ℕ) (index to : ℕ) → named_among memory count chunk (Field index) ≡ Some to
+      → index < count
+  field_is_among count chunk index to names =
+      ltb-true _ _ (test_of_named (nat_lt index count) (slice_index (fields chunk) index) to names)
 
-module _ (memory : Memory) (passes : ℕ → Bool) where
-  -- whether the object that this slot names passes, if it names one
+module _ (memory : Memory) (weak : Weak) (passes : ℕ → Bool) where
+  -- whether the object that this slot names passes, if it is strong and names one
   abbrev pub is_named_passing : List ℕ → Slot → Bool
-  is_named_passing chunk slot = passes_if_named passes (named_in memory chunk slot)
+  is_named_passing chunk slot = passes_if_named passes (named_among memory (strong memory weak chunk) chunk slot)
 
-  -- whether all objects that this chunk's slots name pass
+  -- whether all objects that this chunk's strong slots name pass
   abbrev pub all_named_pass : List ℕ → Bool
-  all_named_pass chunk = list_all (is_named_passing chunk) (possible_slots chunk)
+  all_named_pass chunk = list_all (is_named_passing chunk) (possible_slots (strong memory weak chunk))
 
   -- what some slot names passes, then
   all_named_pass_at : (chunk : List ℕ) (slot : Slot) (to : ℕ) → all_named_pass chunk ≡ true
-      → named_in memory chunk slot ≡ Some to → passes to ≡ true
+      → named_among memory (strong memory weak chunk) chunk slot ≡ Some to → passes to ≡ true
   all_named_pass_at chunk ClassWord to h names =
       let test : Slot → Bool = is_named_passing chunk in
-      let parts = and_parts (test ClassWord) (list_all test (field_slots 0 (traced chunk))) h in
+      let parts = and_parts (test ClassWord) (list_all test (field_slots 0 (strong memory weak chunk))) h in
       sym (ap (passes_if_named passes) names) ∙ parts.0
   all_named_pass_at chunk (Field index) to h names =
       let test : Slot → Bool = is_named_passing chunk in
-      let parts = and_parts (test ClassWord) (list_all test (field_slots 0 (traced chunk))) h in
-      let inside = field_is_traced memory chunk index to names in
+      let parts = and_parts (test ClassWord) (list_all test (field_slots 0 (strong memory weak chunk))) h in
+      let inside = field_is_among memory (strong memory weak chunk) chunk index to names in
       let same : 0 + index ≡ index = omega arith in
-      let passing = field_slots_at test 0 (traced chunk) index parts.1 inside in
+      let passing = field_slots_at test 0 (strong memory weak chunk) index parts.1 inside in
       let named = subst (λ (field : ℕ). test (Field field) ≡ true) same passing in
       sym (ap (passes_if_named passes) names) ∙ named
 
   -- so does each object to which one has an edge
-  pub targets_pass : (from to : ℕ) → all_named_pass (chunk_words memory from) ≡ true → HasEdge memory from to → passes to ≡ true
+  pub targets_pass : (from to : ℕ) → all_named_pass (chunk_words memory from) ≡ true → HasEdge memory weak from to → passes to ≡ true
   targets_pass from to h edge = all_named_pass_at (chunk_words memory from) edge.slot to h edge.names
 
-module _ (memory : Memory) (marks : List Bool) where
+module _ (memory : Memory) (weak : Weak) (marks : List Bool) where
   -- whether all that the marked ones of these objects name are marked; `own` has their marks
   abbrev pub is_closed_from : List Bool → List Object → Bool
-  is_closed_from (true ∷ own) (object ∷ objects) = all_named_pass memory (is_marked marks) object.chunk && is_closed_from own objects
+  is_closed_from (true ∷ own) (object ∷ objects) = all_named_pass memory weak (is_marked marks) object.chunk && is_closed_from own objects
   is_closed_from (false ∷ own) (object ∷ objects) = is_closed_from own objects
   is_closed_from _ _ = true
 
   -- each of these objects, then
   is_closed_from_at : (own : List Bool) (objects : List Object) (index : ℕ) (d : Object)
       → is_closed_from own objects ≡ true → slice_index_or own index false ≡ true → index < length objects
-      → all_named_pass memory (is_marked marks) (slice_index_or objects index d).chunk ≡ true
+      → all_named_pass memory weak (is_marked marks) (slice_index_or objects index d).chunk ≡ true
   is_closed_from_at own [] index d h m lt = absurd (omega arith)
   is_closed_from_at [] (object ∷ objects) index d h m lt = absurd cc
   is_closed_from_at (true ∷ own) (object ∷ objects) zero d h m lt =
-      (and_parts (all_named_pass memory (is_marked marks) object.chunk) (is_closed_from own objects) h).0
+      (and_parts (all_named_pass memory weak (is_marked marks) object.chunk) (is_closed_from own objects) h).0
   is_closed_from_at (true ∷ own) (object ∷ objects) (suc index) d h m lt =
-      let parts = and_parts (all_named_pass memory (is_marked marks) object.chunk) (is_closed_from own objects) h in
+      let parts = and_parts (all_named_pass memory weak (is_marked marks) object.chunk) (is_closed_from own objects) h in
       is_closed_from_at own objects index d parts.1 m (omega arith)
   is_closed_from_at (false ∷ own) (object ∷ objects) zero d h m lt = absurd cc
   is_closed_from_at (false ∷ own) (object ∷ objects) (suc index) d h m lt =
       is_closed_from_at own objects index d h m (omega arith)
 
 -- the same of all objects
-IsClosed-from_test : (memory : Memory) (start : ℕ) (marks : List Bool)
-    → is_closed_from memory marks marks (objects memory) ≡ true → IsClosed (graph_from start memory) marks
-IsClosed-from_test memory start marks h = record {
+IsClosed-from_test : (memory : Memory) (weak : Weak) (start : ℕ) (marks : List Bool)
+    → is_closed_from memory weak marks marks (objects memory) ≡ true → IsClosed (graph_from start memory weak) marks
+IsClosed-from_test memory weak start marks h = record {
   along = λ from to m edge.
       let some : Object = record { first = 0; chunk = [] } in
-      let all = is_closed_from_at memory marks marks (objects memory) from some h m edge.inside in
-      targets_pass memory (is_marked marks) from to all edge;
+      let all = is_closed_from_at memory weak marks marks (objects memory) from some h m edge.inside in
+      targets_pass memory weak (is_marked marks) from to all edge;
 }
 
 -- ---- a path to each marked object, by a test
@@ -179,44 +184,44 @@ IsClosed-from_test memory start marks h = record {
 abbrev pub marks_of : List (Option (List ℕ)) → List Bool
 marks_of paths = map is_some paths
 
-module _ (memory : Memory) (start : ℕ) where
+module _ (memory : Memory) (weak : Weak) (start : ℕ) where
   -- of a list that has a path for each object that is to be marked: whether those paths lead there; the
   -- first of the list is for the object with this index
   abbrev pub all_lead : ℕ → List (Option (List ℕ)) → Bool
   all_lead index [] = true
   all_lead index (None ∷ paths) = all_lead (suc index) paths
-  all_lead index ((Some path) ∷ paths) = leads_to memory start path index && all_lead (suc index) paths
+  all_lead index ((Some path) ∷ paths) = leads_to memory weak start path index && all_lead (suc index) paths
 
   -- a path leads to each of these objects, then
   all_lead_at : (first : ℕ) (paths : List (Option (List ℕ))) (index : ℕ) → all_lead first paths ≡ true
       → is_marked (marks_of paths) index ≡ true
-      → (path : List ℕ) × Leads (graph_from start memory) start path (first + index)
+      → (path : List ℕ) × Leads (graph_from start memory weak) start path (first + index)
   all_lead_at first [] index h m = absurd cc
   all_lead_at first (None ∷ paths) zero h m = absurd cc
   all_lead_at first ((Some path) ∷ paths) zero h m =
-      let parts = and_parts (leads_to memory start path first) (all_lead (suc first) paths) h in
+      let parts = and_parts (leads_to memory weak start path first) (all_lead (suc first) paths) h in
       let same : first ≡ first + zero = omega arith in
-      let leads = leads_to-true memory start start path first parts.0 in
-      (path, subst (Leads (graph_from start memory) start path) same leads)
+      let leads = leads_to-true memory weak start start path first parts.0 in
+      (path, subst (Leads (graph_from start memory weak) start path) same leads)
   all_lead_at first (None ∷ paths) (suc index) h m =
       let found = all_lead_at (suc first) paths index h m in
       let same : suc first + index ≡ first + suc index = omega arith in
-      (found.0, subst (Leads (graph_from start memory) start found.0) same found.1)
+      (found.0, subst (Leads (graph_from start memory weak) start found.0) same found.1)
   all_lead_at first ((Some path) ∷ paths) (suc index) h m =
-      let parts = and_parts (leads_to memory start path first) (all_lead (suc first) paths) h in
+      let parts = and_parts (leads_to memory weak start path first) (all_lead (suc first) paths) h in
       let found = all_lead_at (suc first) paths index parts.1 m in
       let same : suc first + index ≡ first + suc index = omega arith in
-      (found.0, subst (Leads (graph_from start memory) start found.0) same found.1)
+      (found.0, subst (Leads (graph_from start memory weak) start found.0) same found.1)
 
 -- ---- the whole test
 
-module _ (memory : Memory) where
+module _ (memory : Memory) (weak : Weak) where
   -- whether the objects that have a path here are the reachable ones, and their paths lead to them
   abbrev pub is_tracing_from : ℕ → List (Option (List ℕ)) → Bool
   is_tracing_from start paths =
       let marks : List Bool = marks_of paths in
-      let closed : Bool = is_closed_from memory marks marks (objects memory) in
-      eqb (length paths) (object_count memory) && (is_marked marks start && (closed && all_lead memory start 0 paths))
+      let closed : Bool = is_closed_from memory weak marks marks (objects memory) in
+      eqb (length paths) (object_count memory) && (is_marked marks start && (closed && all_lead memory weak start 0 paths))
 
   abbrev pub is_tracing_from_some : Option ℕ → List (Option (List ℕ)) → Bool
   is_tracing_from_some None paths = false
@@ -227,35 +232,35 @@ module _ (memory : Memory) where
 
   -- paths that start at this object
   is_tracing_from-true : (start : ℕ) (paths : List (Option (List ℕ))) → is_tracing_from start paths ≡ true
-      → IsTracing (graph_from start memory) (marks_of paths)
+      → IsTracing (graph_from start memory weak) (marks_of paths)
   is_tracing_from-true start paths h =
       let marks : List Bool = marks_of paths in
-      let closed : Bool = is_closed_from memory marks marks (objects memory) in
-      let lead : Bool = all_lead memory start 0 paths in
+      let closed : Bool = is_closed_from memory weak marks marks (objects memory) in
+      let lead : Bool = all_lead memory weak start 0 paths in
       let a = and_parts (eqb (length paths) (object_count memory)) (is_marked marks start && (closed && lead)) h in
       let b = and_parts (is_marked marks start) (closed && lead) a.1 in
       let c = and_parts closed lead b.1 in
       record {
         sized = length-map paths is_some ∙ eqb-true _ _ a.0;
         has_start = b.0;
-        closed = IsClosed-from_test memory start marks c.0;
+        closed = IsClosed-from_test memory weak start marks c.0;
         reached = λ index m.
-            let found = all_lead_at memory start 0 paths index c.1 m in
+            let found = all_lead_at memory weak start 0 paths index c.1 m in
             let same : 0 + index ≡ index = omega arith in
-            record { path = found.0; leads = subst (Leads (graph_from start memory) start found.0) same found.1 };
+            record { path = found.0; leads = subst (Leads (graph_from start memory weak) start found.0) same found.1 };
       }
 
   -- the same of the object at the special address, if there is one
   is_tracing_from_some-true : (special : Option ℕ) (paths : List (Option (List ℕ)))
       → find memory memory.special ≡ special → is_tracing_from_some special paths ≡ true
-      → IsReachability memory (marks_of paths)
+      → IsReachability memory weak (marks_of paths)
   is_tracing_from_some-true None paths e h = absurd cc
   is_tracing_from_some-true (Some start) paths e h =
       let tracing = is_tracing_from-true start paths h in
       record {
         start = start;
         is_special = e;
-        reached = MarksReachable-from_tracing (graph_from start memory) (marks_of paths) tracing;
+        reached = MarksReachable-from_tracing (graph_from start memory weak) (marks_of paths) tracing;
       }
 
   -- an address that passes has an object
@@ -266,7 +271,7 @@ module _ (memory : Memory) where
 
   -- the objects that have a path are the reachable ones
   pub is_tracing-true : (paths : List (Option (List ℕ))) → is_tracing paths ≡ true
-      → IsReachability memory (marks_of paths)
+      → IsReachability memory weak (marks_of paths)
   is_tracing-true paths h = is_tracing_from_some-true (find memory memory.special) paths refl h
 
   -- and there is an object at the special address

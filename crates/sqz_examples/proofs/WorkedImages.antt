@@ -1,7 +1,7 @@
 -- A worked image by what computes: what a file holds, and what becomes of it.
-use Rattle.std.proofs.Common.{◌≡◌, ℕ, ◌+◌, Bool, true, ◌&&◌, eqb, List, [], ◌∷◌, ◌++◌, length, take, drop, Option, Some}
+use Rattle.std.proofs.Common.{◌≡◌, ℕ, ◌+◌, Bool, true, false, ◌&&◌, eqb, List, [], ◌∷◌, ◌++◌, length, take, drop, Option, Some}
 use Rattle.std.proofs.Common.{None, refl, sym, ap, subst, ◌∙◌, arith, inl, inr}
-use Rattle.std.specs.Option.{is_none}
+use Rattle.std.specs.Option.{is_some, is_none}
 use Rattle.std.specs.List.{list_all, concat, AllByRecursion}
 use Rattle.std.proofs.lemmas.Bool.{and_parts, eqb-true}
 use Rattle.std.proofs.lemmas.List.{take_all, take_at, drop_at, length-append}
@@ -11,12 +11,13 @@ use Rattle.sqz_object.specs.Chunk.{IsChunk, chunk_kind}
 use Rattle.sqz_object.specs.Partition.{IsStuck, stated_length, chunk_fault}
 use Rattle.sqz_object.proofs.ChunkLemmas.{is_chunk_with_no_fault, no_chunk_at_fault}
 use Rattle.sqz_image.specs.declared.fault.Fault.{Fault}
-use Rattle.sqz_image.specs.declared.fault.Fault.TheVariants.{BadSpecialObjects}
+use Rattle.sqz_image.specs.declared.fault.Fault.TheVariants.{BadSpecialObjects, NoNil}
 use Rattle.sqz_image.specs.File.{order_of, header_of, base_address, special_address, data_of}
 use Rattle.sqz_image.specs.Objects.{SavedImage, find, file_bytes}
 use Rattle.sqz_image.specs.Refusals.{file_fault, HasChunks, Holds, refusal_of}
+use Rattle.sqz_trace.specs.declared.weak.Weak.{Weak}
 use Rattle.sqz_trace.specs.Reachability.{IsReachability}
-use Rattle.sqz_trace.specs.Defects.{first_defect}
+use Rattle.sqz_trace.specs.Defects.{first_defect, lacks_nil}
 use Rattle.sqz_tool.specs.Verdict.{IsRefused}
 use Rattle.sqz_tool.specs.Compacted.{compacted}
 use Rattle.sqz_examples.specs.Worked.{CompactsTo}
@@ -89,9 +90,9 @@ module _ (file : List ℕ) (order : Order) (chunks : List (List ℕ)) where
   }
 
   -- where there is no object at the special address, the file is refused
-  pub IsRefused-with_no_special : IsReadAs file order (concat chunks) → list_all is_chunk chunks ≡ true
-      → find image_in.memory image_in.memory.special ≡ None → IsRefused file BadSpecialObjects
-  IsRefused-with_no_special read each missing =
+  pub IsRefused-with_no_special : (weak : Weak) → IsReadAs file order (concat chunks) → list_all is_chunk chunks ≡ true
+      → find image_in.memory image_in.memory.special ≡ None → IsRefused weak file BadSpecialObjects
+  IsRefused-with_no_special weak read each missing =
       inl (inr (inr record {
         image = image_in;
         parts = HasChunks-computed read each;
@@ -99,49 +100,62 @@ module _ (file : List ℕ) (order : Order) (chunks : List (List ℕ)) where
         refused = refl;
       }))
 
-  module _ (paths : List (Option (List ℕ))) where
+  -- where there is no nil for weak slots, it is refused for that
+  pub IsRefused-without_nil : (weak : Weak) → IsReadAs file order (concat chunks) → list_all is_chunk chunks ≡ true
+      → is_some (find image_in.memory image_in.memory.special) ≡ true → lacks_nil image_in.memory weak ≡ true
+      → IsRefused weak file NoNil
+  IsRefused-without_nil weak read each special lacks =
+      inr (inl record {
+        image = image_in;
+        holds = record { parts = HasChunks-computed read each; special = special };
+        lacks = lacks;
+        refused = refl;
+      })
+
+  module _ (weak : Weak) (paths : List (Option (List ℕ))) where
     -- the file holds that image, and its reachable objects are those that have a path here
     pub record IsTraced : Type 0 where
       pub holds : Holds file image_in
-      pub reachable : IsReachability image_in.memory (marks_of paths)
+      pub reachable : IsReachability image_in.memory weak (marks_of paths)
 
     -- by what computes
     IsTraced-computed : IsReadAs file order (concat chunks) → list_all is_chunk chunks ≡ true
-        → is_tracing image_in.memory paths ≡ true → IsTraced
+        → is_tracing image_in.memory weak paths ≡ true → IsTraced
     IsTraced-computed read each tracing =
-        let special = is_tracing-special image_in.memory paths tracing in
+        let special = is_tracing-special image_in.memory weak paths tracing in
         record {
           holds = record { parts = HasChunks-computed read each; special = special };
-          reachable = is_tracing-true image_in.memory paths tracing;
+          reachable = is_tracing-true image_in.memory weak paths tracing;
         }
 
     -- where no reachable object has a defect, the file is compacted
     pub CompactsTo-computed : (answer : List ℕ) → IsReadAs file order (concat chunks)
-        → list_all is_chunk chunks ≡ true → is_tracing image_in.memory paths ≡ true
-        → first_defect image_in.memory (marks_of paths) ≡ None
-        → file_bytes (compacted image_in (marks_of paths)) ≡ answer → CompactsTo file answer
-    CompactsTo-computed answer read each tracing sound bytes =
+        → list_all is_chunk chunks ≡ true → lacks_nil image_in.memory weak ≡ false
+        → is_tracing image_in.memory weak paths ≡ true → first_defect image_in.memory weak (marks_of paths) ≡ None
+        → file_bytes (compacted image_in weak (marks_of paths)) ≡ answer → CompactsTo weak file answer
+    CompactsTo-computed answer read each has_nil tracing sound bytes =
         let traced = IsTraced-computed read each tracing in
         record {
           image = image_in;
           marks = marks_of paths;
-          accepted = record { holds = traced.holds; reachable = traced.reachable; sound = sound };
+          accepted = record { holds = traced.holds; has_nil = has_nil; reachable = traced.reachable; sound = sound };
           bytes = bytes;
         }
 
     -- where one has, the file is refused for the first
     pub IsRefused-for_defect : (fault : Fault) → IsReadAs file order (concat chunks)
-        → list_all is_chunk chunks ≡ true → is_tracing image_in.memory paths ≡ true
-        → first_defect image_in.memory (marks_of paths) ≡ Some fault → IsRefused file fault
-    IsRefused-for_defect fault read each tracing defect =
+        → list_all is_chunk chunks ≡ true → lacks_nil image_in.memory weak ≡ false
+        → is_tracing image_in.memory weak paths ≡ true → first_defect image_in.memory weak (marks_of paths) ≡ Some fault → IsRefused weak file fault
+    IsRefused-for_defect fault read each has_nil tracing defect =
         let traced = IsTraced-computed read each tracing in
-        inr record {
+        inr (inr record {
           image = image_in;
           marks = marks_of paths;
           holds = traced.holds;
+          has_nil = has_nil;
           reachable = traced.reachable;
           defect = defect;
-        }
+        })
 
 -- ---- files whose words are not
 
@@ -164,10 +178,10 @@ IsStuck-at_fault chunks word rest reason each fault =
     }
 
 -- such a file is refused at the first of those words
-pub IsRefused-at_chunk : (file : List ℕ) (order : Order) (chunks : List (List ℕ)) (word : ℕ) (rest : List ℕ)
+pub IsRefused-at_chunk : (weak : Weak) (file : List ℕ) (order : Order) (chunks : List (List ℕ)) (word : ℕ) (rest : List ℕ)
     (reason : ChunkFault) → IsReadAs file order (concat chunks ++ word ∷ rest) → list_all is_chunk chunks ≡ true
-    → chunk_fault (word ∷ rest) ≡ Some reason → IsRefused file (refusal_of reason (length (concat chunks)))
-IsRefused-at_chunk file order chunks word rest reason read each fault =
+    → chunk_fault (word ∷ rest) ≡ Some reason → IsRefused weak file (refusal_of reason (length (concat chunks)))
+IsRefused-at_chunk weak file order chunks word rest reason read each fault =
     let place : ℕ = length (concat chunks) in
     let words_are = sym (ap (λ (f : Findings). f.words) read) in
     let stuck = IsStuck-at_fault chunks word rest reason each fault in

@@ -2,6 +2,7 @@
 use Rattle.std.specs.Prelude.{ℕ, List, [], ◌∷◌, map}
 use Rattle.sqz_object.specs.declared.order.Order.TheVariants.{Little}
 use Rattle.sqz_image.specs.Objects.{Memory}
+use Rattle.sqz_trace.specs.declared.weak.Weak.TheVariants.{Keep}
 use Rattle.sqz_regions.specs.Regions.{Regioning, At}
 use Rattle.sqz_marks.specs.Core.{Marking, State, Event, marking_of, opening}
 
@@ -23,7 +24,7 @@ dead_cycle_heap = record { cut = At (1 ∷ 3 ∷ []); memory = dead_cycle }
 
 -- its marking, in which the special objects array is the start
 abbrev pub dead_cycle_marking : Marking
-dead_cycle_marking = marking_of dead_cycle_heap 2 5
+dead_cycle_marking = marking_of dead_cycle_heap Keep 2 5
 
 abbrev pub dead_cycle_opening : State
 dead_cycle_opening = opening dead_cycle_marking

@@ -3,6 +3,7 @@ use Rattle.std.specs.Prelude.{◌≡◌, ℕ, ◌*◌, Bool, List, [], ◌∷◌
 use Rattle.sqz_object.specs.declared.order.Order.{Order}
 use Rattle.sqz_object.specs.Bytes.{spelling_of}
 use Rattle.sqz_image.specs.Objects.{SavedImage, file_bytes}
+use Rattle.sqz_trace.specs.declared.weak.Weak.{Weak}
 use Rattle.sqz_tool.specs.Verdict.{IsAccepted}
 use Rattle.sqz_tool.specs.Compacted.{compacted}
 
@@ -22,8 +23,8 @@ abbrev pub file_of : Order → List ℕ → ℕ → List ℕ
 file_of order data_words special = file_at order 0x1000 data_words special
 
 -- the file is accepted, and the answer is the file of the image that is left of it
-pub record CompactsTo (file answer : List ℕ) : Type 0 where
+pub record CompactsTo (weak : Weak) (file answer : List ℕ) : Type 0 where
   pub image : SavedImage
   pub marks : List Bool
-  pub accepted : IsAccepted file image marks
-  pub bytes : file_bytes (compacted image marks) ≡ answer
+  pub accepted : IsAccepted weak file image marks
+  pub bytes : file_bytes (compacted image weak marks) ≡ answer

@@ -6,32 +6,33 @@
 
 ghost use Rattle.std.specs.Prelude.{[], ◌∷◌, ◌++◌, replicate};
 ghost use Rattle.sqz_object.specs.declared.order.Order.TheVariants.{Little, Big};
+ghost use Rattle.sqz_trace.specs.declared.weak.Weak.TheVariants.{Keep};
 ghost use Rattle.sqz_examples.specs.Worked.{file_at, file_of, CompactsTo};
 
 /// A dead array is left out, and what stands behind it moves down.
 fn dead_array()
-    ensures { CompactsTo
+    ensures { CompactsTo Keep
         (file_of Little (0x1007 ∷ 0x320F ∷ 1 ∷ 1 ∷ 0x320B ∷ 0x1000 ∷ []) 0x1010)
         (file_of Little (0x1007 ∷ 0x320B ∷ 0x1000 ∷ []) 0x1004) }
 {}
 
 /// A big-endian file is compacted to a big-endian one.
 fn big_endian()
-    ensures { CompactsTo
+    ensures { CompactsTo Keep
         (file_of Big (0x1007 ∷ 0x320F ∷ 1 ∷ 1 ∷ 0x320B ∷ 0x1000 ∷ []) 0x1010)
         (file_of Big (0x1007 ∷ 0x320B ∷ 0x1000 ∷ []) 0x1004) }
 {}
 
 /// Bytes behind the data are left out.
 fn bytes_after_data()
-    ensures { CompactsTo
+    ensures { CompactsTo Keep
         (file_of Little (0x1007 ∷ 0x320B ∷ 0x1000 ∷ []) 0x1004 ++ 1 ∷ 2 ∷ 3 ∷ 4 ∷ 5 ∷ [])
         (file_of Little (0x1007 ∷ 0x320B ∷ 0x1000 ∷ []) 0x1004) }
 {}
 
 /// A free chunk is left out.
 fn free_chunk()
-    ensures { CompactsTo
+    ensures { CompactsTo Keep
         (file_of Little (0x1007 ∷ 0xE ∷ 1 ∷ 1 ∷ 0x320B ∷ 0x1000 ∷ []) 0x1010)
         (file_of Little (0x1007 ∷ 0x320B ∷ 0x1000 ∷ []) 0x1004) }
 {}
@@ -42,12 +43,12 @@ fn highest_base()
         (0x1007 ∷ 0x320F ∷ 1 ∷ 1 ∷ 0x320B ∷ 0xFFFFFFE8 ∷ [])
         0xFFFFFFF8 in
         let answer = file_at Little 0xFFFFFFE8 (0x1007 ∷ 0x320B ∷ 0xFFFFFFE8 ∷ []) 0xFFFFFFEC in
-        CompactsTo file answer }
+        CompactsTo Keep file answer }
 {}
 
 /// A bad pointer in a dead array is no reason to refuse the image.
 fn dead_bad_pointer()
-    ensures { CompactsTo
+    ensures { CompactsTo Keep
         (file_of Little (0x1007 ∷ 0x320F ∷ 0x1002 ∷ 1 ∷ 0x320B ∷ 0x1000 ∷ []) 0x1010)
         (file_of Little (0x1007 ∷ 0x320B ∷ 0x1000 ∷ []) 0x1004) }
 {}
@@ -55,7 +56,7 @@ fn dead_bad_pointer()
 /// An image may be a special objects array without fields, and nothing else.
 fn special_array_alone()
     ensures { let same = file_of Little (0x3207 ∷ []) 0x1000 in
-        CompactsTo same same }
+        CompactsTo Keep same same }
 {}
 
 /// Integers are kept as they are.
@@ -63,7 +64,7 @@ fn integers()
     ensures { let same = file_of Little
         (0x1007 ∷ 0x3217 ∷ 0x1000 ∷ 0x7FFFFFFF ∷ 0xFFFFFFFF ∷ 0x80000001 ∷ [])
         0x1004 in
-        CompactsTo same same }
+        CompactsTo Keep same same }
 {}
 
 /// Two dead objects that name each other are left out; two live ones that do so are kept.
@@ -75,7 +76,7 @@ fn dead_cycle()
         let answer = file_of Little
         (0x1007 ∷ 0x110B ∷ 0x100C ∷ 0x110B ∷ 0x1004 ∷ 0x320F ∷ 0x1000 ∷ 0x1004 ∷ [])
         0x1014 in
-        CompactsTo file answer }
+        CompactsTo Keep file answer }
 {}
 
 /// A header of three words states the size in its first word, and its third word has the
@@ -88,7 +89,7 @@ fn three_word_header()
         let answer = file_of Little
         (0x1007 ∷ 0x100 ∷ 0x1000 ∷ 0x200 ∷ (replicate 63 1 ++ 0x320F ∷ 0x1000 ∷ 0x100C ∷ []))
         0x110C in
-        CompactsTo file answer }
+        CompactsTo Keep file answer }
 {}
 
 /// The size field of a base header states up to 63 words.
@@ -96,7 +97,7 @@ fn largest_short_object()
     ensures { let same = file_of Little
         (0x1007 ∷ 0x12FF ∷ (replicate 62 1 ++ 0x320F ∷ 0x1000 ∷ 0x1004 ∷ []))
         0x1100 in
-        CompactsTo same same }
+        CompactsTo Keep same same }
 {}
 
 /// A class word keeps the class alive. It is renewed as the class moves, and its header type
@@ -109,7 +110,7 @@ fn class_edge()
         let answer = file_of Little
         (0x1007 ∷ 0x100B ∷ 1 ∷ 0x1005 ∷ 0x109 ∷ 1 ∷ 0x320F ∷ 0x1000 ∷ 0x1010 ∷ [])
         0x1018 in
-        CompactsTo file answer }
+        CompactsTo Keep file answer }
 {}
 
 /// The bytes of a name are no pointers, whatever words they make.
@@ -118,7 +119,7 @@ fn class_name()
         (0x1007 ∷ 0x1123 ∷ 1 ∷ 1 ∷ 1 ∷ 1 ∷ 1 ∷ 1 ∷ 0x1024 ∷ 0x2A0F ∷ 0x656A624F ∷ 0x7463 ∷
         0x320B ∷ 0x1004 ∷ 0x327B ∷ 0x1000 ∷ (replicate 27 1 ++ 0x1030 ∷ []))
         0x1038 in
-        CompactsTo same same }
+        CompactsTo Keep same same }
 {}
 
 /// The fields of a context are traced up to the top of its stack. Those above it name nothing
@@ -134,7 +135,7 @@ fn context_stack()
         0xD32F ∷ 0x1000 ∷ 1 ∷ 3 ∷ 0x1000 ∷ 0x1000 ∷ 0x1000 ∷ 0x1004 ∷ 0x1014 ∷ 2 ∷ 0xFFFFFFFE ∷
         0x320F ∷ 0x1000 ∷ 0x100C ∷ [])
         0x1038 in
-        CompactsTo file answer }
+        CompactsTo Keep file answer }
 {}
 
 /// The literals of a method are traced. The words behind them name nothing and are kept as they
@@ -148,7 +149,7 @@ fn method_literals()
         (0x1007 ∷ 0x100B ∷ 1 ∷ 0x5C17 ∷ 0x801 ∷ 0x1004 ∷ 0x1000 ∷ 0x100C ∷
         0x320F ∷ 0x1000 ∷ 0x100C ∷ [])
         0x1020 in
-        CompactsTo file answer }
+        CompactsTo Keep file answer }
 {}
 
 /// The fields of a weak object keep alive what they name.
@@ -157,40 +158,40 @@ fn weak_fields()
         (0x1007 ∷ 0x1113 ∷ 1 ∷ 1 ∷ 0x405 ∷ 0x100B ∷ 1 ∷ 0x1005 ∷ 0x409 ∷ 0x1014 ∷
         0x320F ∷ 0x1000 ∷ 0x1020 ∷ [])
         0x1028 in
-        CompactsTo same same }
+        CompactsTo Keep same same }
 {}
 
 /// A free chunk may be one word.
 fn free_word()
-    ensures { CompactsTo
+    ensures { CompactsTo Keep
         (file_of Little (0x1007 ∷ 6 ∷ 0x320B ∷ 0x1000 ∷ []) 0x1008)
         (file_of Little (0x1007 ∷ 0x320B ∷ 0x1000 ∷ []) 0x1004) }
 {}
 
 /// A free chunk may be the last.
 fn free_chunk_last()
-    ensures { CompactsTo
+    ensures { CompactsTo Keep
         (file_of Little (0x1007 ∷ 0x320B ∷ 0x1000 ∷ 0xA ∷ 1 ∷ []) 0x1004)
         (file_of Little (0x1007 ∷ 0x320B ∷ 0x1000 ∷ []) 0x1004) }
 {}
 
 /// That a dead object has no class is no reason to refuse the image.
 fn dead_without_class()
-    ensures { CompactsTo
+    ensures { CompactsTo Keep
         (file_of Little (0x1007 ∷ 0x10B ∷ 1 ∷ 0x320B ∷ 0x1000 ∷ []) 0x100C)
         (file_of Little (0x1007 ∷ 0x320B ∷ 0x1000 ∷ []) 0x1004) }
 {}
 
 /// A dead method may be bad.
 fn dead_bad_method()
-    ensures { CompactsTo
+    ensures { CompactsTo Keep
         (file_of Little (0x1007 ∷ 0x5C0B ∷ 0x1000 ∷ 0x320B ∷ 0x1000 ∷ []) 0x100C)
         (file_of Little (0x1007 ∷ 0x320B ∷ 0x1000 ∷ []) 0x1004) }
 {}
 
 /// A dead context may be bad.
 fn dead_bad_context()
-    ensures { CompactsTo
+    ensures { CompactsTo Keep
         (file_of Little (0x1007 ∷ 0xD30B ∷ 1 ∷ 0x320B ∷ 0x1000 ∷ []) 0x100C)
         (file_of Little (0x1007 ∷ 0x320B ∷ 0x1000 ∷ []) 0x1004) }
 {}
@@ -200,7 +201,7 @@ fn upper_header_bits()
     ensures { let same = file_of Little
         (0x1007 ∷ 0xFFFE110B ∷ 1 ∷ 0x320F ∷ 0x1000 ∷ 0x1004 ∷ [])
         0x100C in
-        CompactsTo same same }
+        CompactsTo Keep same same }
 {}
 
 /// The class word in a header of three words is renewed, too. The size in its base header, here 63,
@@ -213,7 +214,7 @@ fn class_edge_of_three_words()
         let answer = file_of Little
         (0x1007 ∷ 0x100B ∷ 1 ∷ 8 ∷ 0x1004 ∷ 0x3FC ∷ 1 ∷ 0x320F ∷ 0x1000 ∷ 0x1014 ∷ [])
         0x101C in
-        CompactsTo file answer }
+        CompactsTo Keep file answer }
 {}
 
 /// The words of a byte object are kept in a big-endian file, too, and so are its bytes.
@@ -226,7 +227,7 @@ fn big_endian_bytes()
         (0x1007 ∷ 0x100B ∷ 1 ∷ 0x1005 ∷ 0xA0D ∷ 0x53717565 ∷ 0x616B0000 ∷ 0x320F ∷ 0x1000 ∷ 0x1010 ∷
         [])
         0x101C in
-        CompactsTo file answer }
+        CompactsTo Keep file answer }
 {}
 
 /// All fields of the formats 0 to 4 are traced.
@@ -239,7 +240,7 @@ fn traced_formats()
         (0x1007 ∷ 0x100B ∷ 0x100C ∷ 0x110B ∷ 0x1014 ∷ 0x120B ∷ 0x101C ∷ 0x130B ∷ 0x1024 ∷ 0x140B ∷
         0x1000 ∷ 0x320B ∷ 0x1004 ∷ [])
         0x102C in
-        CompactsTo file answer }
+        CompactsTo Keep file answer }
 {}
 
 /// The fields of the formats 5 to 11 are kept as they are, here an address from which an object
@@ -255,7 +256,7 @@ fn untraced_formats()
         0x1010 ∷ 0x1A0B ∷ 0x1010 ∷ 0x1B0B ∷ 0x1010 ∷ 0x3227 ∷ 0x1000 ∷ 0x1004 ∷ 0x100C ∷ 0x1014 ∷
         0x101C ∷ 0x1024 ∷ 0x102C ∷ 0x1034 ∷ [])
         0x103C in
-        CompactsTo file answer }
+        CompactsTo Keep file answer }
 {}
 
 /// The formats 12 to 15 are methods. Of one without literals the header alone is traced.
@@ -264,7 +265,7 @@ fn methods_without_literals()
         (0x1007 ∷ 0x5C0F ∷ 1 ∷ 0x1002 ∷ 0x5D0F ∷ 1 ∷ 0x1002 ∷ 0x5E0F ∷ 1 ∷ 0x1002 ∷ 0x5F0F ∷ 1 ∷
         0x1002 ∷ 0x321B ∷ 0x1000 ∷ 0x1004 ∷ 0x1010 ∷ 0x101C ∷ 0x1028 ∷ [])
         0x1034 in
-        CompactsTo same same }
+        CompactsTo Keep same same }
 {}
 
 /// The literals of a method may end with its last field.
@@ -276,7 +277,7 @@ fn literals_to_end()
         let answer = file_of Little
         (0x1007 ∷ 0x100B ∷ 1 ∷ 0x5C13 ∷ 0x801 ∷ 0x1004 ∷ 0x1000 ∷ 0x320F ∷ 0x1000 ∷ 0x100C ∷ [])
         0x101C in
-        CompactsTo file answer }
+        CompactsTo Keep file answer }
 {}
 
 /// Eight bits of a method's header count its literals, here one; the others are set, too.
@@ -284,7 +285,7 @@ fn method_header_bits()
     ensures { let same = file_of Little
         (0x1007 ∷ 0x5C13 ∷ 0xFFFC07FF ∷ 0x1000 ∷ 0x1002 ∷ 0x320F ∷ 0x1000 ∷ 0x1004 ∷ [])
         0x1014 in
-        CompactsTo same same }
+        CompactsTo Keep same same }
 {}
 
 /// A context may have a class word, and each of two compact indexes.
@@ -297,7 +298,7 @@ fn context_with_class_word()
         (0x1007 ∷ 0x100B ∷ 1 ∷ 0x1005 ∷ 0xE325 ∷ 0x1000 ∷ 1 ∷ 3 ∷ 0x1000 ∷ 0x1000 ∷ 0x1000 ∷
         0x1004 ∷ 0x1002 ∷ 0x320F ∷ 0x1000 ∷ 0x1010 ∷ [])
         0x1034 in
-        CompactsTo file answer }
+        CompactsTo Keep file answer }
 {}
 
 /// The stack of a context is empty where its stack pointer is no integer, here nil.
@@ -306,7 +307,7 @@ fn context_without_stack_pointer()
         (0x1007 ∷ 0xD323 ∷ 0x1000 ∷ 1 ∷ 0x1000 ∷ 0x1000 ∷ 0x1000 ∷ 0x1000 ∷ 0x1002 ∷ 0x320F ∷
         0x1000 ∷ 0x1004 ∷ [])
         0x1024 in
-        CompactsTo same same }
+        CompactsTo Keep same same }
 {}
 
 /// Only format 3 with compact index 13 or 14 is a context, and not these four.
@@ -316,5 +317,5 @@ fn like_contexts()
         0xFFFFFFFF ∷ 0xD213 ∷ 1 ∷ 1 ∷ 0xFFFFFFFF ∷ 0x321B ∷ 0x1000 ∷ 0x1004 ∷ 0x1014 ∷ 0x1024 ∷
         0x1034 ∷ [])
         0x1044 in
-        CompactsTo same same }
+        CompactsTo Keep same same }
 {}

@@ -7,75 +7,76 @@ ghost use Rattle.std.specs.Prelude.{[], ◌∷◌, replicate};
 ghost use Rattle.sqz_object.specs.declared.order.Order.TheVariants.{Little};
 ghost use Rattle.sqz_image.specs.declared.fault.Fault.TheVariants.{NoClass, BadMethod, BadContext, BadPointer};
 ghost use Rattle.sqz_image.specs.declared.fault.Slot.TheVariants.{ClassWord, Field};
+ghost use Rattle.sqz_trace.specs.declared.weak.Weak.TheVariants.{Keep};
 ghost use Rattle.sqz_tool.specs.Verdict.{IsRefused};
 ghost use Rattle.sqz_examples.specs.Worked.{file_of};
 
 /// An object with a header of one word has a compact class.
 fn no_class()
-    ensures { IsRefused
+    ensures { IsRefused Keep
         (file_of Little (0x1007 ∷ 0x320B ∷ 0x100C ∷ 0x10B ∷ 1 ∷ []) 0x1004)
         (NoClass 0x100C) }
 {}
 
 /// That an object has no class counts before a bad field.
 fn no_class_before_field()
-    ensures { IsRefused
+    ensures { IsRefused Keep
         (file_of Little (0x1007 ∷ 0x20B ∷ 0x1002 ∷ 0x320F ∷ 0x1000 ∷ 0x1004 ∷ []) 0x100C)
         (NoClass 0x1004) }
 {}
 
 /// That an object has no class counts before its being a bad method.
 fn method_without_class()
-    ensures { IsRefused
+    ensures { IsRefused Keep
         (file_of Little (0x1007 ∷ 0xC0B ∷ 0x1000 ∷ 0x320F ∷ 0x1000 ∷ 0x1004 ∷ []) 0x100C)
         (NoClass 0x1004) }
 {}
 
 /// A method has a header field.
 fn method_without_fields()
-    ensures { IsRefused
+    ensures { IsRefused Keep
         (file_of Little (0x1007 ∷ 0x5C07 ∷ 0x320F ∷ 0x1000 ∷ 0x1004 ∷ []) 0x1008)
         (BadMethod 0x1004) }
 {}
 
 /// The first field of a method is an integer.
 fn method_header()
-    ensures { IsRefused
+    ensures { IsRefused Keep
         (file_of Little (0x1007 ∷ 0x5C0B ∷ 0x1000 ∷ 0x320F ∷ 0x1000 ∷ 0x1004 ∷ []) 0x100C)
         (BadMethod 0x1004) }
 {}
 
 /// The first field of a method is an integer, and no word that is neither that nor an address.
 fn odd_method_header()
-    ensures { IsRefused
+    ensures { IsRefused Keep
         (file_of Little (0x1007 ∷ 0x5C0B ∷ 0x1002 ∷ 0x320F ∷ 0x1000 ∷ 0x1004 ∷ []) 0x100C)
         (BadMethod 0x1004) }
 {}
 
 /// A method has the literals that it states.
 fn too_many_literals()
-    ensures { IsRefused
+    ensures { IsRefused Keep
         (file_of Little (0x1007 ∷ 0x5C0B ∷ 0x801 ∷ 0x320F ∷ 0x1000 ∷ 0x1004 ∷ []) 0x100C)
         (BadMethod 0x1004) }
 {}
 
 /// The highest format is a method, too.
 fn bad_method_of_highest_format()
-    ensures { IsRefused
+    ensures { IsRefused Keep
         (file_of Little (0x1007 ∷ 0x5F0B ∷ 0x1000 ∷ 0x320F ∷ 0x1000 ∷ 0x1004 ∷ []) 0x100C)
         (BadMethod 0x1004) }
 {}
 
 /// Words of ones are a method of 62 fields that states 255 literals.
 fn all_ones()
-    ensures { IsRefused
+    ensures { IsRefused Keep
         (file_of Little (replicate 63 0xFFFFFFFF) 0x1000)
         (BadMethod 0x1000) }
 {}
 
 /// That a method is bad counts before its class word.
 fn method_before_class_word()
-    ensures { IsRefused
+    ensures { IsRefused Keep
         (file_of Little (0x1007 ∷ 0x2001 ∷ 0x5C09 ∷ 0x1000 ∷ 0x320F ∷ 0x1000 ∷ 0x1008 ∷ []) 0x1010)
         (BadMethod 0x1008) }
 {}
@@ -85,7 +86,7 @@ fn through_bad_method()
     ensures { let file = file_of Little
         (0x1007 ∷ 0x10B ∷ 1 ∷ 0x5C0F ∷ 0xFC01 ∷ 0x1004 ∷ 0x320F ∷ 0x1000 ∷ 0x100C ∷ [])
         0x1018 in
-        IsRefused file (NoClass 0x1004) }
+        IsRefused Keep file (NoClass 0x1004) }
 {}
 
 /// No field of a method leads on where the first is no integer.
@@ -93,26 +94,26 @@ fn not_through_method_header()
     ensures { let file = file_of Little
         (0x1007 ∷ 0x10B ∷ 1 ∷ 0x5C0B ∷ 0x1004 ∷ 0x320F ∷ 0x1000 ∷ 0x100C ∷ [])
         0x1014 in
-        IsRefused file (BadMethod 0x100C) }
+        IsRefused Keep file (BadMethod 0x100C) }
 {}
 
 /// A context has fields.
 fn context_without_fields()
-    ensures { IsRefused
+    ensures { IsRefused Keep
         (file_of Little (0x1007 ∷ 0xD307 ∷ 0x320F ∷ 0x1000 ∷ 0x1004 ∷ []) 0x1008)
         (BadContext 0x1004) }
 {}
 
 /// A context has a stack pointer, which is its third field.
 fn short_context()
-    ensures { IsRefused
+    ensures { IsRefused Keep
         (file_of Little (0x1007 ∷ 0xD30B ∷ 1 ∷ 0x320F ∷ 0x1000 ∷ 0x1004 ∷ []) 0x100C)
         (BadContext 0x1004) }
 {}
 
 /// Two fields are no context, for the stack pointer is the third.
 fn context_of_two_fields()
-    ensures { IsRefused
+    ensures { IsRefused Keep
         (file_of Little (0x1007 ∷ 0xD30F ∷ 1 ∷ 1 ∷ 0x320F ∷ 0x1000 ∷ 0x1004 ∷ []) 0x1010)
         (BadContext 0x1004) }
 {}
@@ -122,7 +123,7 @@ fn context_of_five_fields()
     ensures { let file = file_of Little
         (0x1007 ∷ 0xD31B ∷ 0x1000 ∷ 1 ∷ 1 ∷ 0x1000 ∷ 0x1000 ∷ 0x320F ∷ 0x1000 ∷ 0x1004 ∷ [])
         0x101C in
-        IsRefused file (BadContext 0x1004) }
+        IsRefused Keep file (BadContext 0x1004) }
 {}
 
 /// A context has these six where its stack pointer is no integer, too.
@@ -130,7 +131,7 @@ fn five_fields_without_stack_pointer()
     ensures { let file = file_of Little
         (0x1007 ∷ 0xD31B ∷ 0x1000 ∷ 1 ∷ 0x1000 ∷ 0x1000 ∷ 0x1000 ∷ 0x320F ∷ 0x1000 ∷ 0x1004 ∷ [])
         0x101C in
-        IsRefused file (BadContext 0x1004) }
+        IsRefused Keep file (BadContext 0x1004) }
 {}
 
 /// The stack of a context ends within the context.
@@ -140,7 +141,7 @@ fn stack_past_end()
         0xD32F ∷ 0x1000 ∷ 1 ∷ 0xB ∷ 0x1000 ∷ 0x1000 ∷ 0x1000 ∷ 0x100C ∷ 0x1014 ∷ 2 ∷
         0xFFFFFFFE ∷ 0x320F ∷ 0x1000 ∷ 0x101C ∷ [])
         0x1048 in
-        IsRefused file (BadContext 0x101C) }
+        IsRefused Keep file (BadContext 0x101C) }
 {}
 
 /// The stack of a context may end with its last field; then each field is traced.
@@ -150,7 +151,7 @@ fn stack_to_end()
         0xD32F ∷ 0x1000 ∷ 1 ∷ 9 ∷ 0x1000 ∷ 0x1000 ∷ 0x1000 ∷ 0x100C ∷ 0x1014 ∷ 2 ∷ 0xFFFFFFFE ∷
         0x320F ∷ 0x1000 ∷ 0x101C ∷ [])
         0x1048 in
-        IsRefused file (BadPointer 0x101C (Field 8)) }
+        IsRefused Keep file (BadPointer 0x101C (Field 8)) }
 {}
 
 /// The stack pointer of a context is not negative.
@@ -160,7 +161,7 @@ fn negative_stack()
         0xD32F ∷ 0x1000 ∷ 1 ∷ 0xFFFFFFFF ∷ 0x1000 ∷ 0x1000 ∷ 0x1000 ∷ 0x100C ∷ 0x1014 ∷ 2 ∷
         0xFFFFFFFE ∷ 0x320F ∷ 0x1000 ∷ 0x101C ∷ [])
         0x1048 in
-        IsRefused file (BadContext 0x101C) }
+        IsRefused Keep file (BadContext 0x101C) }
 {}
 
 /// A bad context may have a class word, and the other compact index.
@@ -168,12 +169,12 @@ fn bad_context_with_class_word()
     ensures { let file = file_of Little
         (0x1007 ∷ 0x1001 ∷ 0xE311 ∷ 1 ∷ 1 ∷ 0xFFFFFFFF ∷ 0x320F ∷ 0x1000 ∷ 0x1008 ∷ [])
         0x1018 in
-        IsRefused file (BadContext 0x1008) }
+        IsRefused Keep file (BadContext 0x1008) }
 {}
 
 /// That a context is bad counts before its class word.
 fn context_before_class_word()
-    ensures { IsRefused
+    ensures { IsRefused Keep
         (file_of Little (0x1007 ∷ 0x2001 ∷ 0xD309 ∷ 1 ∷ 0x320F ∷ 0x1000 ∷ 0x1008 ∷ []) 0x1010)
         (BadContext 0x1008) }
 {}
@@ -183,7 +184,7 @@ fn through_bad_context()
     ensures { let file = file_of Little
         (0x1007 ∷ 0x10B ∷ 1 ∷ 0xD31F ∷ 0x1004 ∷ 1 ∷ 3 ∷ 1 ∷ 1 ∷ 1 ∷ 0x320F ∷ 0x1000 ∷ 0x100C ∷ [])
         0x1028 in
-        IsRefused file (NoClass 0x1004) }
+        IsRefused Keep file (NoClass 0x1004) }
 {}
 
 /// No field of a context leads on where the stack pointer is negative.
@@ -192,12 +193,12 @@ fn not_through_negative_stack()
         (0x1007 ∷ 0x10B ∷ 1 ∷ 0xD31F ∷ 0x1004 ∷ 1 ∷ 0xFFFFFFFF ∷ 1 ∷ 1 ∷ 1 ∷ 0x320F ∷ 0x1000 ∷
         0x100C ∷ [])
         0x1028 in
-        IsRefused file (BadContext 0x100C) }
+        IsRefused Keep file (BadContext 0x100C) }
 {}
 
 /// A traced field that is no integer names an object; this word is not the address of any word.
 fn odd_field()
-    ensures { IsRefused
+    ensures { IsRefused Keep
         (file_of Little (0x1007 ∷ 0x320B ∷ 0x1002 ∷ []) 0x1004)
         (BadPointer 0x1004 (Field 0)) }
 {}
@@ -208,40 +209,40 @@ fn field_names_class_word()
         (0x1007 ∷ 0x320F ∷ 1 ∷ 1 ∷ 0x100B ∷ 1 ∷ 0x1011 ∷ 0x109 ∷ 1 ∷
         0x320F ∷ 0x1000 ∷ 0x1018 ∷ [])
         0x1024 in
-        IsRefused file (BadPointer 0x1024 (Field 1)) }
+        IsRefused Keep file (BadPointer 0x1024 (Field 1)) }
 {}
 
 /// At the address of a field there is no object.
 fn field_names_field()
-    ensures { IsRefused
+    ensures { IsRefused Keep
         (file_of Little (0x1007 ∷ 0x320B ∷ 0x1008 ∷ []) 0x1004)
         (BadPointer 0x1004 (Field 0)) }
 {}
 
 /// A free chunk is no object that a field could name.
 fn field_names_free_chunk()
-    ensures { IsRefused
+    ensures { IsRefused Keep
         (file_of Little (0x1007 ∷ 0xE ∷ 1 ∷ 1 ∷ 0x320B ∷ 0x1004 ∷ []) 0x1010)
         (BadPointer 0x1010 (Field 0)) }
 {}
 
 /// Behind the last word there is no object.
 fn field_names_end()
-    ensures { IsRefused
+    ensures { IsRefused Keep
         (file_of Little (0x1007 ∷ 0x320B ∷ 0x100C ∷ []) 0x1004)
         (BadPointer 0x1004 (Field 0)) }
 {}
 
 /// Below the first word there is no object.
 fn field_below_base()
-    ensures { IsRefused
+    ensures { IsRefused Keep
         (file_of Little (0x1007 ∷ 0x320B ∷ 0 ∷ []) 0x1004)
         (BadPointer 0x1004 (Field 0)) }
 {}
 
 /// A literal of a method names an object.
 fn bad_literal()
-    ensures { IsRefused
+    ensures { IsRefused Keep
         (file_of Little (0x1007 ∷ 0x5C0F ∷ 0x401 ∷ 0x1002 ∷ 0x320F ∷ 0x1000 ∷ 0x1004 ∷ []) 0x1010)
         (BadPointer 0x1004 (Field 1)) }
 {}
@@ -252,12 +253,12 @@ fn odd_stack_pointer()
         (0x1007 ∷ 0xD31F ∷ 0x1000 ∷ 1 ∷ 0x1002 ∷ 0x1000 ∷ 0x1000 ∷ 0x1000 ∷ 0x320F ∷ 0x1000 ∷
         0x1004 ∷ [])
         0x1020 in
-        IsRefused file (BadPointer 0x1004 (Field 2)) }
+        IsRefused Keep file (BadPointer 0x1004 (Field 2)) }
 {}
 
 /// Of two bad fields the first counts.
 fn first_bad_field()
-    ensures { IsRefused
+    ensures { IsRefused Keep
         (file_of Little (0x1007 ∷ 0x3213 ∷ 0x1000 ∷ 0x1002 ∷ 0x1006 ∷ []) 0x1004)
         (BadPointer 0x1004 (Field 1)) }
 {}
@@ -268,33 +269,33 @@ fn bad_class_word()
         (0x1007 ∷ 0x320F ∷ 1 ∷ 1 ∷ 0x100B ∷ 1 ∷ 0x1015 ∷ 0x109 ∷ 1 ∷
         0x320F ∷ 0x1000 ∷ 0x101C ∷ [])
         0x1024 in
-        IsRefused file (BadPointer 0x101C ClassWord) }
+        IsRefused Keep file (BadPointer 0x101C ClassWord) }
 {}
 
 /// The class word in a header of three words names an object, too.
 fn bad_class_of_three_words()
-    ensures { IsRefused
+    ensures { IsRefused Keep
         (file_of Little (0x1007 ∷ 8 ∷ 0x1004 ∷ 0x200 ∷ 1 ∷ 0x320F ∷ 0x1000 ∷ 0x100C ∷ []) 0x1014)
         (BadPointer 0x100C ClassWord) }
 {}
 
 /// A bad class word counts before a bad field.
 fn class_word_before_field()
-    ensures { IsRefused
+    ensures { IsRefused Keep
         (file_of Little (0x1007 ∷ 0x2001 ∷ 0x109 ∷ 0x1002 ∷ 0x320F ∷ 0x1000 ∷ 0x1008 ∷ []) 0x1010)
         (BadPointer 0x1008 ClassWord) }
 {}
 
 /// Of two reachable objects with a defect the lower one counts.
 fn lower_of_two()
-    ensures { IsRefused
+    ensures { IsRefused Keep
         (file_of Little (0x1007 ∷ 0x320F ∷ 0x1002 ∷ 0x1010 ∷ 0x10B ∷ 1 ∷ []) 0x1004)
         (BadPointer 0x1004 (Field 0)) }
 {}
 
 /// The lower one counts also where it is the higher one that names it.
 fn lower_is_named()
-    ensures { IsRefused
+    ensures { IsRefused Keep
         (file_of Little (0x1007 ∷ 0x10B ∷ 1 ∷ 0x320F ∷ 0x1002 ∷ 0x1004 ∷ []) 0x100C)
         (NoClass 0x1004) }
 {}

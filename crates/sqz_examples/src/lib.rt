@@ -6,4 +6,5 @@ mod compacted;
 mod defects;
 mod marking;
 mod unreadable;
+mod weak_slots;
 mod words;

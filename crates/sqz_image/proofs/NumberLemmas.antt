@@ -1,21 +1,21 @@
 -- The numbers of faults that tests find in turn.
-use Rattle.std.proofs.Common.{◌≡◌, ℕ, ◌≤◌, Bool, true, false, cond, Option, Some, None, subst}
+use Rattle.std.proofs.Common.{◌≡◌, ℕ, Bool, true, false, cond, Option, Some, None, subst}
 use Rattle.std.proofs.lemmas.Option.{none-some, same_Some}
 use Rattle.sqz_image.specs.declared.fault.Fault.{Fault}
 use Rattle.sqz_image.specs.Numbers.{number_of_fault}
 
-module _ (bound : ℕ) where
-  -- if a fault was found, its number is at most the bound
-  abbrev pub NumberAtMost : Option Fault → Type 0
-  NumberAtMost found = (fault : Fault) → found ≡ Some fault → number_of_fault fault ≤ bound
+module _ (IsOne : ℕ → Type 0) where
+  -- if a fault was found, its number is one of these
+  abbrev pub HasNumber : Option Fault → Type 0
+  HasNumber found = (fault : Fault) → found ≡ Some fault → IsOne (number_of_fault fault)
 
-  pub NumberAtMost-none : NumberAtMost None
-  NumberAtMost-none fault e = absurd (none-some fault e)
+  pub HasNumber-none : HasNumber None
+  HasNumber-none fault e = absurd (none-some fault e)
 
-  pub NumberAtMost-some : (one : Fault) → number_of_fault one ≤ bound → NumberAtMost (Some one)
-  NumberAtMost-some one le fault e = subst (λ (f : Fault). number_of_fault f ≤ bound) (same_Some one fault e) le
+  pub HasNumber-some : (one : Fault) → IsOne (number_of_fault one) → HasNumber (Some one)
+  HasNumber-some one is fault e = subst (λ (f : Fault). IsOne (number_of_fault f)) (same_Some one fault e) is
 
-  pub NumberAtMost-if : (test : Bool) (one : Fault) (rest : Option Fault)
-      → number_of_fault one ≤ bound → NumberAtMost rest → NumberAtMost (cond test (Some one) rest)
-  NumberAtMost-if true one rest le others = NumberAtMost-some one le
-  NumberAtMost-if false one rest le others = others
+  pub HasNumber-if : (test : Bool) (one : Fault) (rest : Option Fault)
+      → IsOne (number_of_fault one) → HasNumber rest → HasNumber (cond test (Some one) rest)
+  HasNumber-if true one rest is others = HasNumber-some one is
+  HasNumber-if false one rest is others = others

@@ -16,7 +16,7 @@ use Rattle.sqz_image.specs.File.{header_size, order_of, header_of, stated_header
 use Rattle.sqz_image.specs.File.{special_address, data_of}
 use Rattle.sqz_image.specs.Objects.{SavedImage}
 use Rattle.sqz_image.specs.Refusals.{header_fault, fault_in_order, file_fault, HasChunks, Holds, IsUnreadable}
-use Rattle.sqz_image.proofs.NumberLemmas.{NumberAtMost, NumberAtMost-none, NumberAtMost-some, NumberAtMost-if}
+use Rattle.sqz_image.proofs.NumberLemmas.{HasNumber, HasNumber-none, HasNumber-some, HasNumber-if}
 use Rattle.sqz_image.specs.Memory.{IsMemory, IsWholeMemory, IsNoMemory}
 
 -- the tests of a header in their order
@@ -170,16 +170,19 @@ module _ (file header : List ℕ) (order : Order)
 
 -- ---- the refusals 1 to 6 are these
 
-header_fault_low : (header : List ℕ) (bytes : ℕ) → NumberAtMost 6 (header_fault header bytes)
-header_fault_low header bytes =
-    NumberAtMost-if 6 _ BadHeaderSize _ (omega arith)
-    (NumberAtMost-if 6 _ BadDataSize _ (omega arith)
-    (NumberAtMost-if 6 _ BadBase _ (omega arith)
-    (NumberAtMost-if 6 _ Truncated None (omega arith) (NumberAtMost-none 6))))
+abbrev IsLow : ℕ → Type 0
+IsLow number = number ≤ 6
 
-in_order_low : (file : List ℕ) (found : Option Order) → NumberAtMost 6 (fault_in_order found file)
-in_order_low file None = NumberAtMost-some 6 BadVersion (omega arith)
+header_fault_low : (header : List ℕ) (bytes : ℕ) → HasNumber IsLow (header_fault header bytes)
+header_fault_low header bytes =
+    HasNumber-if IsLow _ BadHeaderSize _ (omega arith)
+    (HasNumber-if IsLow _ BadDataSize _ (omega arith)
+    (HasNumber-if IsLow _ BadBase _ (omega arith)
+    (HasNumber-if IsLow _ Truncated None (omega arith) (HasNumber-none IsLow))))
+
+in_order_low : (file : List ℕ) (found : Option Order) → HasNumber IsLow (fault_in_order found file)
+in_order_low file None = HasNumber-some IsLow BadVersion (omega arith)
 in_order_low file (Some order) = header_fault_low (header_of order file) (length file)
 
-pub file_fault_low : (file : List ℕ) → NumberAtMost 6 (file_fault file)
-file_fault_low file = NumberAtMost-if 6 _ TooShort _ (omega arith) (in_order_low file (order_of file))
+pub file_fault_low : (file : List ℕ) → HasNumber IsLow (file_fault file)
+file_fault_low file = HasNumber-if IsLow _ TooShort _ (omega arith) (in_order_low file (order_of file))

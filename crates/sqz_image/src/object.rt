@@ -1,6 +1,6 @@
 //! One object of an object memory.
 
-ghost use Rattle.std.specs.Prelude.{◌≡◌, ◌^◌, ◌<◌};
+ghost use Rattle.std.specs.Prelude.{◌≡◌, ◌^◌, ◌<◌, length};
 ghost use Rattle.sqz_object.specs.Chunk.{fields};
 ghost use Rattle.sqz_object.specs.Reading.{description};
 
@@ -55,7 +55,8 @@ impl<'a> Object<'a> {
 
     /// The words after the base header.
     pub fn fields(&self) -> &'a [u32]
-        ensures { result.now ≡ fields self.now }
+        ensures fields { result.now ≡ fields self.now }
+        ensures few { length result.now < 2 ^ 30 }
     {
         &self.words[self.header.before as usize + 1..]
     }

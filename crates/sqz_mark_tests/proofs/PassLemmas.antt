@@ -9,13 +9,13 @@ use Rattle.sqz_image.specs.declared.fault.Slot.{Slot}
 use Rattle.sqz_image.specs.Objects.{Memory, object_count}
 use Rattle.sqz_trace.specs.declared.shades.Shade.{Shade}
 use Rattle.sqz_trace.specs.declared.shades.Shade.TheVariants.{White, Grey, Black}
-use Rattle.sqz_trace.specs.Edges.{named_in}
-use Rattle.sqz_trace.proofs.EdgeLemmas.{target-lt}
+use Rattle.sqz_trace.specs.Edges.{Parent, strong_named}
+use Rattle.sqz_trace.proofs.EdgeLemmas.{named_among-lt}
 use Rattle.sqz_marks.specs.declared.view.View.{View}
 use Rattle.sqz_marks.specs.declared.claim.Claim.{Claim}
 use Rattle.sqz_marks.specs.declared.claim.Claim.TheVariants.{Won}
 use Rattle.sqz_marks.specs.Core.{times, HasWon, HasSeen, first_view, looked, seen_by, won_by, counted, blackened, kept_of, part_of, joined}
-use Rattle.sqz_marks.specs.Table.{HeldPass, IsSeenChunk, HasCountedAll, knowing}
+use Rattle.sqz_marks.specs.Table.{HeldPass, HasCountedAll, knowing}
 use Rattle.sqz_marks.specs.Claims.{IsClaim}
 use Rattle.sqz_marks.proofs.TimesLemmas.{times-same, times-more, times-either, times-append, times-in_two}
 use Rattle.sqz_mark_tests.specs.Passes.{IsLater, Knows, AreSeen, ClaimsTargets}
@@ -169,22 +169,22 @@ HasCountedAll-rejoined whole first second third fourth both weight all kept part
 -- ---- targets that were claimed
 
 module _ (memory : Memory) where
-  module _ (old new : HeldPass) (chunk : List ℕ) (slot : Slot) (parent : IsSeenChunk memory old.view chunk) where
+  module _ (old new : HeldPass) (parent : Parent) (slot : Slot) where
     abbrev IsNamed : ℕ → Type 0
-    IsNamed object = named_in memory chunk slot ≡ Some object
+    IsNamed object = strong_named memory parent slot ≡ Some object
 
     -- what was won is an object
-    pub IsClaim-inside : (found : ℕ) → IsClaim (named_in memory chunk slot) old new (Won found) → found < object_count memory
+    pub IsClaim-inside : (found : ℕ) → IsClaim (strong_named memory parent slot) old new (Won found) → found < object_count memory
     IsClaim-inside found claim =
-        let names = (IsClaim-won old new (named_in memory chunk slot) found claim).0 in
-        target-lt memory parent.object slot found (subst (λ (words : List ℕ). named_in memory words slot ≡ Some found) parent.its names)
+        let names = (IsClaim-won old new (strong_named memory parent slot) found claim).0 in
+        named_among-lt memory parent.strong parent.words slot found names
 
     module _ (list : List ℕ) (listed : AreSeen memory old.view list) where
       -- what a slot names was claimed, and the list is as it was
       pub ClaimsTargets-slot : (answer : Claim) → ((found : ℕ) → answer ≢ Won found)
-          → IsClaim (named_in memory chunk slot) old new answer → ClaimsTargets memory IsNamed old new list
+          → IsClaim (strong_named memory parent slot) old new answer → ClaimsTargets memory IsNamed old new list
       ClaimsTargets-slot answer not_won claim =
-          let later = IsClaim-later old new answer not_won (named_in memory chunk slot) claim in
+          let later = IsClaim-later old new answer not_won (strong_named memory parent slot) claim in
           record {
             later = later;
             targets = λ object names.
@@ -193,11 +193,11 @@ module _ (memory : Memory) where
           }
 
       -- what was won and counted is at its end
-      pub ClaimsTargets-won : (found : ℕ) (third : HeldPass) → IsClaim (named_in memory chunk slot) old new (Won found)
+      pub ClaimsTargets-won : (found : ℕ) (third : HeldPass) → IsClaim (strong_named memory parent slot) old new (Won found)
           → third ≡ knowing new (counted found new.view) → ClaimsTargets memory IsNamed old third (list ++ found ∷ [])
       ClaimsTargets-won found third claim step =
-          let names = (IsClaim-won old new (named_in memory chunk slot) found claim).0 in
-          let both = IsClaim-counted old new (named_in memory chunk slot) found third claim step in
+          let names = (IsClaim-won old new (strong_named memory parent slot) found claim).0 in
+          let both = IsClaim-counted old new (strong_named memory parent slot) found third claim step in
           record {
             later = both.1;
             targets = λ object named. let same : Some found ≡ Some object = sym names ∙ named in

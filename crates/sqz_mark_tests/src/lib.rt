@@ -4,8 +4,6 @@
 #[cfg(test)]
 mod alone;
 #[cfg(test)]
-mod images;
-#[cfg(test)]
 mod passes;
 #[cfg(test)]
 mod steps;

@@ -13,7 +13,7 @@ use sqz_image::{Heap, Slot};
 use sqz_marks::{Claim, Closed, MarkTable, Pass, Workers};
 use sqz_regions::{Cut, Regions};
 use sqz_test_images::{DEAD_CYCLE, image_of};
-use sqz_trace::Shade;
+use sqz_trace::{Shade, Weak};
 use std::process::Abort;
 use std::test::Fail;
 use std::thread::{Threads, join_mut};
@@ -52,7 +52,7 @@ fn split_and_join(rt: HostRuntime) -> Result<(), Fail> {
     assert_dead_cycle(&rt, heap);
     let cut = Cut::at([1, 3].to_vec(rt.alloc())?)?;
     let regions = Regions::of(rt.alloc(), heap, &cut)?;
-    let (table, pass) = MarkTable::new(rt.alloc(), heap, &regions, Workers::new(2)?)?;
+    let (table, pass) = MarkTable::new(rt.alloc(), heap, Weak::Keep, &regions, Workers::new(2)?)?;
     assert!(rt; pass.is_whole());
     let (first, mut second) = table.split(pass, 1);
     assert!(rt; !first.is_whole() && !second.is_whole());
@@ -67,18 +67,16 @@ fn split_and_join(rt: HostRuntime) -> Result<(), Fail> {
 fn mark_rest<R: Abort + AllocGlobal>(
     rt: &R,
     table: &MarkTable<'_>,
-    heap: &Heap,
     pass: &mut Pass,
 ) -> Result<(), Fail>
     requires of { IsPassOf table.now pass.old }
-    requires memory { table.now.heap.memory ≡ heap.now }
-    requires count { object_count heap.now ≡ 6 }
+    requires count { object_count table.now.heap.memory ≡ 6 }
     ensures { OnOk result (IsLater pass.old pass.new) }
 {
-    assert_blackens(rt, table, heap, pass, 5, &[0])?;
-    assert_blackens(rt, table, heap, pass, 1, &[3])?;
-    assert_blackens(rt, table, heap, pass, 3, &[])?;
-    assert_blackens(rt, table, heap, pass, 0, &[])?;
+    assert_blackens(rt, table, pass, 5, &[0])?;
+    assert_blackens(rt, table, pass, 1, &[3])?;
+    assert_blackens(rt, table, pass, 3, &[])?;
+    assert_blackens(rt, table, pass, 0, &[])?;
     Ok(())
 }
 
@@ -92,7 +90,7 @@ fn race<R: Threads + Abort + AllocGlobal>(
     requires count { object_count heap.now ≡ 6 }
     requires start { start_of heap.now ≡ 5 }
 {
-    let (table, pass) = MarkTable::new(rt.alloc(), heap, regions, Workers::new(2)?)?;
+    let (table, pass) = MarkTable::new(rt.alloc(), heap, Weak::Keep, regions, Workers::new(2)?)?;
     let (mut first, mut second) = table.split(pass, 1);
     assert_looks(rt, &table, &mut second, 5, Shade::Grey);
     let answers = claim_by_both(rt, &table, &mut first, &mut second);
@@ -100,7 +98,7 @@ fn race<R: Threads + Abort + AllocGlobal>(
     let second_wins = answers == (Claim::Seen(1), Claim::Won(1));
     assert!(rt; first_wins || second_wins, "{answers:?}");
     let mut pass = table.join(first, second);
-    mark_rest(rt, &table, heap, &mut pass)?;
+    mark_rest(rt, &table, &mut pass)?;
     Ok(close_again(rt.alloc(), table, pass)?)
 }
 

@@ -12,7 +12,7 @@ use sqz_image::{Fault, Heap, Slot};
 use sqz_marks::{Claim, Closed, MarkTable, Pass, Workers};
 use sqz_regions::{Cut, Regions};
 use sqz_test_images::{DEAD_CYCLE, image_of};
-use sqz_trace::Shade;
+use sqz_trace::{Shade, Weak};
 use std::alloc::Global;
 use std::process::Abort;
 use std::test::Fail;
@@ -116,19 +116,17 @@ pub(crate) fn assert_claims<R: Abort>(
 pub(crate) fn assert_blackens<R: Abort + AllocGlobal>(
     rt: &R,
     table: &MarkTable<'_>,
-    heap: &Heap,
     pass: &mut Pass,
     object: u32,
     wanted: &[u32],
 ) -> Result<(), Fail>
     requires of { IsPassOf table.now pass.old }
-    requires memory { table.now.heap.memory ≡ heap.now }
     requires inside { object < object_count table.now.heap.memory }
     ensures { OnOk result (IsLater pass.old pass.new) }
 {
     assert_looks(rt, table, pass, object, Shade::Grey);
     let mut won = Vec::new(rt.alloc());
-    mark_targets(table, heap, pass, object, &mut won)?;
+    mark_targets(table, pass, object, &mut won)?;
     assert_eq!(rt; won.as_slice(), wanted, "object {object}");
     Ok(())
 }
@@ -171,12 +169,10 @@ pub(crate) fn assert_closed<R: Abort>(rt: &R, heap: &Heap, closed: &Closed)
 fn mark_special<R: Abort + AllocGlobal>(
     rt: &R,
     table: &MarkTable<'_>,
-    heap: &Heap,
     pass: &mut Pass,
 ) -> Result<(), Fail>
     requires of { IsPassOf table.now pass.old }
-    requires memory { table.now.heap.memory ≡ heap.now }
-    requires count { object_count heap.now ≡ 6 }
+    requires count { object_count table.now.heap.memory ≡ 6 }
     ensures { OnOk result (IsLater pass.old pass.new) }
 {
     assert_looks(rt, table, pass, 5, Shade::Grey);
@@ -184,7 +180,7 @@ fn mark_special<R: Abort + AllocGlobal>(
     assert_claims(rt, table, pass, 5, Slot::Field(0), Claim::Seen(0));
     assert_claims(rt, table, pass, 5, Slot::ClassWord, Claim::Nothing);
     assert_claims(rt, table, pass, 5, Slot::Field(1), Claim::Won(1));
-    assert_blackens(rt, table, heap, pass, 5, &[])?;
+    assert_blackens(rt, table, pass, 5, &[])?;
     Ok(())
 }
 
@@ -204,17 +200,15 @@ fn mark_named<R: Abort>(rt: &R, table: &MarkTable<'_>, pass: &mut Pass)
 fn blacken_named<R: Abort + AllocGlobal>(
     rt: &R,
     table: &MarkTable<'_>,
-    heap: &Heap,
     pass: &mut Pass,
 ) -> Result<(), Fail>
     requires of { IsPassOf table.now pass.old }
-    requires memory { table.now.heap.memory ≡ heap.now }
-    requires count { object_count heap.now ≡ 6 }
+    requires count { object_count table.now.heap.memory ≡ 6 }
     ensures { OnOk result (IsLater pass.old pass.new) }
 {
-    assert_blackens(rt, table, heap, pass, 0, &[])?;
-    assert_blackens(rt, table, heap, pass, 1, &[])?;
-    assert_blackens(rt, table, heap, pass, 3, &[])?;
+    assert_blackens(rt, table, pass, 0, &[])?;
+    assert_blackens(rt, table, pass, 1, &[])?;
+    assert_blackens(rt, table, pass, 3, &[])?;
     Ok(())
 }
 
@@ -228,10 +222,10 @@ fn mark_dead_cycle<R: Abort + AllocGlobal>(
     requires memory { regions.now.memory ≡ heap.now }
     requires count { object_count heap.now ≡ 6 }
 {
-    let (table, mut pass) = MarkTable::new(rt.alloc(), heap, regions, workers)?;
-    mark_special(rt, &table, heap, &mut pass)?;
+    let (table, mut pass) = MarkTable::new(rt.alloc(), heap, Weak::Keep, regions, workers)?;
+    mark_special(rt, &table, &mut pass)?;
     mark_named(rt, &table, &mut pass);
-    blacken_named(rt, &table, heap, &mut pass)?;
+    blacken_named(rt, &table, &mut pass)?;
     Ok(close_again(rt.alloc(), table, pass)?)
 }
 

@@ -1,5 +1,5 @@
 -- What the calls on the mark table owe at their steps, from what contracts see of the table and of the pass.
-use Rattle.std.proofs.Common.{◌≡◌, ℕ, ◌+◌, ◌%◌, ◌^◌, ◌<◌, ◌≤◌, max, List, [], length, sym, ap, subst, ◌∙◌, arith}
+use Rattle.std.proofs.Common.{◌≡◌, ℕ, ◌+◌, ◌%◌, ◌^◌, ◌<◌, ◌≤◌, max, [], length, sym, ap, subst, ◌∙◌, arith}
 use mathlib.Core.Option.{none}
 use Rattle.std.specs.Prelude.{Some}
 use Rattle.atomic_table.specs.Table.{Me, step, Allows, Splits, Joins}
@@ -7,12 +7,14 @@ use Rattle.atomic_table.specs.Seated.{TableId}
 use Rattle.sqz_image.specs.declared.fault.Slot.{Slot}
 use Rattle.sqz_image.specs.Objects.{objects, object_count, chunk_words, find}
 use Rattle.sqz_image.proofs.ObjectLemmas.{find_in-lt}
-use Rattle.sqz_trace.specs.Edges.{named_in, target, HasEdge}
-use Rattle.sqz_trace.proofs.EdgeLemmas.{target-lt}
+use Rattle.sqz_trace.specs.declared.weak.Weak.{Weak}
+use Rattle.sqz_trace.specs.Edges.{Parent, strong_named, HasEdge}
+use Rattle.sqz_trace.proofs.EdgeLemmas.{named_among-lt}
+use Rattle.sqz_trace.proofs.TargetLemmas.{HasEdge-slot}
 use Rattle.sqz_regions.specs.Regions.{Regioning, region_at, region_count}
 use Rattle.sqz_marks.specs.declared.view.View.{View}
 use Rattle.sqz_marks.specs.Core.{Marking, times, HasWon, HasSeen, kept_of, part_of, joined, spent}
-use Rattle.sqz_marks.specs.Table.{SharedMarks, HeldPass, IsPassOf, IsSeenChunk, IsKept, start_of, marking_in, Looked, Claimed, Counted, Blackened, Weighed}
+use Rattle.sqz_marks.specs.Table.{SharedMarks, HeldPass, IsPassOf, IsSeenParent, IsKept, start_of, marking_in, Looked, Claimed, Counted, Blackened, Weighed}
 use Rattle.sqz_marks.proofs.StepLemmas.{look_allowed, claim_allowed, count_allowed, blacken_allowed, split_allowed, join_allowed, weigh_allowed}
 
 module _
@@ -21,9 +23,11 @@ module _
     (of : IsPassOf marks pass)
     (id : TableId)
     (key heap : Regioning)
+    (key_weak weak : Weak)
     (key_workers workers pass_workers : ℕ)
-    (is_marks : record { table = id; heap = heap; workers = workers } ≡ marks)
+    (is_marks : record { table = id; heap = heap; weak = weak; workers = workers } ≡ marks)
     (keyed : key ≡ heap)
+    (keyed_weak : key_weak ≡ weak)
     (words : id.words ≡ object_count heap.memory + region_count heap.cut heap.memory)
     (seat : TableId)
     (number : ℕ)
@@ -37,6 +41,20 @@ module _
     same_heap : key ≡ marks.heap
     same_heap = keyed ∙ ap (λ (m : SharedMarks). m.heap) is_marks
 
+    same_weak : key_weak ≡ marks.weak
+    same_weak = keyed_weak ∙ ap (λ (m : SharedMarks). m.weak) is_marks
+
+    -- an edge for the table is one for the rule
+    keyed_edge : (from to : ℕ) → HasEdge marks.heap.memory marks.weak from to → HasEdge key.memory key_weak from to
+    keyed_edge from to edge =
+        subst (λ (h : Regioning). HasEdge h.memory key_weak from to) (sym same_heap)
+        (subst (λ (w : Weak). HasEdge marks.heap.memory w from to) (sym same_weak) edge)
+
+    table_edge : (from to : ℕ) → HasEdge key.memory key_weak from to → HasEdge marks.heap.memory marks.weak from to
+    table_edge from to edge =
+        subst (λ (w : Weak). HasEdge marks.heap.memory w from to) same_weak
+        (subst (λ (h : Regioning). HasEdge h.memory key_weak from to) same_heap edge)
+
     same_view : me.0 ≡ pass.view
     same_view = ap (λ (p : HeldPass). p.view) is_pass
 
@@ -48,45 +66,43 @@ module _
       in_key = subst (λ (h : Regioning). object < object_count h.memory) (sym same_heap) inside
 
       pub look_owes : 1 ≤ me.0.weight → (seat ≡ id) × (object < id.words)
-          × Allows (IsKept (marking_in key key_workers) {S = S}) id.slots number me object (λ n. n) (Looked (step id.slots object 0 0 none) me)
-      look_owes weight = (same_table, in_words, look_allowed (marking_in key key_workers) id.slots number me object in_key weight)
+          × Allows (IsKept (marking_in key key_weak key_workers) {S = S}) id.slots number me object (λ n. n) (Looked (step id.slots object 0 0 none) me)
+      look_owes weight = (same_table, in_words, look_allowed (marking_in key key_weak key_workers) id.slots number me object in_key weight)
 
-      pub blacken_owes : HasSeen pass.view object → ((target : ℕ) → HasEdge marks.heap.memory object target → HasSeen pass.view target)
+      pub blacken_owes : HasSeen pass.view object → ((target : ℕ) → HasEdge marks.heap.memory marks.weak object target → HasSeen pass.view target)
           → (seat ≡ id) × (object < id.words)
-          × Allows (IsKept (marking_in key key_workers) {S = S}) id.slots number me object (λ n. max n 2) (Blackened (step id.slots object 2 0 none) me)
+          × Allows (IsKept (marking_in key key_weak key_workers) {S = S}) id.slots number me object (λ n. max n 2) (Blackened (step id.slots object 2 0 none) me)
       blacken_owes seen targets = (
         same_table,
         in_words,
-        blacken_allowed (marking_in key key_workers) id.slots number me object in_key
+        blacken_allowed (marking_in key key_weak key_workers) id.slots number me object in_key
             (subst (λ (v : View). HasSeen v object) (sym same_view) seen)
             (λ target edge. subst (λ (v : View). HasSeen v target) (sym same_view)
-            (targets target (subst (λ (h : Regioning). HasEdge h.memory object target) same_heap edge))),
+            (targets target (table_edge object target edge))),
       )
 
-    -- a claim of what a slot of a parent names
-    module _ (chunk : List ℕ) (slot : Slot) (object : ℕ) (parent : IsSeenChunk marks.heap.memory pass.view chunk)
-        (names : named_in marks.heap.memory chunk slot ≡ Some object) where
-      named : target marks.heap.memory parent.object slot ≡ Some object
-      named = subst (λ (words : List ℕ). named_in marks.heap.memory words slot ≡ Some object) parent.its names
-
+    -- a claim of what a strong slot of a parent names
+    module _ (parent : Parent) (slot : Slot) (object : ℕ) (seen : IsSeenParent marks.heap.memory marks.weak pass.view parent)
+        (names : strong_named marks.heap.memory parent slot ≡ Some object) where
       is_inside : object < object_count marks.heap.memory
-      is_inside = target-lt marks.heap.memory parent.object slot object named
+      is_inside = named_among-lt marks.heap.memory parent.strong parent.words slot object names
 
       pub claim_owes : (seat ≡ id) × (object < id.words)
-          × Allows (IsKept (marking_in key key_workers) {S = S}) id.slots number me object (λ n. max n 1) (Claimed (step id.slots object 1 0 none) me)
+          × Allows (IsKept (marking_in key key_weak key_workers) {S = S}) id.slots number me object (λ n. max n 1) (Claimed (step id.slots object 1 0 none) me)
       claim_owes = (
         same_table,
         in_words object is_inside,
-        claim_allowed (marking_in key key_workers) id.slots number me parent.object object (in_key object is_inside)
-            (subst (λ (v : View). HasSeen v parent.object) (sym same_view) parent.seen)
-            (subst (λ (h : Regioning). HasEdge h.memory parent.object object) (sym same_heap)
-            record { inside = parent.inside; slot = slot; names = named }),
+        claim_allowed (marking_in key key_weak key_workers) id.slots number me seen.object object (in_key object is_inside)
+            (subst (λ (v : View). HasSeen v seen.object) (sym same_view) seen.seen)
+            (keyed_edge seen.object object
+            (HasEdge-slot marks.heap.memory marks.weak seen.object parent seen.its slot object seen.inside names)),
       )
 
 -- a count
 module _
     (id : TableId)
     (key heap self : Regioning)
+    (key_weak : Weak)
     (key_workers : ℕ)
     (keyed : key ≡ heap)
     (is_heap : heap ≡ self)
@@ -105,7 +121,7 @@ module _
         → region < region_count self.cut self.memory → length_of ≡ length (chunk_words self.memory object)
         → HasWon me.0 object → times object me.0.counted ≡ 0
         → (seat ≡ id) × (word < id.words)
-        × Allows (IsKept (marking_in key key_workers) {S = S}) id.slots number me word (λ n. (n + length_of) % 2 ^ 64)
+        × Allows (IsKept (marking_in key key_weak key_workers) {S = S}) id.slots number me word (λ n. (n + length_of) % 2 ^ 64)
         (Counted object (step id.slots word length_of 0 none) me)
     count_owes word length_of at is_region inside long won new = (
       same,
@@ -122,7 +138,7 @@ module _
     )
       where
         marking : Marking
-        marking = marking_in key key_workers
+        marking = marking_in key key_weak key_workers
 
         place : ℕ
         place = object_count key.memory + region_at key.cut key.memory object
@@ -131,6 +147,7 @@ module _
 module _
     (id : TableId)
     (key heap : Regioning)
+    (key_weak : Weak)
     (key_workers : ℕ)
     (words : id.words ≡ object_count heap.memory + region_count heap.cut heap.memory)
     (special : find heap.memory heap.memory.special ≡ Some (start_of heap.memory))
@@ -146,16 +163,16 @@ module _
         omega (arith, lt, words)
 
     pub split_owes : (weight : ℕ) → 1 ≤ weight → weight < me.0.weight
-        → (seat ≡ id) × (0 < id.words) × Splits (IsKept (marking_in key key_workers) {S = S}) number me.0 (kept_of weight me.0) (part_of weight)
+        → (seat ≡ id) × (0 < id.words) × Splits (IsKept (marking_in key key_weak key_workers) {S = S}) number me.0 (kept_of weight me.0) (part_of weight)
     split_owes weight positive below =
-        (same, first_word, split_allowed (marking_in key key_workers) number me.0 weight positive below)
+        (same, first_word, split_allowed (marking_in key key_weak key_workers) number me.0 weight positive below)
 
     pub join_owes : (other : TableId) → other ≡ id → (other_number : ℕ) (theirs : Me S View) → theirs.1 ≡ [] → 1 ≤ theirs.0.weight
         → (seat ≡ id) × (other ≡ id) × (theirs.1 ≡ []) × (0 < id.words)
-        × Joins (IsKept (marking_in key key_workers) {S = S}) number me.0 other_number theirs.0 (joined me.0 theirs.0) spent
+        × Joins (IsKept (marking_in key key_weak key_workers) {S = S}) number me.0 other_number theirs.0 (joined me.0 theirs.0) spent
     join_owes other same_other other_number theirs holds weight =
-        (same, same_other, holds, first_word, join_allowed (marking_in key key_workers) number me.0 other_number theirs.0 weight)
+        (same, same_other, holds, first_word, join_allowed (marking_in key key_weak key_workers) number me.0 other_number theirs.0 weight)
 
     pub weigh_owes : (seat ≡ id) × (0 < id.words)
-        × Allows (IsKept (marking_in key key_workers) {S = S}) id.slots number me 0 (λ n. n) (Weighed (step id.slots 0 0 0 none) me)
-    weigh_owes = (same, first_word, weigh_allowed (marking_in key key_workers) id.slots number me)
+        × Allows (IsKept (marking_in key key_weak key_workers) {S = S}) id.slots number me 0 (λ n. n) (Weighed (step id.slots 0 0 0 none) me)
+    weigh_owes = (same, first_word, weigh_allowed (marking_in key key_weak key_workers) id.slots number me)

@@ -16,6 +16,7 @@ use Rattle.sqz_image.specs.Objects.{objects, object_count, chunk_words, find}
 use Rattle.sqz_image.proofs.ObjectLemmas.{find_in-lt}
 use Rattle.sqz_trace.specs.declared.shades.Shade.{Shade}
 use Rattle.sqz_trace.specs.declared.shades.Shade.TheVariants.{White, Grey, Black}
+use Rattle.sqz_trace.specs.declared.weak.Weak.{Weak}
 use Rattle.sqz_trace.specs.Graph.{is_marked}
 use Rattle.sqz_trace.specs.Shades.{shade_at, has_mark, marks_of}
 use Rattle.sqz_trace.proofs.ShadeLemmas.{white-black, grey-black, is_marked-shade}
@@ -33,23 +34,25 @@ use Rattle.sqz_marks.proofs.CountLemmas.{total_counted-few}
 use Rattle.sqz_marks.proofs.WonLemmas.{wins-mark}
 
 -- the data words of a heap are few
-pub HasFewWords-heap : (heap : Regioning) (workers : ℕ) → length (concat heap.memory.chunks) < 2 ^ 30 → HasFewWords (marking_in heap workers)
-HasFewWords-heap heap workers few region list once inside =
+pub HasFewWords-heap : (heap : Regioning) (weak : Weak) (workers : ℕ) → length (concat heap.memory.chunks) < 2 ^ 30
+    → HasFewWords (marking_in heap weak workers)
+HasFewWords-heap heap weak workers few region list once inside =
     let le = sum_by-once-le (words_at heap.cut heap.memory region) list (object_count heap.memory) once inside in
     omega (arith, le, upto-words-le heap.cut heap.memory region, few)
 
 -- it holds where the word of the special objects array is 1, that of its region its length, and each other 0
-pub IsKept-opening : (heap : Regioning) (workers : ℕ) (words : List ℕ)
-    → find heap.memory heap.memory.special ≡ Some (start_of heap.memory) → 1 ≤ workers → workers ≤ 64 → HasFewWords (marking_in heap workers)
+pub IsKept-opening : (heap : Regioning) (weak : Weak) (workers : ℕ) (words : List ℕ)
+    → find heap.memory heap.memory.special ≡ Some (start_of heap.memory) → 1 ≤ workers → workers ≤ 64
+    → HasFewWords (marking_in heap weak workers)
     → words ≡ set (set (replicate (object_count heap.memory + region_count heap.cut heap.memory) 0) (start_of heap.memory) 1)
     (object_count heap.memory + region_at heap.cut heap.memory (start_of heap.memory)) (length (chunk_words heap.memory (start_of heap.memory)))
-    → {S : Type 0} → IsKept (marking_in heap workers) (opening_of {S = S} words [] (first_view workers (start_of heap.memory)))
-IsKept-opening heap workers words special positive few few_words are =
+    → {S : Type 0} → IsKept (marking_in heap weak workers) (opening_of {S = S} words [] (first_view workers (start_of heap.memory)))
+IsKept-opening heap weak workers words special positive few few_words are =
     record {
       shades = shades;
       sums = sums;
       words = are ∙ ap (λ ws. set (set ws start 1) (count + region) long) zeros ∙ ap (λ ws. set ws (count + region) long) first ∙ second;
-      lawful = IsLawful-opening (marking_in heap workers) inside positive;
+      lawful = IsLawful-opening (marking_in heap weak workers) inside positive;
       few = few;
       few_words = few_words;
     } where
@@ -184,48 +187,48 @@ shade_of-numbers [] = refl
 shade_of-numbers (shade ∷ shades) = λ k. shade_of-number shade k ∷ shade_of-numbers shades k
 
 -- the shades that the words say when the table is closed
-pub AreClosed-kept : (heap : Regioning) (workers : ℕ) {S : Type 0} (table : State S View) (kept : IsKept (marking_in heap workers) {S = S} table)
-    (id : ℕ) (view : View) → get_elem? table.views id ≡ some view → view.weight ≡ workers
-    → find heap.memory heap.memory.special ≡ Some (start_of heap.memory) → AreClosed heap.memory view kept.shades
-AreClosed-kept heap workers table kept id view at whole special =
+pub AreClosed-kept : (heap : Regioning) (weak : Weak) (workers : ℕ) {S : Type 0} (table : State S View)
+    (kept : IsKept (marking_in heap weak workers) {S = S} table) (id : ℕ) (view : View) → get_elem? table.views id ≡ some view → view.weight ≡ workers
+    → find heap.memory heap.memory.special ≡ Some (start_of heap.memory) → AreClosed heap.memory weak view kept.shades
+AreClosed-kept heap weak workers table kept id view at whole special =
     record {
-      known = shade_at-known (marking_in heap workers) table kept id view at whole;
-      once = won_once (marking_in heap workers) table kept id view at whole;
+      known = shade_at-known (marking_in heap weak workers) table kept id view at whole;
+      once = won_once (marking_in heap weak workers) table kept id view at whole;
       seen = (subst (KnowsTruth kept.shades) (item_at table.views id view spent at) (kept.lawful.truth id)).seen;
       lawful = record { start = start_of heap.memory; is_special = special; lawful = kept.lawful.shades };
     }
 
 -- and the sums of the regions, where all that was won is counted
-pub AreSums-kept : (heap : Regioning) (workers : ℕ) {S : Type 0} (table : State S View) (kept : IsKept (marking_in heap workers) {S = S} table)
-    (id : ℕ) (view : View) → get_elem? table.views id ≡ some view → view.weight ≡ workers → HasCountedAll view
+pub AreSums-kept : (heap : Regioning) (weak : Weak) (workers : ℕ) {S : Type 0} (table : State S View)
+    (kept : IsKept (marking_in heap weak workers) {S = S} table) (id : ℕ) (view : View) → get_elem? table.views id ≡ some view → view.weight ≡ workers → HasCountedAll view
     → AreSums heap (marks_of kept.shades) kept.sums
-AreSums-kept heap workers table kept id view at whole all =
+AreSums-kept heap weak workers table kept id view at whole all =
     record {
       sized = kept.lawful.sums.sized;
       each = λ region lt.
-          sums_counted (marking_in heap workers) table kept id view at whole region lt
+          sums_counted (marking_in heap weak workers) table kept id view at whole region lt
           ∙ live_words_in-listed heap.cut heap.memory (marks_of kept.shades) view.counted region
           (length-map kept.shades has_mark ∙ kept.lawful.shades.sized)
-          (counted_once (marking_in heap workers) table kept id view at whole all);
+          (counted_once (marking_in heap weak workers) table kept id view at whole all);
     }
 
 -- the words of a table that is closed say the shades, and behind these the regions' numbers
-module _ (heap : Regioning) (workers : ℕ) {S : Type 0} (table : State S View) (kept : IsKept (marking_in heap workers) {S = S} table)
-    (words : List ℕ) (are : table.words ≡ words) (count : ℕ) (count_is : count ≡ object_count heap.memory) where
+module _ (heap : Regioning) (weak : Weak) (workers : ℕ) {S : Type 0} (table : State S View)
+    (kept : IsKept (marking_in heap weak workers) {S = S} table) (words : List ℕ) (are : table.words ≡ words) (count : ℕ) (count_is : count ≡ object_count heap.memory) where
   pub shades_read : map shade_of (take count words) ≡ kept.shades
   shades_read =
       ap (λ ws. map shade_of (take count ws)) (sym are ∙ kept.words)
-      ∙ ap (λ n. map shade_of (take n (map number_of kept.shades ++ kept.sums))) (count_is ∙ sym (sized (marking_in heap workers) table kept))
+      ∙ ap (λ n. map shade_of (take n (map number_of kept.shades ++ kept.sums))) (count_is ∙ sym (sized (marking_in heap weak workers) table kept))
       ∙ ap (map shade_of) (take-append_seam (map number_of kept.shades) kept.sums)
       ∙ shade_of-numbers kept.shades
 
   pub sum_read : (region : ℕ) → get_or words (count + region) 0 ≡ get_or kept.sums region 0
   sum_read region =
       ap (λ ws. get_or ws (count + region) 0) (sym are) ∙ ap (λ n. get_or table.words (n + region) 0) count_is
-      ∙ sum_is (marking_in heap workers) table kept region
+      ∙ sum_is (marking_in heap weak workers) table kept region
 
   pub sum_few : (region : ℕ) → region < region_count heap.cut heap.memory → get_or words (count + region) 0 < 2 ^ 30
   sum_few region inside =
       subst (λ n. n < 2 ^ 30) (sym (sum_read region ∙ kept.lawful.sums.each region inside))
-      (total_counted-few (marking_in heap workers) record { shades = kept.shades; sums = kept.sums; passes = table.views } kept.lawful
+      (total_counted-few (marking_in heap weak workers) record { shades = kept.shades; sums = kept.sums; passes = table.views } kept.lawful
       kept.few_words region)

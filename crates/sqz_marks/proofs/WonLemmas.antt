@@ -8,6 +8,7 @@ use Rattle.std.proofs.lemmas.Option.{same_Some}
 use Rattle.sqz_image.specs.Objects.{Memory}
 use Rattle.sqz_trace.specs.declared.shades.Shade.{Shade}
 use Rattle.sqz_trace.specs.declared.shades.Shade.TheVariants.{White, Grey, Black}
+use Rattle.sqz_trace.specs.declared.weak.Weak.{Weak}
 use Rattle.sqz_trace.specs.Graph.{is_marked}
 use Rattle.sqz_trace.specs.Reachability.{graph_from, IsReachability}
 use Rattle.sqz_trace.specs.Shades.{shade_at, has_mark, AreLawful}
@@ -91,11 +92,12 @@ marks-le (shade ∷ shades) (mark ∷ marks) kept =
     )
 
 -- no more objects were won than are reachable
-pub length-won-le : (memory : Memory) (view : View) (shades : List Shade) (marks : List Bool) → AreClosed memory view shades
-    → IsReachability memory marks → length view.won ≤ count_by (λ mark. mark) marks
-length-won-le memory view shades marks closed reachable =
+pub length-won-le : (memory : Memory) (weak : Weak) (view : View) (shades : List Shade) (marks : List Bool)
+    → AreClosed memory weak view shades
+    → IsReachability memory weak marks → length view.won ≤ count_by (λ mark. mark) marks
+length-won-le memory weak view shades marks closed reachable =
     let same : closed.lawful.start ≡ reachable.start = same_Some _ _ (sym closed.lawful.is_special ∙ reachable.is_special) in
-    let lawful = subst (λ (start : ℕ). AreLawful (graph_from start memory) shades) same closed.lawful.lawful in
+    let lawful = subst (λ (start : ℕ). AreLawful (graph_from start memory weak) shades) same closed.lawful.lawful in
     omega (
       arith,
       length-won shades view.won closed.once,

@@ -6,7 +6,7 @@ use Rattle.sqz_marks.specs.declared.claim.Claim.TheVariants.{Won, Seen, Nothing}
 use Rattle.sqz_marks.specs.Core.{claimed}
 use Rattle.sqz_marks.specs.Table.{HeldPass, knowing}
 
--- the answer to a claim of what a slot names, and the pass before and after: where it names none there is no step; else the object is
+-- the answer to a claim of what a strong slot names, and the pass before and after: where it names none there is no step; else the object is
 -- won or was marked before
 abbrev pub IsClaim : Option ℕ → HeldPass → HeldPass → Claim → Type 0
 IsClaim None old new answer = (answer ≡ Nothing) × (new ≡ old)

@@ -4,6 +4,7 @@ use Rattle.std.specs.Prelude.{slice_index, slice_index_or, slice_set, replicate}
 use Rattle.sqz_trace.specs.declared.shades.Shade.{Shade}
 use Rattle.sqz_trace.specs.declared.shades.Shade.TheVariants.{White, Grey, Black}
 use Rattle.sqz_image.specs.Objects.{chunk_words}
+use Rattle.sqz_trace.specs.declared.weak.Weak.{Weak}
 use Rattle.sqz_trace.specs.Graph.{Graph}
 use Rattle.sqz_trace.specs.Reachability.{graph_from}
 use Rattle.sqz_trace.specs.Shades.{shade_at}
@@ -19,10 +20,10 @@ pub record Marking : Type 1 where
   pub workers : ℕ
 
 -- the objects of an object memory under a cut, where the one with this index is the special objects array
-abbrev pub marking_of : Regioning → ℕ → ℕ → Marking
-marking_of heap workers start =
+abbrev pub marking_of : Regioning → Weak → ℕ → ℕ → Marking
+marking_of heap weak workers start =
     record {
-      graph = graph_from start heap.memory;
+      graph = graph_from start heap.memory weak;
       regions = region_count heap.cut heap.memory;
       region = region_at heap.cut heap.memory;
       words = λ object. length (chunk_words heap.memory object);

@@ -3,9 +3,11 @@ use Rattle.std.specs.Prelude.{◌≡◌, ℕ, zero, suc, ◌^◌, ◌<◌, ◌�
 use Rattle.atomic_table.specs.Table.{Step, Me}
 use Rattle.atomic_table.specs.Table.{State as TableState}
 use Rattle.atomic_table.specs.Seated.{TableId}
-use Rattle.sqz_image.specs.Objects.{Memory, object_count, chunk_words, find}
+use Rattle.sqz_image.specs.Objects.{Memory, object_count, find}
+use Rattle.sqz_trace.specs.declared.weak.Weak.{Weak}
 use Rattle.sqz_trace.specs.declared.shades.Shade.{Shade}
 use Rattle.sqz_trace.specs.declared.shades.Shade.TheVariants.{White, Grey, Black}
+use Rattle.sqz_trace.specs.Edges.{Parent, parent_at}
 use Rattle.sqz_trace.specs.Graph.{is_marked}
 use Rattle.sqz_trace.specs.Shades.{shade_at, marks_of, AreLawfulOf}
 use Rattle.sqz_regions.specs.Regions.{Regioning}
@@ -13,10 +15,11 @@ use Rattle.sqz_marks.specs.declared.view.View.{View}
 use Rattle.sqz_marks.specs.Core.{Marking, marking_of, times, HasWon, HasSeen, HasCounted, HasBlackened, looked, claimed, counted, blackened}
 use Rattle.sqz_marks.specs.Lawful.{IsLawful, wins, words_listed}
 
--- a mark table: which one it is, the object memory and its cut, and how many workers share it
+-- a mark table: which one it is, the object memory and its cut, what becomes of weak slots, and how many workers share it
 pub record SharedMarks : Type 0 where
   pub table : TableId
   pub heap : Regioning
+  pub weak : Weak
   pub workers : ℕ
 
 -- a pass: which table's it is, how many workers share that, and what it knows
@@ -45,20 +48,20 @@ IsNewTo view object = (times object view.seen ≡ 0) × (times object view.count
 abbrev pub HasCountedAll : View → Type 0
 HasCountedAll view = (object : ℕ) → HasWon view object → HasCounted view object
 
--- the chunk is that of an object that the pass has seen
-pub record IsSeenChunk (memory : Memory) (view : View) (chunk : List ℕ) : Type 0 where
+-- this is an object that the pass has seen
+pub record IsSeenParent (memory : Memory) (weak : Weak) (view : View) (parent : Parent) : Type 0 where
   pub object : ℕ
   pub inside : object < object_count memory
   pub seen : HasSeen view object
-  pub its : chunk ≡ chunk_words memory object
+  pub its : parent ≡ parent_at memory weak object
 
 -- the special objects array
 abbrev pub start_of : Memory → ℕ
 start_of memory = unwrap_or (find memory memory.special) 0
 
 -- what a table of this memory marks
-abbrev pub marking_in : Regioning → ℕ → Marking
-marking_in heap workers = marking_of heap workers (start_of heap.memory)
+abbrev pub marking_in : Regioning → Weak → ℕ → Marking
+marking_in heap weak workers = marking_of heap weak workers (start_of heap.memory)
 
 -- the word of an object says its shade
 abbrev pub number_of : Shade → ℕ
@@ -117,8 +120,8 @@ shade_known view object =
 
 -- the shades when a table is closed by the pass that knows all: it knows each object's shade, it won each marked object once, what it has
 -- seen is marked, and marking can be finished from them
-pub record AreClosed (memory : Memory) (view : View) (shades : List Shade) : Type 0 where
+pub record AreClosed (memory : Memory) (weak : Weak) (view : View) (shades : List Shade) : Type 0 where
   pub known : (object : ℕ) → shade_at shades object ≡ shade_known view object
   pub once : (object : ℕ) → times object view.won ≡ wins (shade_at shades object)
   pub seen : (object : ℕ) → HasSeen view object → is_marked (marks_of shades) object ≡ true
-  pub lawful : AreLawfulOf memory shades
+  pub lawful : AreLawfulOf memory weak shades

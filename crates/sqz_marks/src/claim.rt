@@ -7,6 +7,6 @@ pub enum Claim {
     Won(u32),
     /// The object was marked before.
     Seen(u32),
-    /// The slot names no object.
+    /// The slot is weak, or names no object.
     Nothing,
 }

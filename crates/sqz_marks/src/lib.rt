@@ -4,17 +4,17 @@
 //! won once at most, so there are no more turns than objects:
 //!
 //! ```text
-//! let (table, mut pass) = MarkTable::new(alloc, heap, &regions, Workers::new(1)?)?;
+//! let (table, mut pass) = MarkTable::new(alloc, heap, weak, &regions, Workers::new(1)?)?;
 //! let mut won = Vec::new(alloc);
 //! won.push(heap.special())?;
 //! for _ in 0..heap.len() {
 //!     let Some(object) = won.pop() else { break };
-//!     let parent = TracedObject::of(heap, object);
+//!     let parent = table.parent(object);
 //!     if let Claim::Won(found) = table.claim_of(&mut pass, &parent, Slot::ClassWord) {
 //!         table.count(&mut pass, found);
 //!         won.push(found)?;
 //!     }
-//!     for k in 0..parent.traced() {
+//!     for k in 0..parent.strong() {
 //!         if let Claim::Won(found) = table.claim_of(&mut pass, &parent, Slot::Field(k)) {
 //!             table.count(&mut pass, found);
 //!             won.push(found)?;

@@ -6,11 +6,12 @@ use crate::view::View;
 use crate::workers::Workers;
 use atomic_table::{Join, Play, Split, TableRule};
 use sqz_regions::Regions;
+use sqz_trace::Weak;
 use std::marker::{Brand, PhantomData};
 use std::snapshot::Snapshot;
 
-/// What the rule is told once: the regions, and with them the heap, and the workers.
-pub(crate) type Key<'a> = (Snapshot<Regions<'a>>, Workers);
+/// What the rule is told once: the regions, and with them the heap, what becomes of weak slots, and the workers.
+pub(crate) type Key<'a> = (Snapshot<Regions<'a>>, Weak, Workers);
 
 /// The words and the passes are a lawful state of marking.
 pub(crate) struct MarkingRule;
@@ -19,9 +20,9 @@ impl<'a> TableRule<(), View, Key<'a>> for MarkingRule {
     ghost use Rattle.sqz_marks.specs.Core.{first_view};
     ghost use Rattle.sqz_marks.specs.Table.{IsKept, marking_in, start_of};
 
-    ghost holds = { λ key. IsKept (marking_in key.0.value key.1) };
+    ghost holds = { λ key. IsKept (marking_in key.0.value key.1 key.2) };
 
-    ghost first = { λ key. first_view key.1 (start_of key.0.value.memory) };
+    ghost first = { λ key. first_view key.2 (start_of key.0.value.memory) };
 }
 
 /// A look at an object.

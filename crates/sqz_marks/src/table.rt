@@ -5,14 +5,14 @@ ghost use Rattle.std.specs.Slots.{slots_items, slots_len, IsFull};
 ghost use Rattle.sqz_image.specs.declared.fault.Fault.TheVariants.{OutOfMemory};
 ghost use Rattle.sqz_image.specs.Objects.{object_count, chunk_words};
 ghost use Rattle.sqz_trace.specs.declared.shades.Shade.TheVariants.{White, Grey, Black};
-ghost use Rattle.sqz_trace.specs.Edges.{HasEdge, named_in, target};
+ghost use Rattle.sqz_trace.specs.Edges.{parent_at, strong_named, strong_target, HasEdge};
 ghost use Rattle.sqz_trace.specs.Shades.{marks_of};
 ghost use Rattle.sqz_regions.specs.Bases.{AreSums};
 ghost use Rattle.sqz_regions.specs.Places.{live_words};
 ghost use Rattle.sqz_regions.specs.Regions.{region_at, region_count};
 ghost use Rattle.sqz_marks.specs.declared.claim.Claim.TheVariants.{Won};
 ghost use Rattle.sqz_marks.specs.Core.{times, HasWon, HasSeen, HasBlackened, first_view, looked, counted, blackened, kept_of, part_of, joined};
-ghost use Rattle.sqz_marks.specs.Table.{IsPassOf, knowing, KeepsSeen, IsNewTo, HasCountedAll, IsSeenChunk, start_of, shade_of, AreClosed};
+ghost use Rattle.sqz_marks.specs.Table.{IsPassOf, knowing, KeepsSeen, IsNewTo, HasCountedAll, IsSeenParent, start_of, shade_of, AreClosed};
 ghost use Rattle.sqz_marks.specs.Claims.{IsClaim};
 
 use crate::claim::Claim;
@@ -27,7 +27,7 @@ use atomic_table::{Seat, Table};
 use sqz_image::laws::heap_bounds;
 use sqz_image::{Fault, Heap, Slot};
 use sqz_regions::Regions;
-use sqz_trace::{Shade, Shades, TracedObject};
+use sqz_trace::{Parent, Shade, Shades, Weak};
 use std::alloc::Global;
 use std::marker::{Brand, Model};
 use std::snapshot::Snapshot;
@@ -39,6 +39,7 @@ use std::snapshot::Snapshot;
 pub struct MarkTable<'a> {
     heap: &'a Heap,
     regions: &'a Regions<'a>,
+    weak: Weak,
     workers: Workers,
     table: Table<(), View, Key<'a>, MarkingRule, Global>,
 }
@@ -51,10 +52,10 @@ impl<'a> Model for MarkTable<'a> {
 
     ghost Value = { SharedMarks };
 
-    ghost view = { λ marks. record { table = marks.table.shared.table_id; heap = marks.regions.now; workers = marks.workers } };
+    ghost view = { λ marks. record { table = marks.table.shared.table_id; heap = marks.regions.now; weak = marks.weak; workers = marks.workers } };
 
     ghost invariant = { λ marks. (marks.heap.now ≡ marks.regions.now.memory)
-        × (marks.table.shared.key.0.value ≡ marks.regions.now) × (marks.table.shared.key.1 ≡ marks.workers)
+        × (marks.table.shared.key.0.value ≡ marks.regions.now) × (marks.table.shared.key.1 ≡ marks.weak) × (marks.table.shared.key.2 ≡ marks.workers)
         × (marks.table.shared.table_id.words ≡ object_count marks.regions.now.memory + region_count marks.regions.now.cut marks.regions.now.memory)
         × (marks.table.shared.table_id.slots ≡ 0)
         × (find marks.regions.now.memory marks.regions.now.memory.special ≡ Some (start_of marks.regions.now.memory)) };
@@ -76,11 +77,12 @@ impl<'a> MarkTable<'a> {
     pub fn new(
         alloc: Global,
         heap: &'a Heap,
+        weak: Weak,
         regions: &'a Regions<'a>,
         workers: Workers,
     ) -> Result<(Self, Pass), Fault>
         requires { regions.now.memory ≡ heap.now }
-        ensures table { IfOk result (λ made. (made.0.heap ≡ regions.now) × (made.0.workers ≡ workers)) }
+        ensures table { IfOk result (λ made. (made.0.heap ≡ regions.now) × (made.0.weak ≡ weak) × (made.0.workers ≡ workers)) }
         ensures pass { IfOk result (λ made. IsPassOf made.0 made.1 × (made.1.view ≡ first_view workers (start_of heap.now))) }
         ensures refused { IfErr result (λ fault. fault ≡ OutOfMemory) }
     {
@@ -91,7 +93,7 @@ impl<'a> MarkTable<'a> {
         words[special as usize] = 1;
         words[objects + regions.region(special) as usize] = u64::from(heap.chunk(special).length);
         let weight = workers.number();
-        let key = (Snapshot::of(regions), workers);
+        let key = (Snapshot::of(regions), weak, workers);
         let (table, seat) = Table::of_words(alloc, &words, &key)?;
         let pass = Pass {
             seat,
@@ -102,6 +104,7 @@ impl<'a> MarkTable<'a> {
             MarkTable {
                 heap,
                 regions,
+                weak,
                 workers,
                 table,
             },
@@ -127,25 +130,33 @@ impl<'a> MarkTable<'a> {
         )
     }
 
-    /// Makes the object that a slot of a parent names grey, if it is white. The pass has seen the parent marked. What it wins it
-    /// had neither seen nor counted.
+    /// Makes the object that a strong slot of a parent names grey, if it is white. The pass has seen the parent marked. What it
+    /// wins it had neither seen nor counted.
     pub fn claim(&self, pass: &mut Pass, parent: u32, slot: Slot) -> Claim
         requires of { IsPassOf self.now pass.old }
         requires inside { parent < object_count self.now.heap.memory }
         requires seen { HasSeen pass.old.view parent }
-        ensures claim { IsClaim (target self.now.heap.memory parent slot) pass.old pass.new result }
+        ensures claim { IsClaim (strong_target self.now.heap.memory self.now.weak parent slot) pass.old pass.new result }
         ensures inside { (object : ℕ) → result ≡ Won object → object < object_count self.now.heap.memory }
         ensures new { (object : ℕ) → result ≡ Won object → IsNewTo pass.old.view object }
         ensures keeps { KeepsSeen pass.old.view pass.new.view }
     {
-        self.claim_of(pass, &TracedObject::of(self.heap, parent), slot)
+        self.claim_of(pass, &self.parent(parent), slot)
+    }
+
+    /// An object whose slots are to be claimed. Its header is read here, and not again.
+    pub fn parent(&self, object: u32) -> Parent<'_>
+        requires { object < object_count self.now.heap.memory }
+        ensures { result ≡ parent_at self.now.heap.memory self.now.weak object }
+    {
+        Parent::of(self.heap, self.weak, object)
     }
 
     /// The same of a parent whose header was read once.
-    pub fn claim_of(&self, pass: &mut Pass, parent: &TracedObject<'_>, slot: Slot) -> Claim
+    pub fn claim_of(&self, pass: &mut Pass, parent: &Parent<'_>, slot: Slot) -> Claim
         requires of { IsPassOf self.now pass.old }
-        requires seen { IsSeenChunk self.now.heap.memory pass.old.view parent.now }
-        ensures claim { IsClaim (named_in self.now.heap.memory parent.now slot) pass.old pass.new result }
+        requires seen { IsSeenParent self.now.heap.memory self.now.weak pass.old.view parent.now }
+        ensures claim { IsClaim (strong_named self.now.heap.memory parent.now slot) pass.old pass.new result }
         ensures inside { (object : ℕ) → result ≡ Won object → object < object_count self.now.heap.memory }
         ensures new { (object : ℕ) → result ≡ Won object → IsNewTo pass.old.view object }
         ensures keeps { KeepsSeen pass.old.view pass.new.view }
@@ -181,7 +192,7 @@ impl<'a> MarkTable<'a> {
         requires of { IsPassOf self.now pass.old }
         requires inside { object < object_count self.now.heap.memory }
         requires seen { HasSeen pass.old.view object }
-        requires targets { (target : ℕ) → HasEdge self.now.heap.memory object target → HasSeen pass.old.view target }
+        requires targets { (target : ℕ) → HasEdge self.now.heap.memory self.now.weak object target → HasSeen pass.old.view target }
         ensures step { pass.new ≡ knowing pass.old (blackened object pass.old.view) }
     {
         self.table
@@ -251,7 +262,7 @@ impl<'a> MarkTable<'a> {
         requires of { IsPassOf self pass }
         requires whole { pass.view.weight ≡ self.workers }
         requires counted { HasCountedAll pass.view }
-        ensures closed { IfOk result (λ closed. AreClosed self.entry.heap.memory pass.view closed.shades.items) }
+        ensures closed { IfOk result (λ closed. AreClosed self.entry.heap.memory self.entry.weak pass.view closed.shades.items) }
         ensures sums { IfOk result (λ closed. AreSums self.entry.heap (marks_of closed.shades.items) closed.live_words.items) }
         ensures whole { IfOk result (λ closed. sum closed.live_words.items ≡ live_words self.entry.heap.memory (marks_of closed.shades.items)) }
         ensures room { IfOk result (λ closed. self.entry.heap.memory.base + 4 * sum closed.live_words.items ≤ 2 ^ 32) }
@@ -269,6 +280,7 @@ impl<'a> MarkTable<'a> {
         let MarkTable {
             heap: _,
             regions: _,
+            weak: _,
             workers: _,
             table,
         } = self;

@@ -1,18 +1,16 @@
-//! The three ways to mark give equal marks.
+//! The four ways to mark give equal marks.
 
 ghost use Rattle.std.specs.Prelude.{◌<◌, length};
 
-use super::images::{
-    CLASS_WORD, CLASS_WORDS, CONTEXT_AND_METHOD, FREE_AT_THE_END, LONG_HEADER, ONE_DEAD,
-    ONE_OBJECT, TWO_DEFECTS,
-};
-use super::tracing::flags_of;
-use sqz_image::Heap;
+use super::images::{BAD_WEAK, FIXED_FIELD, FIXED_FIELD_BY_INDEX, FREE_AT_THE_END, WEAK_FIELDS};
+use super::marking::marked_by;
+use super::tracing::{finished, flags_of, marked};
+use sqz_image::{Heap, Image, read_image};
 use sqz_marks::Workers;
 use sqz_regions::{Cut, Regions, live_words};
-use sqz_test_images::{DEAD_CYCLE, class_words, image_of};
-use sqz_trace::mark_plain;
-use sqz_workers::{OpenGate, mark, mark_locked};
+use sqz_test_images::{IMAGES, Words, file_of, image_of};
+use sqz_trace::Weak;
+use sqz_workers::{OpenGate, mark};
 use std::process::Abort;
 use std::sync::Wait;
 use std::test::Fail;
@@ -23,10 +21,12 @@ use std::thread::Threads;
 fn marked_by_stealing<R: Threads + Sync + Abort + AllocGlobal>(
     rt: &R,
     heap: &Heap,
+    weak: Weak,
 ) -> Result<Vec<bool>, Fail> {
     let cut = Cut::every(4)?;
     let regions = Regions::of(rt.alloc(), heap, &cut)?;
-    let marked = mark(rt, rt.alloc(), heap, &regions, Workers::new(3)?, &OpenGate)?;
+    let workers = Workers::new(3)?;
+    let marked = mark(rt, rt.alloc(), heap, weak, &regions, workers, &OpenGate)?;
     let sums = live_words(rt.alloc(), heap, &regions, &marked.marks)?;
     assert_eq!(rt;
         marked.live_words.as_slice(),
@@ -36,41 +36,66 @@ fn marked_by_stealing<R: Threads + Sync + Abort + AllocGlobal>(
     Ok(flags_of(rt.alloc(), heap, &marked.marks)?)
 }
 
-/// Asserts that objects of an image are marked alike without workers, by workers under a lock, and by workers who steal.
+/// Asserts that objects are marked alike by a worklist, from the first shades on without memory, by workers under a lock, and
+/// by workers who steal.
 fn assert_equal_marks<R: Threads + Wait + Sync + Abort + AllocGlobal>(
     rt: &R,
+    heap: &Heap,
+    weak: Weak,
     words: &[u32],
-    special: u32,
-) -> Result<(), Fail>
-    requires { length words.now < 1000 }
-{
-    let image = image_of(rt.alloc(), words, special)?;
-    let heap = image.heap();
-    let plain = mark_plain(rt.alloc(), heap)?;
-    let plain = flags_of(rt.alloc(), heap, &plain)?;
-    let locked = mark_locked(rt, rt.alloc(), heap, Workers::new(3)?, &OpenGate)?;
-    let locked = flags_of(rt.alloc(), heap, &locked)?;
-    let stealing = marked_by_stealing(rt, heap)?;
-    assert_eq!(rt; locked.as_slice(), plain.as_slice(), "under a lock");
-    assert_eq!(rt; stealing.as_slice(), plain.as_slice(), "by stealing");
+) -> Result<(), Fail> {
+    let plain = marked(rt.alloc(), heap, weak)?;
+    let finished = finished(rt.alloc(), heap, weak)?;
+    let locked = marked_by(rt, heap, weak, 3, &OpenGate)?;
+    let stealing = marked_by_stealing(rt, heap, weak)?;
+    assert_eq!(rt; finished, plain, "without memory, {weak:?}, {words:?}");
+    assert_eq!(rt; locked, plain, "under a lock, {weak:?}, {words:?}");
+    assert_eq!(rt; stealing, plain, "by stealing, {weak:?}, {words:?}");
+    Ok(())
+}
+
+/// Asserts it of an image under both policies on weak slots.
+fn assert_equal_under_both<R: Threads + Wait + Sync + Abort + AllocGlobal>(
+    rt: &R,
+    image: &Image,
+    words: &[u32],
+) -> Result<(), Fail> {
+    for weak in [Weak::Keep, Weak::Clear] {
+        assert_equal_marks(rt, image.heap(), weak, words)?;
+    }
     Ok(())
 }
 
 #[test]
-fn of_images_with_dead_objects(rt: HostRuntime) -> Result<(), Fail> {
-    assert_equal_marks(&rt, &DEAD_CYCLE, 0x1024)?;
-    assert_equal_marks(&rt, &ONE_DEAD, 0x1010)?;
-    assert_equal_marks(&rt, &LONG_HEADER, 0x1028)?;
-    assert_equal_marks(&rt, &ONE_OBJECT, 0x1000)?;
-    assert_equal_marks(&rt, &FREE_AT_THE_END, 0x1004)
+fn of_all_images(rt: HostRuntime) -> Result<(), Fail> {
+    for Words {
+        order,
+        base,
+        words,
+        special,
+    } in IMAGES {
+        assert!(rt; words.len() < 1000);
+        let file = file_of(rt.alloc(), order, base, words, special)?;
+        let image = read_image(rt.alloc(), &file)?;
+        assert_equal_under_both(&rt, &image, words)?;
+    }
+    Ok(())
 }
 
+/// More weak objects, and free chunks behind all objects.
 #[test]
-fn of_images_with_classes_contexts_and_defects(rt: HostRuntime) -> Result<(), Fail> {
-    assert_equal_marks(&rt, &CLASS_WORD, 0x1024)?;
-    assert_equal_marks(&rt, &CLASS_WORDS, 0x1034)?;
-    assert_equal_marks(&rt, &CONTEXT_AND_METHOD, 0x1044)?;
-    assert_equal_marks(&rt, &TWO_DEFECTS, 0x1004)?;
-    let words = class_words(rt.alloc(), 0x1024)?;
-    assert_equal_marks(&rt, &words, 0x1038)
+fn of_weak_objects_and_of_free_chunks_at_the_end(rt: HostRuntime) -> Result<(), Fail> {
+    let some: [(&[u32], u32); 5] = [
+        (&WEAK_FIELDS, 0x1044),
+        (&FIXED_FIELD, 0x1034),
+        (&FIXED_FIELD_BY_INDEX, 0x1038),
+        (&BAD_WEAK, 0x1020),
+        (&FREE_AT_THE_END, 0x1004),
+    ];
+    for (words, special) in some {
+        assert!(rt; words.len() < 1000);
+        let image = image_of(rt.alloc(), words, special)?;
+        assert_equal_under_both(&rt, &image, words)?;
+    }
+    Ok(())
 }

@@ -2,24 +2,25 @@
 
 use super::gates::{Hold, MEETING, TurnGate, turn_of};
 use super::tracing::{DEAD_CYCLE_MARKS, flags_of};
-use sqz_image::Image;
+use sqz_image::Heap;
 use sqz_marks::Workers;
 use sqz_test_images::{DEAD_CYCLE, image_of};
+use sqz_trace::Weak;
 use sqz_workers::{Gate, OpenGate, Phase, mark_locked};
 use std::process::Abort;
 use std::sync::Wait;
 use std::test::Fail;
 use std::thread::Threads;
 
-/// Which objects of an image are marked by so many workers, who pass a gate.
-fn marked_by<R: Threads + Wait + Sync + AllocGlobal, G: Gate>(
+/// Which objects are marked by so many workers, who pass a gate.
+pub(crate) fn marked_by<R: Threads + Wait + Sync + AllocGlobal, G: Gate>(
     rt: &R,
-    image: &Image,
+    heap: &Heap,
+    weak: Weak,
     workers: u32,
     gate: &G,
 ) -> Result<Vec<bool>, Fail> {
-    let heap = image.heap();
-    let marks = mark_locked(rt, rt.alloc(), heap, Workers::new(workers)?, gate)?;
+    let marks = mark_locked(rt, rt.alloc(), heap, weak, Workers::new(workers)?, gate)?;
     Ok(flags_of(rt.alloc(), heap, &marks)?)
 }
 
@@ -30,7 +31,7 @@ fn assert_marks<R: Threads + Wait + Sync + Abort + AllocGlobal, G: Gate>(
     gate: &G,
 ) -> Result<(), Fail> {
     let image = image_of(rt.alloc(), &DEAD_CYCLE, 0x1024)?;
-    let flags = marked_by(rt, &image, workers, gate)?;
+    let flags = marked_by(rt, image.heap(), Weak::Keep, workers, gate)?;
     assert_eq!(rt;
         flags.as_slice(),
         DEAD_CYCLE_MARKS.as_slice(),

@@ -7,7 +7,7 @@ use super::images::{FREE_AT_THE_END, LONG_HEADER, ONE_OBJECT};
 use sqz_image::{Heap, Image};
 use sqz_regions::{Cut, Forward, Regions, bases, live_words};
 use sqz_test_images::{DEAD_CYCLE, image_of};
-use sqz_trace::mark_plain;
+use sqz_trace::{Weak, mark_plain};
 use std::process::Abort;
 use std::test::Fail;
 use std::thread::Threads;
@@ -36,12 +36,13 @@ pub(crate) struct Placed {
 pub(crate) fn places_of<R: Threads + Sync + AllocGlobal>(
     rt: &R,
     heap: &Heap,
+    weak: Weak,
     regions: &Regions<'_>,
 ) -> Result<Placed, Fail>
     requires { regions.now.memory ≡ heap.now }
     ensures { IfOk result (λ placed. length placed.forward ≡ object_count heap.now) }
 {
-    let marks = mark_plain(rt.alloc(), heap)?;
+    let marks = mark_plain(rt.alloc(), heap, weak)?;
     let sums = live_words(rt.alloc(), heap, regions, &marks)?;
     let bases = bases(rt.alloc(), heap.base(), &sums)?;
     let forward = Forward::build(rt, rt.alloc(), heap, regions, &marks, &bases)?;
@@ -65,7 +66,7 @@ fn assert_places<R: Threads + Sync + Abort + AllocGlobal>(
     let heap = image.heap();
     let regions = Regions::of(rt.alloc(), heap, cut)?;
     assert_eq!(rt; regions.count() as usize, sums.len());
-    let placed = places_of(rt, heap, &regions)?;
+    let placed = places_of(rt, heap, Weak::Keep, &regions)?;
     assert_eq!(rt; placed.sums.as_slice(), sums);
     assert_eq!(rt; placed.bases.as_slice(), bases);
     assert_eq!(rt; places.len(), heap.len() as usize);

@@ -3,13 +3,14 @@
 ghost use Rattle.std.specs.Prelude.{◌≡◌, ◌<◌, length};
 ghost use Rattle.sqz_image.specs.Objects.{object_count};
 
-use super::images::{CLASS_WORDS, ONE_DEAD};
+use super::images::{CLASS_WORDS, ONE_DEAD, WEAK_FIELDS};
 use super::regions::places_of;
 use sqz_image::{Heap, Image};
 use sqz_marks::Workers;
 use sqz_regions::{Cut, Forward, Regions};
 use sqz_slide::{Pieces, moved_word, slide};
 use sqz_test_images::{DEAD_CYCLE, DEAD_CYCLE_ANSWER, image_of};
+use sqz_trace::Weak;
 use sqz_workers::{Gate, OpenGate};
 use std::alloc::{AllocError, Global};
 use std::process::Abort;
@@ -20,17 +21,19 @@ use std::thread::Threads;
 pub(crate) fn slid_by<R: Threads + Sync + AllocGlobal, G: Gate>(
     rt: &R,
     heap: &Heap,
+    weak: Weak,
     cut: &Cut,
     workers: u32,
     gate: &G,
 ) -> Result<Pieces, Fail> {
     let workers = Workers::new(workers)?;
     let regions = Regions::of(rt.alloc(), heap, cut)?;
-    let placed = places_of(rt, heap, &regions)?;
+    let placed = places_of(rt, heap, weak, &regions)?;
     Ok(slide(
         rt,
         rt.alloc(),
         heap,
+        weak,
         &regions,
         &placed.forward,
         workers,
@@ -42,12 +45,13 @@ pub(crate) fn slid_by<R: Threads + Sync + AllocGlobal, G: Gate>(
 pub(crate) fn slid<R: Threads + Sync + AllocGlobal, G: Gate>(
     rt: &R,
     image: &Image,
+    weak: Weak,
     points: &[u32],
     workers: u32,
     gate: &G,
 ) -> Result<Pieces, Fail> {
     let cut = Cut::at(points.to_vec(rt.alloc())?)?;
-    slid_by(rt, image.heap(), &cut, workers, gate)
+    slid_by(rt, image.heap(), weak, &cut, workers, gate)
 }
 
 /// The words of all pieces.
@@ -80,6 +84,7 @@ pub(crate) fn assert_pieces<R: Abort + AllocGlobal>(
 fn put_moved_words(
     words: &mut Vec<u32>,
     heap: &Heap,
+    weak: Weak,
     forward: &Forward,
     object: u32,
 ) -> Result<(), AllocError>
@@ -87,7 +92,7 @@ fn put_moved_words(
     requires one_each { length forward.now ≡ object_count heap.now }
 {
     for k in 0..heap.chunk(object).length {
-        words.push(moved_word(heap, forward, object, k))?;
+        words.push(moved_word(heap, weak, forward, object, k))?;
     }
     Ok(())
 }
@@ -96,14 +101,15 @@ fn put_moved_words(
 fn moved_words<R: Threads + Sync + AllocGlobal>(
     rt: &R,
     heap: &Heap,
+    weak: Weak,
     cut: &Cut,
 ) -> Result<Vec<u32>, Fail> {
     let regions = Regions::of(rt.alloc(), heap, cut)?;
-    let placed = places_of(rt, heap, &regions)?;
+    let placed = places_of(rt, heap, weak, &regions)?;
     let mut words = Vec::new(rt.alloc());
     for object in 0..heap.len() {
         if placed.forward.place(object).is_some() {
-            put_moved_words(&mut words, heap, &placed.forward, object)?;
+            put_moved_words(&mut words, heap, weak, &placed.forward, object)?;
         }
     }
     Ok(words)
@@ -113,7 +119,7 @@ fn moved_words<R: Threads + Sync + AllocGlobal>(
 fn dead_cycle_in_three_pieces(rt: HostRuntime) -> Result<(), Fail> {
     let image = image_of(rt.alloc(), &DEAD_CYCLE, 0x1024)?;
     for workers in [1, 2, 64] {
-        let pieces = slid(&rt, &image, &[1, 3], workers, &OpenGate)?;
+        let pieces = slid(&rt, &image, Weak::Keep, &[1, 3], workers, &OpenGate)?;
         assert_pieces(&rt, &pieces, &[1, 2, 5], &DEAD_CYCLE_ANSWER)?;
     }
     Ok(())
@@ -122,8 +128,24 @@ fn dead_cycle_in_three_pieces(rt: HostRuntime) -> Result<(), Fail> {
 #[test]
 fn region_of_dead_objects_alone(rt: HostRuntime) -> Result<(), Fail> {
     let image = image_of(rt.alloc(), &ONE_DEAD, 0x1010)?;
-    let pieces = slid(&rt, &image, &[1, 4], 4, &OpenGate)?;
+    let pieces = slid(&rt, &image, Weak::Keep, &[1, 4], 4, &OpenGate)?;
     assert_pieces(&rt, &pieces, &[1, 0, 2], &[0x1007, 0x320B, 0x1000])
+}
+
+/// Asserts that the words of an image after the move are these, in two pieces of so many words and one by one.
+fn assert_moves<R: Threads + Sync + Abort + AllocGlobal>(
+    rt: &R,
+    image: &Image,
+    weak: Weak,
+    point: u32,
+    sizes: &[usize],
+    wanted: &[u32],
+) -> Result<(), Fail> {
+    let pieces = slid(rt, image, weak, &[point], 2, &OpenGate)?;
+    assert_pieces(rt, &pieces, sizes, wanted)?;
+    let one_by_one = moved_words(rt, image.heap(), weak, &Cut::every(1)?)?;
+    assert_eq!(rt; one_by_one.as_slice(), wanted);
+    Ok(())
 }
 
 #[test]
@@ -132,9 +154,27 @@ fn class_words_and_headers_of_three_words(rt: HostRuntime) -> Result<(), Fail> {
         0x1007, 0x100B, 1, 0x1005, 0x109, 1, 8, 0x1004, 0x208, 0x1010, 0x320F, 0x1000, 0x1020,
     ];
     let image = image_of(rt.alloc(), &CLASS_WORDS, 0x1034)?;
-    let pieces = slid(&rt, &image, &[9], 2, &OpenGate)?;
-    assert_pieces(&rt, &pieces, &[6, 7], &wanted)?;
-    let one_by_one = moved_words(&rt, image.heap(), &Cut::every(1)?)?;
-    assert_eq!(rt; one_by_one.as_slice(), wanted.as_slice());
-    Ok(())
+    assert_moves(&rt, &image, Weak::Keep, 9, &[6, 7], &wanted)
+}
+
+/// A weak slot that names a dead object names nil, in its new place. One that names a live object names that, and an integer
+/// and the class word are as where slots are kept.
+#[test]
+fn weak_slots_cleared(rt: HostRuntime) -> Result<(), Fail> {
+    let wanted = [
+        0x1007, 0x1113, 1, 1, 0x405, 0x100B, 1, 0x1005, 0x411, 0x1014, 0x1000, 7, 0x3213, 0x1000,
+        0x1020, 0x1014,
+    ];
+    let image = image_of(rt.alloc(), &WEAK_FIELDS, 0x1044)?;
+    assert_moves(&rt, &image, Weak::Clear, 12, &[7, 9], &wanted)
+}
+
+#[test]
+fn weak_slots_kept(rt: HostRuntime) -> Result<(), Fail> {
+    let wanted = [
+        0x1007, 0x1113, 1, 1, 0x405, 0x100B, 1, 0x100B, 1, 0x1005, 0x411, 0x1014, 0x101C, 7,
+        0x3213, 0x1000, 0x1028, 0x1014,
+    ];
+    let image = image_of(rt.alloc(), &WEAK_FIELDS, 0x1044)?;
+    assert_moves(&rt, &image, Weak::Keep, 12, &[9, 9], &wanted)
 }

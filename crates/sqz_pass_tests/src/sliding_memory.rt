@@ -5,6 +5,7 @@ use sqz_image::{Image, read_image};
 use sqz_object::Order;
 use sqz_regions::Cut;
 use sqz_test_images::put_words;
+use sqz_trace::Weak;
 use sqz_workers::{Gate, Phase};
 use std::alloc::Global;
 use std::fs::File;
@@ -74,7 +75,7 @@ fn first_turn_is_before_all_memory(rt: HostRuntime) -> Result<(), Fail> {
         rt: &rt,
         sizes: [AtomicU64::new(0), AtomicU64::new(0)],
     };
-    slid_by(&rt, image.heap(), &Cut::every(4)?, 1, &gate)?;
+    slid_by(&rt, image.heap(), Weak::Keep, &Cut::every(4)?, 1, &gate)?;
     let [first, second] = &gate.sizes;
     let first = first.load(Ordering::SeqCst);
     let more = second.load(Ordering::SeqCst).saturating_sub(first);

@@ -8,6 +8,7 @@ use sqz_image::Image;
 use sqz_marks::Workers;
 use sqz_regions::{Cut, Regions};
 use sqz_test_images::{DEAD_CYCLE, image_of};
+use sqz_trace::Weak;
 use sqz_workers::{Gate, Marked, OpenGate, Phase, mark};
 use std::alloc::{AllocError, Global};
 use std::process::Abort;
@@ -25,7 +26,7 @@ fn marked_by<R: Threads + Sync + AllocGlobal, G: Gate>(
     let heap = image.heap();
     let workers = Workers::new(workers)?;
     let regions = Regions::of(rt.alloc(), heap, cut)?;
-    let marked = mark(rt, rt.alloc(), heap, &regions, workers, gate)?;
+    let marked = mark(rt, rt.alloc(), heap, Weak::Keep, &regions, workers, gate)?;
     let flags = flags_of(rt.alloc(), heap, &marked.marks)?;
     Ok((flags, marked))
 }

@@ -3,10 +3,16 @@
 ghost use Rattle.std.specs.Prelude.{◌≡◌, length};
 ghost use Rattle.sqz_image.specs.Objects.{object_count};
 
-use super::images::{CLASS_WORD, CONTEXT_AND_METHOD, TWO_DEFECTS};
+use super::images::{
+    BAD_WEAK, CLASS_WORD, CONTEXT_AND_METHOD, FIXED_FIELD, FIXED_FIELD_BY_INDEX, ONE_OBJECT,
+    TWO_DEFECTS, WEAK_SPECIAL,
+};
 use sqz_image::{Fault, Heap, Image, Slot};
 use sqz_test_images::{DEAD_CYCLE, image_of};
-use sqz_trace::{Marks, defect, finish, first_defect, first_shades, mark_plain, target, traced};
+use sqz_trace::{
+    Marks, Weak, defect, finish, first_defect, first_shades, lacks_nil, mark_plain, strong, target,
+    traced,
+};
 use std::alloc::{AllocError, Global};
 use std::process::Abort;
 use std::test::Fail;
@@ -27,14 +33,14 @@ pub(crate) fn flags_of(alloc: Global, heap: &Heap, marks: &Marks) -> Result<Vec<
 }
 
 /// Which objects are marked without a lock.
-fn marked(alloc: Global, heap: &Heap) -> Result<Vec<bool>, Fail> {
-    let marks = mark_plain(alloc, heap)?;
+pub(crate) fn marked(alloc: Global, heap: &Heap, weak: Weak) -> Result<Vec<bool>, Fail> {
+    let marks = mark_plain(alloc, heap, weak)?;
     Ok(flags_of(alloc, heap, &marks)?)
 }
 
 /// Which objects are marked where all is left to the end.
-fn finished(alloc: Global, heap: &Heap) -> Result<Vec<bool>, Fail> {
-    let marks = finish(heap, first_shades(alloc, heap)?);
+pub(crate) fn finished(alloc: Global, heap: &Heap, weak: Weak) -> Result<Vec<bool>, Fail> {
+    let marks = finish(heap, weak, first_shades(alloc, heap)?);
     Ok(flags_of(alloc, heap, &marks)?)
 }
 
@@ -42,17 +48,22 @@ fn finished(alloc: Global, heap: &Heap) -> Result<Vec<bool>, Fail> {
 fn lowest_defect<R: Threads + Sync + AllocGlobal>(
     rt: &R,
     image: &Image,
+    weak: Weak,
 ) -> Result<Option<Fault>, Fail> {
-    let marks = mark_plain(rt.alloc(), image.heap())?;
-    Ok(first_defect(rt, image.heap(), &marks))
+    let marks = mark_plain(rt.alloc(), image.heap(), weak)?;
+    Ok(first_defect(rt, image.heap(), weak, &marks))
 }
 
 /// Asserts that objects have these defects.
-fn assert_defects<R: Abort>(rt: &R, image: &Image, defects: &[Option<Fault>]) {
+fn assert_defects<R: Abort>(rt: &R, image: &Image, weak: Weak, defects: &[Option<Fault>]) {
     let heap = image.heap();
     assert_eq!(rt; heap.len() as usize, defects.len());
     for (object, wanted) in defects.iter().enumerate() {
-        assert_eq!(rt; defect(heap, object as u32), *wanted, "object {object}");
+        assert_eq!(rt;
+            defect(heap, weak, object as u32),
+            *wanted,
+            "object {object}, {weak:?}"
+        );
     }
 }
 
@@ -63,20 +74,40 @@ fn assert_names<R: Abort>(rt: &R, image: &Image, object: u32, slot: Slot, named:
     assert_eq!(rt; target(heap, object, slot), named, "slot {slot:?}");
 }
 
-/// Asserts that of an object so many fields are traced.
-fn assert_traced<R: Abort>(rt: &R, image: &Image, object: u32, count: u32) {
+/// Asserts that of an object so many fields are traced, which are all strong where weak slots are kept, and that so many are
+/// strong where they are cleared.
+fn assert_strong<R: Abort>(rt: &R, image: &Image, object: u32, count: u32, cleared: u32) {
     let heap = image.heap();
     assert!(rt; object < heap.len());
     assert_eq!(rt; traced(heap, object), count, "object {object}");
+    assert_eq!(rt;
+        strong(heap, Weak::Keep, object),
+        count,
+        "object {object}, kept"
+    );
+    assert_eq!(rt;
+        strong(heap, Weak::Clear, object),
+        cleared,
+        "object {object}, cleared"
+    );
+}
+
+/// Asserts whether nil is missing where weak slots are cleared. Where they are kept it is not asked for.
+fn assert_lacks_nil<R: Abort>(rt: &R, image: &Image, wanted: bool) {
+    let heap = image.heap();
+    assert!(rt; !lacks_nil(heap, Weak::Keep));
+    assert_eq!(rt; lacks_nil(heap, Weak::Clear), wanted);
 }
 
 #[test]
 fn marks_of_a_dead_cycle(rt: HostRuntime) -> Result<(), Fail> {
     let image = image_of(rt.alloc(), &DEAD_CYCLE, 0x1024)?;
     let wanted = DEAD_CYCLE_MARKS.as_slice();
-    assert_eq!(rt; marked(rt.alloc(), image.heap())?.as_slice(), wanted);
-    assert_eq!(rt; finished(rt.alloc(), image.heap())?.as_slice(), wanted);
-    assert_eq!(rt; lowest_defect(&rt, &image)?, None);
+    let plain = marked(rt.alloc(), image.heap(), Weak::Keep)?;
+    assert_eq!(rt; plain.as_slice(), wanted);
+    let finished = finished(rt.alloc(), image.heap(), Weak::Keep)?;
+    assert_eq!(rt; finished.as_slice(), wanted);
+    assert_eq!(rt; lowest_defect(&rt, &image, Weak::Keep)?, None);
     Ok(())
 }
 
@@ -99,8 +130,21 @@ fn targets_of_slots(rt: HostRuntime) -> Result<(), Fail> {
 #[test]
 fn traced_fields(rt: HostRuntime) -> Result<(), Fail> {
     let image = image_of(rt.alloc(), &CONTEXT_AND_METHOD, 0x1044)?;
-    assert_traced(&rt, &image, 1, 7);
-    assert_traced(&rt, &image, 2, 3);
+    assert_strong(&rt, &image, 1, 7, 7);
+    assert_strong(&rt, &image, 2, 3, 3);
+    assert_strong(&rt, &image, 3, 2, 2);
+    Ok(())
+}
+
+#[test]
+fn strong_fields_of_weak_objects(rt: HostRuntime) -> Result<(), Fail> {
+    let by_class_word = image_of(rt.alloc(), &FIXED_FIELD, 0x1034)?;
+    assert_strong(&rt, &by_class_word, 4, 2, 1);
+    assert_strong(&rt, &by_class_word, 5, 2, 2);
+    let by_index = image_of(rt.alloc(), &FIXED_FIELD_BY_INDEX, 0x1038)?;
+    assert_strong(&rt, &by_index, 4, 2, 1);
+    let bad = image_of(rt.alloc(), &BAD_WEAK, 0x1020)?;
+    assert_strong(&rt, &bad, 2, 1, 0);
     Ok(())
 }
 
@@ -112,7 +156,29 @@ fn defects_of_two_objects(rt: HostRuntime) -> Result<(), Fail> {
         slot: Slot::Field(0),
     };
     let no_class = Fault::NoClass { address: 0x1010 };
-    assert_defects(&rt, &image, &[None, Some(bad_pointer), Some(no_class)]);
-    assert_eq!(rt; lowest_defect(&rt, &image)?, Some(bad_pointer));
+    let defects = [None, Some(bad_pointer), Some(no_class)];
+    for weak in [Weak::Keep, Weak::Clear] {
+        assert_defects(&rt, &image, weak, &defects);
+        assert_eq!(rt; lowest_defect(&rt, &image, weak)?, Some(bad_pointer));
+    }
+    Ok(())
+}
+
+#[test]
+fn bad_weak_object(rt: HostRuntime) -> Result<(), Fail> {
+    let image = image_of(rt.alloc(), &BAD_WEAK, 0x1020)?;
+    let bad_weak = Some(Fault::BadWeak { address: 0x1018 });
+    assert_defects(&rt, &image, Weak::Keep, &[None; 4]);
+    assert_defects(&rt, &image, Weak::Clear, &[None, None, bad_weak, None]);
+    assert_eq!(rt; lowest_defect(&rt, &image, Weak::Keep)?, None);
+    assert_eq!(rt; lowest_defect(&rt, &image, Weak::Clear)?, bad_weak);
+    Ok(())
+}
+
+#[test]
+fn images_without_nil(rt: HostRuntime) -> Result<(), Fail> {
+    assert_lacks_nil(&rt, &image_of(rt.alloc(), &ONE_OBJECT, 0x1000)?, true);
+    assert_lacks_nil(&rt, &image_of(rt.alloc(), &WEAK_SPECIAL, 0x1004)?, true);
+    assert_lacks_nil(&rt, &image_of(rt.alloc(), &BAD_WEAK, 0x1020)?, false);
     Ok(())
 }

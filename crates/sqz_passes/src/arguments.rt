@@ -14,6 +14,8 @@ pub(crate) struct Arguments<'a> {
     pub region_words: u32,
     /// How often the passes are run.
     pub runs: u32,
+    /// Whether weak slots are cleared.
+    pub clear_weak: bool,
 }
 
 /// Reads the words of a command line, of which the first is the program's name.
@@ -36,18 +38,25 @@ pub(crate) fn read_arguments<'a>(
         "How many words a region has [default: 65536]",
     );
     let runs = number(alloc, "runs", "How many runs [default: 3]");
+    let clear_weak = Arg::new(alloc, "clear-weak")
+        .long("clear-weak")
+        .help("Let go of what only weak references name")
+        .action(ArgAction::SetTrue)
+        .value_parser(value_parser!(bool));
     let matches = Command::new(alloc, "sqz_passes")
         .about("Prints how long each pass of a run takes, in milliseconds")
         .arg(input)?
         .arg(workers)?
         .arg(region_words)?
         .arg(runs)?
+        .arg(clear_weak)?
         .try_get_matches_from(words)?;
     Ok(Arguments {
         input: matches.get_str("IN").unwrap_or(""),
         workers: matches.get_one("workers").unwrap_or(4),
         region_words: matches.get_one("region-words").unwrap_or(65_536),
         runs: matches.get_one("runs").unwrap_or(3),
+        clear_weak: matches.get_flag("clear-weak"),
     })
 }
 

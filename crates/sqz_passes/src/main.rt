@@ -11,6 +11,7 @@ use arguments::{Arguments, read_arguments};
 use passes::{Work, print_passes};
 use sqz_marks::Workers;
 use sqz_regions::Cut;
+use sqz_trace::Weak;
 use std::alloc::Global;
 use std::env;
 use std::process::ExitCode;
@@ -31,6 +32,11 @@ fn run<R: Files + Threads + Sync + Clock + Print>(
         input: arguments.input,
         workers: Workers::new(arguments.workers)?,
         cut: Cut::every(arguments.region_words)?,
+        weak: if arguments.clear_weak {
+            Weak::Clear
+        } else {
+            Weak::Keep
+        },
     };
     print_passes(rt, alloc, &work, arguments.runs)
 }

@@ -7,11 +7,11 @@ use crate::stopwatch::Stopwatch;
 use anyhow::Result;
 use sqz_census::{census, print};
 use sqz_image::laws::heap_bounds;
-use sqz_image::{Image, ReadSource, WriteSink, read_all, read_image, write_image};
+use sqz_image::{Fault, Image, ReadSource, WriteSink, read_all, read_image, write_image};
 use sqz_marks::Workers;
 use sqz_regions::{Cut, Forward, Regions, bases};
 use sqz_slide::slide;
-use sqz_trace::{first_defect, mark_plain};
+use sqz_trace::{Weak, first_defect, lacks_nil, mark_plain};
 use sqz_workers::{OpenGate, mark};
 use std::alloc::Global;
 use std::fs::File;
@@ -29,6 +29,8 @@ pub(crate) struct Work<'a> {
     pub input: &'a str,
     pub workers: Workers,
     pub cut: Cut,
+    /// What becomes of weak slots.
+    pub weak: Weak,
 }
 
 /// Prints a line of the passes' names, and for each run a line of milliseconds.
@@ -81,14 +83,18 @@ fn print_compaction<R: Files + Threads + Sync + Clock + Print>(
     requires { AllByRecursion IsChunk image.now.memory.chunks }
 {
     let heap = image.heap();
+    let weak = work.weak;
     heap_bounds(heap);
+    if lacks_nil(heap, weak) {
+        return Err(Fault::NoNil.into());
+    }
     let regions = Regions::of(alloc, heap, &work.cut)?;
     watch.lap(rt)?;
-    drop(mark_plain(alloc, heap)?);
+    drop(mark_plain(alloc, heap, weak)?);
     watch.lap(rt)?;
-    let marked = mark(rt, alloc, heap, &regions, work.workers, &OpenGate)?;
+    let marked = mark(rt, alloc, heap, weak, &regions, work.workers, &OpenGate)?;
     watch.lap(rt)?;
-    if let Some(fault) = first_defect(rt, heap, &marked.marks) {
+    if let Some(fault) = first_defect(rt, heap, weak, &marked.marks) {
         return Err(fault.into());
     }
     watch.lap(rt)?;
@@ -98,9 +104,18 @@ fn print_compaction<R: Files + Threads + Sync + Clock + Print>(
     watch.lap(rt)?;
     let forward = Forward::build(rt, alloc, heap, &regions, marks, &bases)?;
     watch.lap(rt)?;
-    let pieces = slide(rt, alloc, heap, &regions, &forward, work.workers, &OpenGate)?;
+    let pieces = slide(
+        rt,
+        alloc,
+        heap,
+        weak,
+        &regions,
+        &forward,
+        work.workers,
+        &OpenGate,
+    )?;
     watch.lap(rt)?;
-    let rows = census(rt, alloc, heap, marks, &forward)?;
+    let rows = census(rt, alloc, heap, weak, marks, &forward)?;
     watch.lap(rt)?;
     let _text = print(alloc, &rows)?;
     watch.lap(rt)?;

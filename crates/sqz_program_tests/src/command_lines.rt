@@ -30,6 +30,12 @@ fn wants_two_paths(rt: HostRuntime) -> Result<(), Fail> {
 }
 
 #[test]
+fn takes_a_flag_once_and_without_a_value(rt: HostRuntime) -> Result<(), Fail> {
+    assert_not_taken(&rt, &["--clear-weak=1", "a", "b"])?;
+    assert_not_taken(&rt, &["--clear-weak", "--clear-weak", "a", "b"])
+}
+
+#[test]
 fn refuses_numbers(rt: HostRuntime) -> Result<(), Fail> {
     let workers = "fault 18: workers must be from 1 to 64\n";
     let cut = "fault 19: region cut is not valid\n";

@@ -23,12 +23,6 @@ fn lines_of_faults(rt: HostRuntime) -> Result<(), Fail> {
             "fault 14: bad pointer in object fffffffc, class\n",
         ),
         (Fault::OutOfMemory, 4, "fault 15: out of memory\n"),
-        (
-            Fault::BadWeak { address },
-            1,
-            "fault 20: bad weak object 00001004\n",
-        ),
-        (Fault::NoNil, 1, "fault 21: nil not found\n"),
     ];
     for (fault, exit, line) in &lines {
         let mut err = MemorySink::new(rt.alloc(), 100, None)?;

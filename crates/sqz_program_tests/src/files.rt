@@ -1,6 +1,6 @@
 //! The program, over files of the operating system.
 
-use super::images::{compacted_image, whole_image};
+use super::images::{cleared_image, compacted_image, weak_image, whole_image};
 use super::programs::{assert_ended, run_program};
 use std::fs::File;
 use std::io::{Read, Write};
@@ -17,12 +17,21 @@ fn make_image<R: AllocGlobal + Files>(rt: &R, path: &str) -> Result<(), Fail> {
     Ok(())
 }
 
-/// Asserts that a file holds the image without its dead object.
-fn assert_compacted<R: Abort + AllocGlobal + Files>(rt: &R, path: &str) -> Result<(), Fail> {
+/// Asserts that a file holds these bytes.
+fn assert_holds<R: Abort + AllocGlobal + Files>(
+    rt: &R,
+    path: &str,
+    wanted: &[u8],
+) -> Result<(), Fail> {
     let mut found = Vec::new(rt.alloc());
     File::open(rt, path)?.read_to_end(&mut found)?;
-    assert_eq!(rt; found, compacted_image(rt.alloc())?);
+    assert_eq!(rt; found.as_slice(), wanted);
     Ok(())
+}
+
+/// Asserts that a file holds the image without its dead object.
+fn assert_compacted<R: Abort + AllocGlobal + Files>(rt: &R, path: &str) -> Result<(), Fail> {
+    assert_holds(rt, path, &compacted_image(rt.alloc())?)
 }
 
 /// Asserts that the program compacts one file into another.
@@ -68,6 +77,19 @@ fn prints_a_census(rt: HostRuntime) -> Result<(), Fail> {
     assert_eq!(rt; ended.out.as_slice(), text.as_bytes());
     assert!(rt; ended.err.is_empty());
     assert_compacted(&rt, "kept.image")
+}
+
+#[test]
+fn clears_weak_slots_where_it_is_asked_to(rt: HostRuntime) -> Result<(), Fail> {
+    let image = weak_image(rt.alloc())?;
+    File::create(&rt, "weak.image")?.write_all(&image)?;
+    let words = ["--clear-weak", "weak.image", "cleared.image"];
+    let ended = run_program(&rt, rt.alloc(), &words)?;
+    assert_ended(&rt, &ended, 0, "");
+    assert_holds(&rt, "cleared.image", &cleared_image(rt.alloc())?)?;
+    let ended = run_program(&rt, rt.alloc(), &["weak.image", "as_before.image"])?;
+    assert_ended(&rt, &ended, 0, "");
+    assert_holds(&rt, "as_before.image", &image)
 }
 
 #[test]

@@ -19,6 +19,22 @@ pub(crate) fn compacted_image(alloc: Global) -> Result<Vec<u8>, AllocError> {
     file_of(alloc, Order::Little, 0x1000, &words, 0x1004)
 }
 
+/// An image with a weak object, of which the weak slot names an object that nothing else does.
+pub(crate) fn weak_image(alloc: Global) -> Result<Vec<u8>, AllocError> {
+    let words = [
+        0x1007, 0x1113, 1, 1, 0x405, 0x100B, 1, 0x1005, 0x409, 0x1014, 0x320F, 0x1000, 0x1020,
+    ];
+    file_of(alloc, Order::Little, 0x1000, &words, 0x1028)
+}
+
+/// What is left of it where weak slots are cleared.
+pub(crate) fn cleared_image(alloc: Global) -> Result<Vec<u8>, AllocError> {
+    let words = [
+        0x1007, 0x1113, 1, 1, 0x405, 0x1005, 0x409, 0x1000, 0x320F, 0x1000, 0x1018,
+    ];
+    file_of(alloc, Order::Little, 0x1000, &words, 0x1020)
+}
+
 /// An image of more than a MiB, which is several blocks of 64 KiB: a class, a dead array of two fields if it is to have
 /// one, then an object of many bytes, and the special objects array, which names it.
 pub(crate) fn large_image(alloc: Global, has_dead: bool) -> Result<Vec<u8>, AllocError> {

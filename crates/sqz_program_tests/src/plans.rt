@@ -46,6 +46,7 @@ fn workers_and_regions_that_are_asked_for(rt: HostRuntime) -> Result<(), Fail> {
         workers: 3,
         region_words: 1,
         census: false,
+        clear_weak: false,
     };
     let gate = Counts {
         markers: AtomicU64::new(0),

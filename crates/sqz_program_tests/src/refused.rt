@@ -10,18 +10,28 @@ use std::sync::Wait;
 use std::test::Fail;
 use std::thread::Threads;
 
-/// Asserts that the program refuses an image with 1 and this line, and does nothing to the other file.
-fn assert_refuses<R: Threads + Wait + Sync + Abort + AllocGlobal + Drop>(
+/// Asserts that the program, given these words, refuses an image with 1 and this line, and does nothing to the other file.
+fn assert_refuses_at<R: Threads + Wait + Sync + Abort + AllocGlobal + Drop>(
     rt: &R,
+    words: &[&str],
     image: &[u8],
     line: &str,
 ) -> Result<(), Fail> {
     let disk = Disk::new(rt.alloc(), image, SOUND);
     let files = TestFiles { disk: &disk, rt };
-    let ended = run_program(&files, rt.alloc(), &[IN, SOUND.output])?;
+    let ended = run_program(&files, rt.alloc(), words)?;
     assert_ended(rt, &ended, 1, line);
     assert_eq!(rt; disk.into_written().calls.makings, 0);
     Ok(())
+}
+
+/// Asserts it of the two paths alone.
+fn assert_refuses<R: Threads + Wait + Sync + Abort + AllocGlobal + Drop>(
+    rt: &R,
+    image: &[u8],
+    line: &str,
+) -> Result<(), Fail> {
+    assert_refuses_at(rt, &[IN, SOUND.output], image, line)
 }
 
 #[test]
@@ -88,6 +98,27 @@ fn data_words(rt: HostRuntime) -> Result<(), Fail> {
         assert!(rt; words.len() < 1000);
         let image = file_of(rt.alloc(), Order::Little, 0x1000, words, special)?;
         assert_refuses(&rt, &image, line)?;
+    }
+    Ok(())
+}
+
+#[test]
+fn weak_slots_that_cannot_be_cleared(rt: HostRuntime) -> Result<(), Fail> {
+    let some: [(&[u32], u32, &str); 2] = [
+        (
+            &[
+                0x1007, 0x1113, 1, 1, 0x1000, 0x100B, 1, 0x1005, 0x409, 0x1014, 0x320F, 0x1000,
+                0x1020,
+            ],
+            0x1028,
+            "fault 20: bad weak object 00001020\n",
+        ),
+        (&[0x3207], 0x1000, "fault 21: nil not found\n"),
+    ];
+    for (words, special, line) in some {
+        assert!(rt; words.len() < 1000);
+        let image = file_of(rt.alloc(), Order::Little, 0x1000, words, special)?;
+        assert_refuses_at(&rt, &["--clear-weak", IN, SOUND.output], &image, line)?;
     }
     Ok(())
 }

@@ -3,20 +3,22 @@
 use super::runs::{Data, SOUND, data_of, file_with, plan_of, run_over};
 use sqz_object::Order;
 use sqz_test_images::{NAME, class_words};
+use sqz_trace::Weak;
 use std::process::Abort;
 use std::sync::Wait;
 use std::test::Fail;
 use std::thread::Threads;
 
 /// Asserts that the census of an image has this text.
-fn assert_census<R: Threads + Wait + Sync + Abort + AllocGlobal>(
+pub(crate) fn assert_census<R: Threads + Wait + Sync + Abort + AllocGlobal>(
     rt: &R,
+    weak: Weak,
     order: Order,
     data: Data<'_>,
     text: &str,
 ) -> Result<(), Fail> {
     let file = file_with(rt, order, data)?;
-    let outcome = run_over(rt, rt.alloc(), &plan_of(true)?, file, &SOUND)?;
+    let outcome = run_over(rt, rt.alloc(), &plan_of(weak, true)?, file, &SOUND)?;
     assert!(rt; outcome.answer.is_ok());
     assert_eq!(rt; outcome.census.as_slice(), text.as_bytes());
     Ok(())
@@ -30,7 +32,13 @@ fn objects_without_a_class(rt: HostRuntime) -> Result<(), Fail> {
         "         1            4 -------- compact 1\n",
         "         2           12 total\n",
     );
-    assert_census(&rt, Order::Little, data_of(&words, 0x1010), text)
+    assert_census(
+        &rt,
+        Weak::Keep,
+        Order::Little,
+        data_of(&words, 0x1010),
+        text,
+    )
 }
 
 #[test]
@@ -42,14 +50,20 @@ fn class_with_a_name(rt: HostRuntime) -> Result<(), Fail> {
         "         1           12 -------- compact 2\n",
         "         5          176 total\n",
     );
-    assert_census(&rt, Order::Little, data_of(&words, 0x1038), text)?;
+    assert_census(
+        &rt,
+        Weak::Keep,
+        Order::Little,
+        data_of(&words, 0x1038),
+        text,
+    )?;
     let text = concat!(
         "         2          128 -------- compact 3\n",
         "         2           36 00001004 ejbO??\n",
         "         1           12 -------- compact 2\n",
         "         5          176 total\n",
     );
-    assert_census(&rt, Order::Big, data_of(&words, 0x1038), text)
+    assert_census(&rt, Weak::Keep, Order::Big, data_of(&words, 0x1038), text)
 }
 
 #[test]
@@ -60,7 +74,13 @@ fn class_without_a_name(rt: HostRuntime) -> Result<(), Fail> {
         "         2           36 00001004 ?\n",
         "         4          164 total\n",
     );
-    assert_census(&rt, Order::Little, data_of(&words, 0x1038), text)
+    assert_census(
+        &rt,
+        Weak::Keep,
+        Order::Little,
+        data_of(&words, 0x1038),
+        text,
+    )
 }
 
 #[test]
@@ -76,5 +96,11 @@ fn metaclass(rt: HostRuntime) -> Result<(), Fail> {
         "         1           12 -------- compact 2\n",
         "         6          208 total\n",
     );
-    assert_census(&rt, Order::Little, data_of(&words, 0x1058), text)
+    assert_census(
+        &rt,
+        Weak::Keep,
+        Order::Little,
+        data_of(&words, 0x1058),
+        text,
+    )
 }

@@ -1,16 +1,30 @@
-//! Images that are accepted, and what they are compacted to.
+//! Images without weak objects that are accepted, and what they are compacted to.
 
 use super::runs::{Data, assert_compacts, assert_writes, data_of};
 use sqz_object::Order;
 use sqz_test_images::{NAME, class_words, file_of};
 use sqz_tool::Summary;
+use sqz_trace::Weak;
+use std::process::Abort;
+use std::sync::Wait;
 use std::test::Fail;
+use std::thread::Threads;
 
 /// A word that is neither an integer nor an address.
 const ODD: u32 = 0xFFFF_FFFE;
 
 /// The header field of a method that states one literal; the bits that count none are all set.
 const METHOD: u32 = 0xFFFC_07FF;
+
+/// Asserts what is left of an image, whether weak slots are kept or cleared.
+fn assert_left<R: Threads + Wait + Sync + Abort + AllocGlobal>(
+    rt: &R,
+    data: Data<'_>,
+    answer: Data<'_>,
+) -> Result<(), Fail> {
+    assert_compacts(rt, Weak::Keep, data, answer)?;
+    assert_compacts(rt, Weak::Clear, data, answer)
+}
 
 #[test]
 fn numbers_of_a_run(rt: HostRuntime) -> Result<(), Fail> {
@@ -25,14 +39,13 @@ fn numbers_of_a_run(rt: HostRuntime) -> Result<(), Fail> {
         data_before: 24,
         data_after: 12,
     };
-    assert_eq!(rt; assert_writes(&rt, file, &wanted)?, summary);
+    assert_eq!(rt; assert_writes(&rt, Weak::Keep, file, &wanted)?, summary);
     Ok(())
 }
 
 #[test]
 fn same_as_it_was(rt: HostRuntime) -> Result<(), Fail> {
-    let some: [(&[u32], u32); 9] = [
-        (&[0x3207], 0x1000),
+    let some: [(&[u32], u32); 7] = [
         (
             &[
                 0x1007,
@@ -75,19 +88,12 @@ fn same_as_it_was(rt: HostRuntime) -> Result<(), Fail> {
             ],
             0x1014,
         ),
-        (
-            &[
-                0x1007, 0x1113, 1, 1, 0x405, 0x100B, 1, 0x1005, 0x409, 0x1014, 0x320F, 0x1000,
-                0x1020,
-            ],
-            0x1028,
-        ),
     ];
     for (words, special) in some {
-        assert_compacts(&rt, data_of(words, special), data_of(words, special))?;
+        assert_left(&rt, data_of(words, special), data_of(words, special))?;
     }
     let words = class_words(rt.alloc(), NAME)?;
-    assert_compacts(&rt, data_of(&words, 0x1038), data_of(&words, 0x1038))
+    assert_left(&rt, data_of(&words, 0x1038), data_of(&words, 0x1038))
 }
 
 #[test]
@@ -104,7 +110,7 @@ fn dead_object_of_any_kind(rt: HostRuntime) -> Result<(), Fail> {
         (&[0x1007, 0x320F, 0x1002, 1, 0x320B, 0x1000], 0x1010),
     ];
     for (words, special) in some {
-        assert_compacts(&rt, data_of(words, special), answer)?;
+        assert_left(&rt, data_of(words, special), answer)?;
     }
     Ok(())
 }
@@ -122,7 +128,7 @@ fn highest_base(rt: HostRuntime) -> Result<(), Fail> {
         words: &[0x1007, 0x320B, base],
         special: 0xFFFF_FFEC,
     };
-    assert_compacts(&rt, whole, answer)
+    assert_left(&rt, whole, answer)
 }
 
 #[test]
@@ -131,14 +137,14 @@ fn class_words_that_move(rt: HostRuntime) -> Result<(), Fail> {
         0x1007, 0x320F, 1, 1, 0x100B, 1, 0x1011, 0x109, 1, 0x320F, 0x1000, 0x101C,
     ];
     let answer = [0x1007, 0x100B, 1, 0x1005, 0x109, 1, 0x320F, 0x1000, 0x1010];
-    assert_compacts(&rt, data_of(&two, 0x1024), data_of(&answer, 0x1018))?;
+    assert_left(&rt, data_of(&two, 0x1024), data_of(&answer, 0x1018))?;
     let three = [
         0x1007, 0x320F, 1, 1, 0x100B, 1, 8, 0x1010, 0x3FC, 1, 0x320F, 0x1000, 0x1020,
     ];
     let answer = [
         0x1007, 0x100B, 1, 8, 0x1004, 0x3FC, 1, 0x320F, 0x1000, 0x1014,
     ];
-    assert_compacts(&rt, data_of(&three, 0x1028), data_of(&answer, 0x101C))
+    assert_left(&rt, data_of(&three, 0x1028), data_of(&answer, 0x101C))
 }
 
 #[test]
@@ -151,7 +157,7 @@ fn contexts(rt: HostRuntime) -> Result<(), Fail> {
         0x1007, 0x100B, 1, 0xD32F, 0x1000, 1, 3, 0x1000, 0x1000, 0x1000, 0x1004, 0x1014, 2, ODD,
         0x320F, 0x1000, 0x100C,
     ];
-    assert_compacts(&rt, data_of(&words, 0x1048), data_of(&answer, 0x1038))?;
+    assert_left(&rt, data_of(&words, 0x1048), data_of(&answer, 0x1038))?;
     let with_class_word = [
         0x1007, 0x320F, 1, 1, 0x100B, 1, 0x1011, 0xE325, 0x1000, 1, 3, 0x1000, 0x1000, 0x1000,
         0x1010, 0x1002, 0x320F, 0x1000, 0x101C,
@@ -160,7 +166,7 @@ fn contexts(rt: HostRuntime) -> Result<(), Fail> {
         0x1007, 0x100B, 1, 0x1005, 0xE325, 0x1000, 1, 3, 0x1000, 0x1000, 0x1000, 0x1004, 0x1002,
         0x320F, 0x1000, 0x1010,
     ];
-    assert_compacts(
+    assert_left(
         &rt,
         data_of(&with_class_word, 0x1040),
         data_of(&answer, 0x1034),
@@ -175,14 +181,14 @@ fn methods(rt: HostRuntime) -> Result<(), Fail> {
     let answer = [
         0x1007, 0x100B, 1, 0x5C17, 0x801, 0x1004, 0x1000, 0x100C, 0x320F, 0x1000, 0x100C,
     ];
-    assert_compacts(&rt, data_of(&with_code, 0x1028), data_of(&answer, 0x1020))?;
+    assert_left(&rt, data_of(&with_code, 0x1028), data_of(&answer, 0x1020))?;
     let to_the_end = [
         0x1007, 0x100B, 1, 0x100B, 1, 0x5C13, 0x801, 0x100C, 0x1000, 0x320F, 0x1000, 0x1014,
     ];
     let answer = [
         0x1007, 0x100B, 1, 0x5C13, 0x801, 0x1004, 0x1000, 0x320F, 0x1000, 0x100C,
     ];
-    assert_compacts(&rt, data_of(&to_the_end, 0x1024), data_of(&answer, 0x101C))
+    assert_left(&rt, data_of(&to_the_end, 0x1024), data_of(&answer, 0x101C))
 }
 
 #[test]
@@ -190,7 +196,7 @@ fn bytes_and_words(rt: HostRuntime) -> Result<(), Fail> {
     for header in [0x150B, 0x160B, 0x180B, 0x1B0B] {
         let words = [0x1007, 0x320B, 1, header, 0x100C, 0x320F, 0x1000, 0x100C];
         let answer = [0x1007, header, 0x100C, 0x320F, 0x1000, 0x1004];
-        assert_compacts(&rt, data_of(&words, 0x1014), data_of(&answer, 0x100C))?;
+        assert_left(&rt, data_of(&words, 0x1014), data_of(&answer, 0x100C))?;
     }
     Ok(())
 }

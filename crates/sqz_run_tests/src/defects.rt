@@ -3,6 +3,7 @@
 
 use super::runs::assert_words_refused;
 use sqz_image::{Fault, Slot};
+use sqz_trace::Weak;
 use std::test::Fail;
 
 /// An object at 0x101C with this class word, and a special objects array whose last field is this.
@@ -42,7 +43,7 @@ const fn bad_class_word(address: u32) -> Fault {
 fn bad_fields(rt: HostRuntime) -> Result<(), Fail> {
     for word in [0x1002, 0x1006, 0x1008, 0x100C, 0xFFC, 0, 0xFFFF_FFFE] {
         let words = [0x1007, 0x320B, word];
-        assert_words_refused(&rt, &words, 0x1004, bad_field(0x1004, 0))?;
+        assert_words_refused(&rt, Weak::Keep, &words, 0x1004, bad_field(0x1004, 0))?;
     }
     let some: [(&[u32], u32, Fault); 4] = [
         (
@@ -63,7 +64,7 @@ fn bad_fields(rt: HostRuntime) -> Result<(), Fail> {
         ),
     ];
     for (words, special, fault) in some {
-        assert_words_refused(&rt, words, special, fault)?;
+        assert_words_refused(&rt, Weak::Keep, words, special, fault)?;
     }
     Ok(())
 }
@@ -104,7 +105,7 @@ fn bad_or_missing_classes(rt: HostRuntime) -> Result<(), Fail> {
         ),
     ];
     for (words, special, fault) in some {
-        assert_words_refused(&rt, words, special, fault)?;
+        assert_words_refused(&rt, Weak::Keep, words, special, fault)?;
     }
     Ok(())
 }
@@ -138,7 +139,7 @@ fn bad_methods(rt: HostRuntime) -> Result<(), Fail> {
         ),
     ];
     for (words, special, fault) in some {
-        assert_words_refused(&rt, words, special, fault)?;
+        assert_words_refused(&rt, Weak::Keep, words, special, fault)?;
     }
     Ok(())
 }
@@ -147,14 +148,14 @@ fn bad_methods(rt: HostRuntime) -> Result<(), Fail> {
 fn short_contexts(rt: HostRuntime) -> Result<(), Fail> {
     let fault = Fault::BadContext { address: 0x1004 };
     let words = [0x1007, 0xD30B, 1, 0x320F, 0x1000, 0x1004];
-    assert_words_refused(&rt, &words, 0x100C, fault)?;
+    assert_words_refused(&rt, Weak::Keep, &words, 0x100C, fault)?;
     let words = [0x1007, 0xD30F, 1, 1, 0x320F, 0x1000, 0x1004];
-    assert_words_refused(&rt, &words, 0x1010, fault)?;
+    assert_words_refused(&rt, Weak::Keep, &words, 0x1010, fault)?;
     for top in [1, 0x1000] {
         let words = [
             0x1007, 0xD31B, 0x1000, 1, top, 0x1000, 0x1000, 0x320F, 0x1000, 0x1004,
         ];
-        assert_words_refused(&rt, &words, 0x101C, fault)?;
+        assert_words_refused(&rt, Weak::Keep, &words, 0x101C, fault)?;
     }
     Ok(())
 }
@@ -171,7 +172,7 @@ fn stack_pointers(rt: HostRuntime) -> Result<(), Fail> {
         (0x1002, bad_field(0x101C, 2)),
     ];
     for (top, fault) in some {
-        assert_words_refused(&rt, &context(top), 0x1048, fault)?;
+        assert_words_refused(&rt, Weak::Keep, &context(top), 0x1048, fault)?;
     }
     Ok(())
 }

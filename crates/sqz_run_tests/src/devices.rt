@@ -3,6 +3,7 @@
 use super::runs::{Devices, SOUND, data_of, file_with, plan_of, run_over};
 use sqz_image::Fault;
 use sqz_object::Order;
+use sqz_trace::Weak;
 use std::process::Abort;
 use std::sync::Wait;
 use std::test::Fail;
@@ -24,7 +25,7 @@ fn assert_fails<R: Threads + Wait + Sync + Abort + AllocGlobal>(
     wanted.truncate(image);
     let mut text = Vec::from_slice(rt.alloc(), b"         1            8")?;
     text.truncate(census);
-    let outcome = run_over(rt, rt.alloc(), &plan_of(true)?, file, devices)?;
+    let outcome = run_over(rt, rt.alloc(), &plan_of(Weak::Keep, true)?, file, devices)?;
     assert_eq!(rt; outcome.answer, Err(fault));
     assert_eq!(rt; outcome.image, wanted);
     assert_eq!(rt; outcome.census, text);

@@ -4,6 +4,7 @@ use super::runs::assert_refused;
 use sqz_image::Fault;
 use sqz_object::Order;
 use sqz_test_images::put_words;
+use sqz_trace::Weak;
 use std::alloc::{AllocError, Global};
 use std::test::Fail;
 
@@ -52,8 +53,10 @@ fn first_fault_of_a_header(rt: HostRuntime) -> Result<(), Fail> {
     ];
     for (stated, length, fault) in &some {
         for order in [Order::Little, Order::Big] {
-            let file = file_that_states(rt.alloc(), order, stated, *length)?;
-            assert_refused(&rt, file, *fault)?;
+            for weak in [Weak::Keep, Weak::Clear] {
+                let file = file_that_states(rt.alloc(), order, stated, *length)?;
+                assert_refused(&rt, weak, file, *fault)?;
+            }
         }
     }
     Ok(())
@@ -65,5 +68,5 @@ fn behind_512_bytes(rt: HostRuntime) -> Result<(), Fail> {
     file.resize(512, 0x23)?;
     put_words(&mut file, Order::Little, &SOUND)?;
     put_words(&mut file, Order::Little, &REST)?;
-    assert_refused(&rt, file, Fault::BadVersion)
+    assert_refused(&rt, Weak::Keep, file, Fault::BadVersion)
 }

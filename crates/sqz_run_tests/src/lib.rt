@@ -17,3 +17,9 @@ mod plans;
 mod runs;
 #[cfg(test)]
 mod unreadable;
+#[cfg(test)]
+mod weak_censuses;
+#[cfg(test)]
+mod weak_faults;
+#[cfg(test)]
+mod weak_slots;

@@ -1,53 +1,110 @@
 //! One image by several plans: the answer is the same.
 
-use super::runs::{SOUND, data_of, file_with, run_over};
+use super::runs::{Data, SOUND, data_of, file_with, run_over};
+use super::weak_censuses::{CLEARED_CLASS, WEAK_CLASS, WEAK_CLASS_CENSUS};
 use sqz_marks::Workers;
 use sqz_object::Order;
 use sqz_regions::Cut;
 use sqz_test_images::{DEAD_CYCLE, DEAD_CYCLE_ANSWER};
 use sqz_tool::Plan;
+use sqz_trace::Weak;
 use std::process::Abort;
 use std::sync::Wait;
 use std::test::Fail;
 use std::thread::Threads;
 
-/// Asserts what so many workers write under a cut, and count.
+/// An image, and what a run over it writes: the answer, and the text of the census.
+#[derive(Clone, Copy)]
+struct Case<'a> {
+    data: Data<'a>,
+    answer: Data<'a>,
+    text: &'a str,
+}
+
+/// Asserts what a run by a plan writes.
 fn assert_answer<R: Threads + Wait + Sync + Abort + AllocGlobal>(
     rt: &R,
-    workers: u32,
-    cut: Cut,
+    plan: &Plan,
+    case: Case<'_>,
 ) -> Result<(), Fail> {
-    let plan = Plan {
-        workers: Workers::new(workers)?,
-        cut,
-        census: true,
-    };
-    let file = file_with(rt, Order::Little, data_of(&DEAD_CYCLE, 0x1024))?;
-    let outcome = run_over(rt, rt.alloc(), &plan, file, &SOUND)?;
+    let workers = plan.workers.number();
+    let file = file_with(rt, Order::Little, case.data)?;
+    let outcome = run_over(rt, rt.alloc(), plan, file, &SOUND)?;
     assert!(rt; outcome.answer.is_ok(), "with {workers} workers");
-    let wanted = file_with(rt, Order::Little, data_of(&DEAD_CYCLE_ANSWER, 0x1014))?;
+    let wanted = file_with(rt, Order::Little, case.answer)?;
     assert_eq!(rt; outcome.image, wanted, "with {workers} workers");
-    let text = concat!(
-        "         3           20 -------- compact 1\n",
-        "         1           12 -------- compact 3\n",
-        "         4           32 total\n",
-    );
     assert_eq!(rt;
         outcome.census.as_slice(),
-        text.as_bytes(),
+        case.text.as_bytes(),
         "with {workers} workers"
     );
     Ok(())
 }
 
-#[test]
-fn same_answer_for_each_plan(rt: HostRuntime) -> Result<(), Fail> {
+/// Asserts it of 1, 2 and 64 workers, and of regions of one word, of 65536 words and of all words.
+fn assert_answers<R: Threads + Wait + Sync + Abort + AllocGlobal>(
+    rt: &R,
+    weak: Weak,
+    case: Case<'_>,
+) -> Result<(), Fail> {
     for workers in [1, 2, 64] {
         for words in [1, 65_536, 1 << 30] {
-            assert_answer(&rt, workers, Cut::every(words)?)?;
+            let plan = Plan {
+                workers: Workers::new(workers)?,
+                cut: Cut::every(words)?,
+                weak,
+                census: true,
+            };
+            assert_answer(rt, &plan, case)?;
         }
-        let points = [1, 3].to_vec(rt.alloc())?;
-        assert_answer(&rt, workers, Cut::at(points)?)?;
     }
     Ok(())
+}
+
+/// The dead cycle's image.
+const DEAD_CYCLE_CASE: Case<'static> = Case {
+    data: Data {
+        base: 0x1000,
+        words: &DEAD_CYCLE,
+        special: 0x1024,
+    },
+    answer: Data {
+        base: 0x1000,
+        words: &DEAD_CYCLE_ANSWER,
+        special: 0x1014,
+    },
+    text: concat!(
+        "         3           20 -------- compact 1\n",
+        "         1           12 -------- compact 3\n",
+        "         4           32 total\n",
+    ),
+};
+
+#[test]
+fn same_answer_for_each_plan(rt: HostRuntime) -> Result<(), Fail> {
+    assert_answers(&rt, Weak::Keep, DEAD_CYCLE_CASE)
+}
+
+#[test]
+fn same_answer_where_cut_points_are_given(rt: HostRuntime) -> Result<(), Fail> {
+    for workers in [1, 2, 64] {
+        let plan = Plan {
+            workers: Workers::new(workers)?,
+            cut: Cut::at([1, 3].to_vec(rt.alloc())?)?,
+            weak: Weak::Keep,
+            census: true,
+        };
+        assert_answer(&rt, &plan, DEAD_CYCLE_CASE)?;
+    }
+    Ok(())
+}
+
+#[test]
+fn same_answer_where_weak_slots_are_cleared(rt: HostRuntime) -> Result<(), Fail> {
+    let case = Case {
+        data: data_of(&WEAK_CLASS, 0x1040),
+        answer: data_of(&CLEARED_CLASS, 0x1024),
+        text: WEAK_CLASS_CENSUS,
+    };
+    assert_answers(&rt, Weak::Clear, case)
 }

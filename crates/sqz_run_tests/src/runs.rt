@@ -8,6 +8,7 @@ use sqz_object::Order;
 use sqz_regions::Cut;
 use sqz_test_images::file_of;
 use sqz_tool::{Plan, Summary, run};
+use sqz_trace::Weak;
 use sqz_workers::OpenGate;
 use std::alloc::Global;
 use std::process::Abort;
@@ -44,10 +45,11 @@ pub(crate) struct Outcome {
 }
 
 /// A plan with two workers and regions of 65536 words.
-pub(crate) fn plan_of(census: bool) -> Result<Plan, Fault> {
+pub(crate) fn plan_of(weak: Weak, census: bool) -> Result<Plan, Fault> {
     Ok(Plan {
         workers: Workers::new(2)?,
         cut: Cut::every(65_536)?,
+        weak,
         census,
     })
 }
@@ -82,10 +84,11 @@ pub(crate) fn run_over<R: Threads + Wait + Sync>(
 /// Asserts that a run over a file writes this image and no census.
 pub(crate) fn assert_writes<R: Threads + Wait + Sync + Abort + AllocGlobal>(
     rt: &R,
+    weak: Weak,
     file: Vec<u8>,
     wanted: &[u8],
 ) -> Result<Summary, Fail> {
-    let outcome = run_over(rt, rt.alloc(), &plan_of(false)?, file, &SOUND)?;
+    let outcome = run_over(rt, rt.alloc(), &plan_of(weak, false)?, file, &SOUND)?;
     assert_eq!(rt; outcome.image.as_slice(), wanted);
     assert!(rt; outcome.census.is_empty());
     Ok(outcome.answer?)
@@ -94,10 +97,11 @@ pub(crate) fn assert_writes<R: Threads + Wait + Sync + Abort + AllocGlobal>(
 /// Asserts that a run over a file is refused with this fault, and writes nothing.
 pub(crate) fn assert_refused<R: Threads + Wait + Sync + Abort + AllocGlobal>(
     rt: &R,
+    weak: Weak,
     file: Vec<u8>,
     fault: Fault,
 ) -> Result<(), Fail> {
-    let outcome = run_over(rt, rt.alloc(), &plan_of(true)?, file, &SOUND)?;
+    let outcome = run_over(rt, rt.alloc(), &plan_of(weak, true)?, file, &SOUND)?;
     assert_eq!(rt; outcome.answer, Err(fault));
     assert!(rt; outcome.image.is_empty() && outcome.census.is_empty());
     Ok(())
@@ -133,13 +137,14 @@ pub(crate) fn file_with<R: Abort + AllocGlobal>(
 /// Asserts that data are compacted to others, in either byte order.
 pub(crate) fn assert_compacts<R: Threads + Wait + Sync + Abort + AllocGlobal>(
     rt: &R,
+    weak: Weak,
     data: Data<'_>,
     answer: Data<'_>,
 ) -> Result<(), Fail> {
     for order in [Order::Little, Order::Big] {
         let file = file_with(rt, order, data)?;
         let wanted = file_with(rt, order, answer)?;
-        assert_writes(rt, file, &wanted)?;
+        assert_writes(rt, weak, file, &wanted)?;
     }
     Ok(())
 }
@@ -148,13 +153,14 @@ pub(crate) fn assert_compacts<R: Threads + Wait + Sync + Abort + AllocGlobal>(
 /// order, and writes nothing.
 pub(crate) fn assert_words_refused<R: Threads + Wait + Sync + Abort + AllocGlobal>(
     rt: &R,
+    weak: Weak,
     words: &[u32],
     special: u32,
     fault: Fault,
 ) -> Result<(), Fail> {
     for order in [Order::Little, Order::Big] {
         let file = file_with(rt, order, data_of(words, special))?;
-        assert_refused(rt, file, fault)?;
+        assert_refused(rt, weak, file, fault)?;
     }
     Ok(())
 }

@@ -2,7 +2,22 @@
 
 use super::runs::assert_words_refused;
 use sqz_image::Fault;
+use sqz_trace::Weak;
+use std::process::Abort;
+use std::sync::Wait;
 use std::test::Fail;
+use std::thread::Threads;
+
+/// Asserts that a run over words is refused with this fault, whether weak slots are kept or cleared.
+fn assert_unreadable<R: Threads + Wait + Sync + Abort + AllocGlobal>(
+    rt: &R,
+    words: &[u32],
+    special: u32,
+    fault: Fault,
+) -> Result<(), Fail> {
+    assert_words_refused(rt, Weak::Keep, words, special, fault)?;
+    assert_words_refused(rt, Weak::Clear, words, special, fault)
+}
 
 #[test]
 fn chunk_that_cannot_be_read(rt: HostRuntime) -> Result<(), Fail> {
@@ -26,7 +41,7 @@ fn chunk_that_cannot_be_read(rt: HostRuntime) -> Result<(), Fail> {
         (&[0x1007, 0xC, 0x1000, 0x200, 1], overrun),
     ];
     for (words, fault) in some {
-        assert_words_refused(&rt, words, 0x1000, fault)?;
+        assert_unreadable(&rt, words, 0x1000, fault)?;
     }
     Ok(())
 }
@@ -46,7 +61,7 @@ fn first_fault(rt: HostRuntime) -> Result<(), Fail> {
         (&[0x1007, 0x3203], 0x1004, Fault::ZeroSize { word: 1 }),
     ];
     for (words, special, fault) in some {
-        assert_words_refused(&rt, words, special, fault)?;
+        assert_unreadable(&rt, words, special, fault)?;
     }
     Ok(())
 }
@@ -54,13 +69,13 @@ fn first_fault(rt: HostRuntime) -> Result<(), Fail> {
 #[test]
 fn no_special_objects_array(rt: HostRuntime) -> Result<(), Fail> {
     let fault = Fault::BadSpecialObjects;
-    assert_words_refused(&rt, &[0x3207], 0x1004, fault)?;
-    assert_words_refused(&rt, &[], 0x1000, fault)?;
+    assert_unreadable(&rt, &[0x3207], 0x1004, fault)?;
+    assert_unreadable(&rt, &[], 0x1000, fault)?;
     let words = [
         0x1007, 0xE, 1, 1, 0x100B, 1, 0x1011, 0x109, 1, 0x320F, 0x1000, 0x101C,
     ];
     for special in [0, 0xFFC, 0x1001, 0x1004, 0x1008, 0x1014, 0x1018, 0x1030] {
-        assert_words_refused(&rt, &words, special, fault)?;
+        assert_unreadable(&rt, &words, special, fault)?;
     }
     Ok(())
 }

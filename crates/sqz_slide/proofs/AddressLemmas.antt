@@ -10,11 +10,13 @@ use Rattle.sqz_regions.specs.Bases.{ArePlacesOf}
 use Rattle.sqz_slide.specs.Moved.{new_address}
 
 module _ (f : ℕ → ℕ) (front words : List ℕ) (k word : ℕ) where
-  -- one word more, of words that change one by one
-  pub map_one_more : k < length words → word ≡ f (get_or words k 0)
-      → (front ++ map f (take k words)) ++ word ∷ [] ≡ front ++ map f (take (k + 1) words)
-  map_one_more lt is =
-      append_assoc front (map f (take k words)) (word ∷ [])
+  -- one word more, of words that change one by one and are put behind others
+  pub map_one_more : (now next : List ℕ) → k < length words → word ≡ f (get_or words k 0) → now ≡ front ++ map f (take k words)
+      → next ≡ now ++ word ∷ [] → next ≡ front ++ map f (take (k + 1) words)
+  map_one_more now next lt is so_far pushed =
+      pushed
+      ∙ ap (λ (xs : List ℕ). xs ++ word ∷ []) so_far
+      ∙ append_assoc front (map f (take k words)) (word ∷ [])
       ∙ ap (λ (back : List ℕ). front ++ back)
       (ap (λ (x : ℕ). map f (take k words) ++ x ∷ []) is
       ∙ sym (map_push f (take k words) (get_or words k 0))

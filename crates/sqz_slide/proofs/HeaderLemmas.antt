@@ -1,12 +1,11 @@
 -- What an object's header becomes as it moves.
-use Rattle.std.proofs.Common.{◌≡◌, ℕ, zero, suc, ◌+◌, ◌<◌, ◌≤◌, Bool, cond, List, [], ◌∷◌, length, get_or, slice_index}
+use Rattle.std.proofs.Common.{◌≡◌, ℕ, ◌+◌, ◌<◌, Bool, List, [], ◌∷◌, length, slice_index}
 use Rattle.std.proofs.Common.{refl, sym, ap, subst, ◌∙◌, arith}
 use Rattle.sqz_object.specs.declared.chunk.Kind.{Kind}
 use Rattle.sqz_object.specs.declared.chunk.Kind.TheVariants.{Three, Two, Free, Short}
 use Rattle.sqz_object.specs.Chunk.{chunk_kind, words_before, before}
 use Rattle.sqz_image.specs.Objects.{Memory}
 use Rattle.sqz_slide.specs.Moved.{moved_class, moved_header}
-use Rattle.sqz_slide.specs.ClassWord.{is_class_word}
 
 module _ (memory : Memory) (marks : List Bool) where
   -- a header keeps its length
@@ -17,19 +16,6 @@ module _ (memory : Memory) (marks : List Bool) where
   length-moved_header Free (free ∷ rest) headed = refl
   length-moved_header Short (base ∷ fields) headed = refl
   length-moved_header _ _ headed = absurd (omega arith)
-
-  -- each word of a header stays, but the class word
-  pub moved_header-word : (kind : Kind) (chunk : List ℕ) (k : ℕ) → words_before kind < length chunk → k ≤ words_before kind
-      → get_or (moved_header memory marks kind chunk) k 0
-      ≡ cond (is_class_word kind k) (moved_class memory marks (slice_index chunk k)) (slice_index chunk k)
-  moved_header-word Three (size ∷ class ∷ base ∷ fields) zero headed le = refl
-  moved_header-word Three (size ∷ class ∷ base ∷ fields) (suc zero) headed le = refl
-  moved_header-word Three (size ∷ class ∷ base ∷ fields) (suc (suc zero)) headed le = refl
-  moved_header-word Two (class ∷ base ∷ fields) zero headed le = refl
-  moved_header-word Two (class ∷ base ∷ fields) (suc zero) headed le = refl
-  moved_header-word Free (free ∷ rest) zero headed le = refl
-  moved_header-word Short (base ∷ fields) zero headed le = refl
-  moved_header-word _ _ _ headed le = absurd (omega arith)
 
   -- of three header words the class word changes
   moved_header-three : (chunk : List ℕ) → 2 < length chunk
@@ -43,15 +29,6 @@ module _ (memory : Memory) (marks : List Bool) where
       → moved_header memory marks Two chunk ≡ moved_class memory marks (slice_index chunk 0) ∷ slice_index chunk 1 ∷ []
   moved_header-two (class ∷ base ∷ fields) lt = refl
   moved_header-two _ lt = absurd (omega arith)
-
-  -- one header word does not change
-  pub moved_header-one : (kind : Kind) (chunk : List ℕ) → words_before kind ≡ 0 → 0 < length chunk
-      → moved_header memory marks kind chunk ≡ slice_index chunk 0 ∷ []
-  moved_header-one Three chunk none lt = absurd (omega (arith, none))
-  moved_header-one Two chunk none lt = absurd (omega (arith, none))
-  moved_header-one Free (free ∷ rest) none lt = refl
-  moved_header-one Short (base ∷ fields) none lt = refl
-  moved_header-one _ [] none lt = absurd (omega arith)
 
   module _ (chunk words : List ℕ) (headed : before chunk < length chunk) (same : words ≡ chunk) (class : ℕ) where
     -- three header words after the move, where these words are those of the chunk

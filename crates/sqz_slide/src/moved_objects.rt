@@ -5,21 +5,23 @@ ghost use Rattle.sqz_object.specs.Chunk.{chunk_kind};
 ghost use Rattle.sqz_image.specs.Objects.{object_count};
 ghost use Rattle.sqz_regions.specs.Bases.{ArePlacesOf};
 ghost use Rattle.sqz_regions.specs.Regions.{region_count};
-ghost use Rattle.sqz_slide.specs.Moved.{moved_field, moved_header, moved};
+ghost use Rattle.sqz_trace.specs.declared.weak.Weak.{Weak};
+ghost use Rattle.sqz_slide.specs.Moved.{nil_place, moved_field, moved_weak, moved_header, moved};
 ghost use Rattle.sqz_slide.specs.Pieces.{moved_in};
 
-use crate::moved_words::{moved_class, moved_field};
+use crate::moved_words::{moved_class, moved_field, moved_weak, nil_place};
 use crate::piece_sizes::piece_size;
 use sqz_image::{Heap, Object};
 use sqz_object::Kind;
 use sqz_regions::{Forward, Regions};
-use sqz_trace::traced_fields;
+use sqz_trace::{Weak, is_weak, strong_fields};
 use std::alloc::{AllocError, Global};
 
 /// The words of the region's live objects after the move, in their order. Room is made for all of them at once.
 pub(crate) fn piece_of(
     alloc: Global,
     heap: &Heap,
+    weak: Weak,
     regions: &Regions<'_>,
     forward: &Forward,
     region: u32,
@@ -29,7 +31,7 @@ pub(crate) fn piece_of(
     requires one_each { length forward.now ≡ object_count heap.now }
     ensures { IfOk result (λ words. (marks : List Bool)
         → ArePlacesOf heap.now marks forward.now
-        → words.items ≡ moved_in regions.now marks region) }
+        → words.items ≡ moved_in regions.now weak marks region) }
 {
     let (from, to) = regions.objects(region);
     let room = piece_size(heap, forward, from, to) as usize;
@@ -37,7 +39,7 @@ pub(crate) fn piece_of(
     for index in from..to {
         if forward.place(index).is_some() {
             let object = heap.object(index);
-            push_moved(heap, &object, forward, &mut words)?;
+            push_moved(heap, weak, &object, forward, &mut words)?;
         }
     }
     Ok(words)
@@ -46,6 +48,7 @@ pub(crate) fn piece_of(
 /// Adds the words of an object after its move.
 fn push_moved(
     heap: &Heap,
+    weak: Weak,
     object: &Object<'_>,
     forward: &Forward,
     words: &mut Vec<u32>,
@@ -53,12 +56,18 @@ fn push_moved(
     requires one_each { length forward.now ≡ object_count heap.now }
     ensures { IfOk result (λ _. (marks : List Bool)
         → ArePlacesOf heap.now marks forward.now
-        → words.new.items ≡ words.old.items ++ moved heap.now marks object.now) }
+        → words.new.items ≡ words.old.items ++ moved heap.now weak marks object.now) }
 {
     push_header(heap, object, forward, words)?;
-    let (traced, rest) = object.fields().split_at(traced_fields(object) as usize);
-    push_traced(heap, traced, forward, words)?;
-    words.extend_from_slice(rest)?;
+    let strong = strong_fields(heap, weak, object) as usize;
+    let (strong, others) = object.fields().split_at(strong);
+    push_strong(heap, strong, forward, words)?;
+    if is_weak(weak, object) {
+        let nil = nil_place(heap, weak, forward);
+        push_weak(heap, others, forward, nil, words)?;
+    } else {
+        words.extend_from_slice(others)?;
+    }
     Ok(())
 }
 
@@ -89,8 +98,8 @@ fn push_header(
     Ok(())
 }
 
-/// Adds traced fields after the move.
-fn push_traced(
+/// Adds strong fields after the move.
+fn push_strong(
     heap: &Heap,
     fields: &[u32],
     forward: &Forward,
@@ -103,6 +112,26 @@ fn push_traced(
 {
     for field in fields {
         words.push(moved_field(heap, *field, forward))?;
+    }
+    Ok(())
+}
+
+/// Adds weak fields after the move, where nil has this place.
+fn push_weak(
+    heap: &Heap,
+    fields: &[u32],
+    forward: &Forward,
+    nil: Option<u32>,
+    words: &mut Vec<u32>,
+) -> Result<(), AllocError>
+    requires { length forward.now ≡ object_count heap.now }
+    ensures { IfOk result (λ _. (weak : Weak) (marks : List Bool)
+        → ArePlacesOf heap.now marks forward.now
+        → nil ≡ nil_place heap.now weak marks
+        → words.new.items ≡ words.old.items ++ map (moved_weak heap.now weak marks) fields.now) }
+{
+    for field in fields {
+        words.push(moved_weak(heap, *field, forward, nil))?;
     }
     Ok(())
 }

@@ -5,6 +5,7 @@ ghost use Rattle.std.specs.List.{concat};
 ghost use Rattle.std.specs.Thread.{IsSync};
 ghost use Rattle.sqz_image.specs.declared.fault.Fault.TheVariants.{OutOfMemory};
 ghost use Rattle.sqz_image.specs.Objects.{object_count};
+ghost use Rattle.sqz_trace.specs.declared.weak.Weak.{Weak};
 ghost use Rattle.sqz_regions.specs.Bases.{ArePlacesOf};
 ghost use Rattle.sqz_regions.specs.Regions.{Regioning};
 ghost use Rattle.sqz_slide.specs.Moved.{moved_objects};
@@ -15,6 +16,7 @@ use crate::pieces::Pieces;
 use sqz_image::{Fault, Heap};
 use sqz_marks::Workers;
 use sqz_regions::{Forward, Regions};
+use sqz_trace::Weak;
 use sqz_workers::{Gate, Phase};
 use std::alloc::{AllocError, Global};
 use std::thread;
@@ -27,6 +29,7 @@ pub fn slide<R: Threads + Sync, G: Gate>(
     rt: &R,
     alloc: Global,
     heap: &Heap,
+    weak: Weak,
     regions: &Regions<'_>,
     forward: &Forward,
     workers: Workers,
@@ -36,11 +39,11 @@ pub fn slide<R: Threads + Sync, G: Gate>(
     requires one_each { length forward.now ≡ object_count heap.now }
     ensures pieces { IfOk result (λ pieces. (marks : List Bool)
         → ArePlacesOf heap.now marks forward.now
-        → ArePieces regions.now marks pieces) }
+        → ArePieces regions.now weak marks pieces) }
     ensures whole { IfOk result (λ pieces. (marks : List Bool)
         → ArePlacesOf heap.now marks forward.now
         → length marks ≡ object_count heap.now
-        → concat pieces ≡ concat (moved_objects heap.now marks)) }
+        → concat pieces ≡ concat (moved_objects heap.now weak marks)) }
     ensures refused { IfErr result (λ fault. fault ≡ OutOfMemory) }
 {
     let shares = thread::map_indices(
@@ -54,8 +57,19 @@ pub fn slide<R: Threads + Sync, G: Gate>(
             requires one_each { length forward.now ≡ object_count heap.now }
             ensures { IfOk result (λ pieces. (marks : List Bool)
                 → ArePlacesOf heap.entry.now marks forward.entry.now
-                → IsShareOf regions.entry.now marks workers worker (map (λ piece. piece.items) pieces.items)) }
-        { share(alloc, heap, regions, forward, workers, worker as u32, gate) },
+                → IsShareOf regions.entry.now weak marks workers worker (map (λ piece. piece.items) pieces.items)) }
+        {
+            share(
+                alloc,
+                heap,
+                weak,
+                regions,
+                forward,
+                workers,
+                worker as u32,
+                gate,
+            )
+        },
     )?;
     Ok(Pieces::new(joined(alloc, regions.count(), shares)?))
 }
@@ -67,9 +81,9 @@ fn joined(
     shares: Vec<Result<Vec<Vec<u32>>, AllocError>>,
 ) -> Result<Vec<Vec<u32>>, AllocError>
     requires some { 0 < length shares.items }
-    ensures { IfOk result (λ pieces. (regions : Regioning) (marks : List Bool)
-        → AreShares regions marks shares.items
-        → ArePieces regions marks (map (λ piece. piece.items) pieces.items)) }
+    ensures { IfOk result (λ pieces. (regions : Regioning) (weak : Weak) (marks : List Bool)
+        → AreShares regions weak marks shares.items
+        → ArePieces regions weak marks (map (λ piece. piece.items) pieces.items)) }
 {
     let mut pieces = Vec::with_capacity(alloc, count as usize)?;
     for share in shares {
@@ -91,6 +105,7 @@ fn first_region(worker: u32, workers: Workers, regions: u32) -> u32
 fn share<G: Gate>(
     alloc: Global,
     heap: &Heap,
+    weak: Weak,
     regions: &Regions<'_>,
     forward: &Forward,
     workers: Workers,
@@ -102,7 +117,7 @@ fn share<G: Gate>(
     requires one_each { length forward.now ≡ object_count heap.now }
     ensures { IfOk result (λ pieces. (marks : List Bool)
         → ArePlacesOf heap.now marks forward.now
-        → IsShareOf regions.now marks workers worker (map (λ piece. piece.items) pieces.items)) }
+        → IsShareOf regions.now weak marks workers worker (map (λ piece. piece.items) pieces.items)) }
 {
     let count = regions.count();
     let from = first_region(worker, workers, count);
@@ -113,7 +128,7 @@ fn share<G: Gate>(
         if region > from {
             gate.pass(Phase::Slide, worker, u64::from(region - from));
         }
-        pieces.push(piece_of(alloc, heap, regions, forward, region)?)?;
+        pieces.push(piece_of(alloc, heap, weak, regions, forward, region)?)?;
     }
     Ok(pieces)
 }

@@ -2,7 +2,9 @@
 #![tactic(auto)]
 
 mod files;
+mod images;
 mod words;
 
 pub use files::{file_of, image_of, put_words};
+pub use images::{IMAGES, Words};
 pub use words::{DEAD_CYCLE, DEAD_CYCLE_ANSWER, NAME, class_words};

@@ -7,6 +7,7 @@ use Rattle.sqz_object.specs.Chunk.{IsChunk}
 use Rattle.sqz_object.specs.Bytes.{spelling_of}
 use Rattle.sqz_image.specs.File.{renewed, file_with}
 use Rattle.sqz_image.specs.Objects.{Memory, SavedImage, object_count, find, file_bytes}
+use Rattle.sqz_trace.specs.declared.weak.Weak.{Weak}
 use Rattle.sqz_trace.specs.Reachability.{IsReachability}
 use Rattle.sqz_trace.specs.Graph.{is_marked}
 use Rattle.sqz_regions.specs.Places.{place, live_words}
@@ -16,7 +17,7 @@ use Rattle.sqz_slide.proofs.LengthLemmas.{length-moved_objects}
 use Rattle.sqz_tool.specs.declared.summary.Summary.{Summary}
 use Rattle.sqz_tool.specs.Compacted.{new_special, compacted_header, compacted}
 
-module _ (memory : Memory) (marks : List Bool) (special_object : ℕ) (reachable : IsReachability memory marks)
+module _ (memory : Memory) (weak : Weak) (marks : List Bool) (special_object : ℕ) (reachable : IsReachability memory weak marks)
     (found : find memory memory.special ≡ Some special_object) where
   -- the special objects array is marked
   special_is_marked : is_marked marks special_object ≡ true
@@ -34,20 +35,20 @@ module _ (memory : Memory) (marks : List Bool) (special_object : ℕ) (reachable
       → slice_index_or places special_object None ≡ Some (place memory marks special_object)
   place_of_special places are inside = are.each special_object inside ∙ rw special_is_marked refl
 
-module _ (image : SavedImage) (marks : List Bool) (pieces : List (List ℕ)) (chunks : AllByRecursion IsChunk image.memory.chunks)
-    (words : concat pieces ≡ concat (moved_objects image.memory marks)) where
+module _ (image : SavedImage) (weak : Weak) (marks : List Bool) (pieces : List (List ℕ)) (chunks : AllByRecursion IsChunk image.memory.chunks)
+    (words : concat pieces ≡ concat (moved_objects image.memory weak marks)) where
   -- the pieces have as many words as the live objects
   length-pieces : length (concat pieces) ≡ live_words image.memory marks
-  length-pieces = ap length words ∙ length-moved_objects image.memory marks chunks
+  length-pieces = ap length words ∙ length-moved_objects image.memory weak marks chunks
 
   -- the pieces are what the definition writes
-  pub bytes_are : (special special_object : ℕ) → IsReachability image.memory marks
+  pub bytes_are : (special special_object : ℕ) → IsReachability image.memory weak marks
       → find image.memory image.memory.special ≡ Some special_object → special ≡ place image.memory marks special_object
-      → file_with image.memory.order image.header special pieces ≡ file_bytes (compacted image marks)
+      → file_with image.memory.order image.header special pieces ≡ file_bytes (compacted image weak marks)
   bytes_are special special_object reachable found special_is =
       let order = image.memory.order in
       let address : special ≡ new_special image.memory marks =
-      special_is ∙ sym (new_special-place image.memory marks special_object reachable found)
+      special_is ∙ sym (new_special-place image.memory weak marks special_object reachable found)
       in
       let header : renewed image.header (4 * length (concat pieces)) special ≡ compacted_header image marks =
       ap (λ (n : ℕ). renewed image.header (4 * n) special) length-pieces

@@ -14,22 +14,29 @@ use Rattle.sqz_tool.specs.Endings.{EndsWhole, EndsFaulty}
 use Rattle.sqz_command.specs.Exits.{exit_of, exit_of_number}
 use Rattle.sqz_tool.specs.FileRuns.{CompactsFiles, RefusesFiles}
 use Rattle.sqz_command.specs.Lines.{PrintsFault}
-use Rattle.sqz_tool.specs.Plans.{AsksForCensus}
+use Rattle.sqz_tool.specs.Plans.{weak_of, AsksToClear, AsksForCensus}
 
 -- no fault ends the program as done
 exit_of_number-some : (number : ℕ) → 0 < exit_of_number number
 exit_of_number-some number = grind (arith, nat_tests)
 
-module _ (words : List Text) (out new_out : SinkState) (exit : ℕ) (census : Bool)
-    (asked : IsTrue census ↔ AsksForCensus (matches_of command_line words)) where
+module _ (words : List Text) (out new_out : SinkState) (exit : ℕ) (clear census : Bool)
+    (clears : IsTrue clear ↔ AsksToClear (matches_of command_line words)) (asked : IsTrue census ↔ AsksForCensus (matches_of command_line words)) where
   pub ends_whole : (outcome : Result Summary Fault) → MatchResult outcome (λ _. exit ≡ 0) (λ fault. exit ≡ exit_of fault)
-      → IfOk outcome (λ summary. CompactsFiles census out new_out summary) → exit ≡ 0 → EndsWhole words out new_out
-  ends_whole (Ok summary) is compacts done = record { census = census; asked = asked; summary = summary; compacts = compacts }
+      → IfOk outcome (λ summary. CompactsFiles (weak_of clear) census out new_out summary) → exit ≡ 0 → EndsWhole words out new_out
+  ends_whole (Ok summary) is compacts done = record {
+    census = census;
+    asked = asked;
+    clear = clear;
+    clears = clears;
+    summary = summary;
+    compacts = compacts;
+  }
   ends_whole (Err fault) is compacts done = absurd (let some = exit_of_number-some (number_of_fault fault) in omega arith)
 
   pub ends_faulty : (err new_err : SinkState) (outcome : Result Summary Fault) → MatchResult outcome (λ _. exit ≡ 0) (λ fault. exit ≡ exit_of fault)
       → IfErr outcome (λ fault. PrintsFault err new_err fault)
-      → IfErr outcome (λ fault. fault ≢ BadWorkers → fault ≢ BadCut → fault ≢ ReadFailed → RefusesFiles census out new_out fault)
+      → IfErr outcome (λ fault. fault ≢ BadWorkers → fault ≢ BadCut → fault ≢ ReadFailed → RefusesFiles (weak_of clear) census out new_out fault)
       → 0 < exit → EndsFaulty words exit out new_out err new_err
   ends_faulty err new_err (Ok summary) is printed refuses some = absurd (omega arith)
   ends_faulty err new_err (Err fault) is printed refuses some =
@@ -40,6 +47,8 @@ module _ (words : List Text) (out new_out : SinkState) (exit : ℕ) (census : Bo
         refuses = λ one. record {
           census = census;
           asked = asked;
+          clear = clear;
+          clears = clears;
           refuses = refuses (not_one BadWorkers refl one) (not_one BadCut refl one) (not_one ReadFailed refl one);
         };
       }

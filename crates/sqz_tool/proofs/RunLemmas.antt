@@ -10,12 +10,13 @@ use Rattle.sqz_image.specs.Numbers.{number_of_fault}
 use Rattle.sqz_image.specs.Refusals.{file_fault, Holds, IsUnreadable, refusal_of}
 use Rattle.sqz_image.specs.Devices.{SourceState, ReadsWhole, ReadStops, WritesWhole, WriteStops}
 use Rattle.sqz_image.proofs.ReadingLemmas.{file_fault_low}
-use Rattle.sqz_trace.proofs.DefectLemmas.{first_defect-number}
+use Rattle.sqz_trace.specs.declared.weak.Weak.{Weak}
+use Rattle.sqz_trace.proofs.DefectLemmas.{IsOfImage, first_defect-number}
 use Rattle.sqz_tool.specs.declared.summary.Summary.{Summary}
 use Rattle.sqz_tool.specs.Compacted.{compacted}
-use Rattle.sqz_tool.specs.Verdict.{IsAccepted, HasDefect, IsRefused}
+use Rattle.sqz_tool.specs.Verdict.{IsAccepted, IsRefused}
 use Rattle.sqz_command.specs.Exits.{exit_of}
-use Rattle.sqz_tool.specs.Headline.{IsCompaction, HasDefectIn, Sinks, Reports, Compacts, RefusesFile, Refuses}
+use Rattle.sqz_tool.specs.Headline.{IsCompaction, LacksNilIn, HasDefectIn, Sinks, Reports, Compacts, RefusesFile, Refuses}
 
 -- ---- the refusals of a file
 
@@ -30,80 +31,91 @@ unreadable-number file fault (inr (inl unreadable)) =
       refusal_of-number Overrun word = omega arith
 unreadable-number file fault (inr (inr lacks)) = rw lacks.refused (omega arith)
 
--- and so have all
-pub IsRefused-number : (file : List ℕ) (fault : Fault) → IsRefused file fault → number_of_fault fault ≤ 14
-IsRefused-number file fault (inl unreadable) = unreadable-number file fault unreadable
-IsRefused-number file fault (inr defect) = first_defect-number defect.image.memory defect.marks fault defect.defect
+-- all have numbers of refusals of an image
+pub IsRefused-number : (weak : Weak) (file : List ℕ) (fault : Fault) → IsRefused weak file fault → IsOfImage (number_of_fault fault)
+IsRefused-number weak file fault (inl unreadable) = inl (unreadable-number file fault unreadable)
+IsRefused-number weak file fault (inr (inl lacks)) = rw lacks.refused (inr (omega arith))
+IsRefused-number weak file fault (inr (inr defect)) = first_defect-number defect.image.memory weak defect.marks fault defect.defect
 
 -- ---- the refusals of a run
 
-module _ (census : Bool) (from to : SourceState) (old new : Sinks) where
+-- a number between those of an image's refusals is none of theirs
+none_between : (number : ℕ) → 15 ≤ number → number ≤ 19 → IsOfImage number → ⊥
+none_between number low high (inl le) = absurd (omega arith)
+none_between number low high (inr ge) = absurd (omega arith)
+
+module _ (weak : Weak) (census : Bool) (from to : SourceState) (old new : Sinks) where
   -- those of a file are none of memory or of a device
-  file_refuses : (fault : Fault) → number_of_fault fault ≤ 14 → RefusesFile fault from to old new → Refuses census from to old new fault
-  file_refuses OutOfMemory le r = absurd (omega (arith, le))
-  file_refuses ReadFailed le r = absurd (omega (arith, le))
-  file_refuses WriteFailed le r = absurd (omega (arith, le))
-  file_refuses _ le r = r
+  file_refuses : (fault : Fault) → IsOfImage (number_of_fault fault) → RefusesFile weak fault from to old new
+      → Refuses weak census from to old new fault
+  file_refuses OutOfMemory of r = absurd (none_between 15 (omega arith) (omega arith) of)
+  file_refuses ReadFailed of r = absurd (none_between 16 (omega arith) (omega arith) of)
+  file_refuses WriteFailed of r = absurd (none_between 17 (omega arith) (omega arith) of)
+  file_refuses _ of r = r
 
   -- no refusal of a run is one of the command line's words
-  pub Refuses-exit : (fault : Fault) → Refuses census from to old new fault → exit_of fault ≢ 2
-  Refuses-exit BadWorkers r = absurd (let le = IsRefused-number r.file BadWorkers r.refused in omega arith)
-  Refuses-exit BadCut r = absurd (let le = IsRefused-number r.file BadCut r.refused in omega arith)
+  pub Refuses-exit : (fault : Fault) → Refuses weak census from to old new fault → exit_of fault ≢ 2
+  Refuses-exit BadWorkers r = absurd (none_between 18 (omega arith) (omega arith) (IsRefused-number weak r.file BadWorkers r.refused))
+  Refuses-exit BadCut r = absurd (none_between 19 (omega arith) (omega arith) (IsRefused-number weak r.file BadCut r.refused))
   Refuses-exit _ r = λ e. absurd (omega (arith, e))
 
   module _ (fault : Fault) where
     -- the source stopped before the end, or memory was refused
-    pub refuses_reading : new ≡ old → ReadStops from to fault → Refuses census from to old new fault
+    pub refuses_reading : new ≡ old → ReadStops from to fault → Refuses weak census from to old new fault
     refuses_reading untouched stops =
         elim stops.1 [
           | inl (memory, unfinished) ↦
-              subst (Refuses census from to old new) (sym memory)
+              subst (Refuses weak census from to old new) (sym memory)
               (record { front = stops.0.0; taken = stops.0.1; cause = inl unfinished; untouched = untouched })
           | inr (named, cause) ↦
-              subst (Refuses census from to old new) (sym named) (record { stops = (stops.0, inr (refl, cause)); untouched = untouched })
+              subst (Refuses weak census from to old new) (sym named) (record { stops = (stops.0, inr (refl, cause)); untouched = untouched })
         ]
 
     module _ (file : List ℕ) where
       -- memory was refused once a file with a sound header was read
       refuses_memory : new ≡ old → ReadsWhole from to file → fault ≡ OutOfMemory → file_fault file ≡ None
-          → Refuses census from to old new fault
+          → Refuses weak census from to old new fault
       refuses_memory untouched read memory sound =
-          subst (Refuses census from to old new) (sym memory)
+          subst (Refuses weak census from to old new) (sym memory)
           (record { front = file; taken = read.bytes; cause = inr (read, sound); untouched = untouched })
 
       -- the file is refused
-      refuses_for : new ≡ old → ReadsWhole from to file → IsRefused file fault → Refuses census from to old new fault
+      refuses_for : new ≡ old → ReadsWhole from to file → IsRefused weak file fault → Refuses weak census from to old new fault
       refuses_for untouched read refused =
-          file_refuses fault (IsRefused-number file fault refused)
+          file_refuses fault (IsRefused-number weak file fault refused)
           (record { file = file; read = read; refused = refused; untouched = untouched })
 
       -- no image was read of the file
       pub refuses_file : new ≡ old → ReadsWhole from to file
-          → ((fault ≡ OutOfMemory) × (file_fault file ≡ None)) ⊎ IsUnreadable file fault → Refuses census from to old new fault
+          → ((fault ≡ OutOfMemory) × (file_fault file ≡ None)) ⊎ IsUnreadable file fault → Refuses weak census from to old new fault
       refuses_file untouched read (inl (memory, sound)) = refuses_memory untouched read memory sound
       refuses_file untouched read (inr unreadable) = refuses_for untouched read (inl unreadable)
 
       -- the image that was read was not compacted
       pub refuses_image : (image : SavedImage) → new ≡ old → ReadsWhole from to file → Holds file image
-          → (fault ≡ OutOfMemory) ⊎ HasDefectIn image fault → Refuses census from to old new fault
+          → (fault ≡ OutOfMemory) ⊎ LacksNilIn weak image fault ⊎ HasDefectIn weak image fault → Refuses weak census from to old new fault
       refuses_image image untouched read holds (inl memory) = refuses_memory untouched read memory holds.parts.sound
-      refuses_image image untouched read holds (inr defect) =
-          let has : HasDefect file fault = record {
+      refuses_image image untouched read holds (inr (inl lacks)) =
+          refuses_for untouched read
+          (inr (inl (record { image = image; holds = holds; lacks = lacks.lacks; refused = lacks.refused })))
+      refuses_image image untouched read holds (inr (inr defect)) =
+          refuses_for untouched read
+          (inr (inr (record {
             image = image;
             marks = defect.marks;
             holds = holds;
+            has_nil = defect.has_nil;
             reachable = defect.reachable;
             defect = defect.defect;
-          } in
-          refuses_for untouched read (inr has)
+          })))
 
 -- ---- an image that was compacted
 
-module _ (census : Bool) (from to : SourceState) (old new : Sinks) (file : List ℕ) (image : SavedImage) (special : ℕ)
+module _ (weak : Weak) (census : Bool) (from to : SourceState) (old new : Sinks) (file : List ℕ) (image : SavedImage) (special : ℕ)
     (pieces : List (List ℕ)) (summary : Summary) (text : List ℕ) (read : ReadsWhole from to file) (holds : Holds file image)
-    (is : IsCompaction census image special pieces summary text) where
-  accepted : IsAccepted file image is.marks
-  accepted = record { holds = holds; reachable = is.reachable; sound = is.sound }
+    (is : IsCompaction weak census image special pieces summary text) where
+  accepted : IsAccepted weak file image is.marks
+  accepted = record { holds = holds; has_nil = is.has_nil; reachable = is.reachable; sound = is.sound }
 
   -- what is to be written
   abbrev bytes : List ℕ
@@ -111,11 +123,11 @@ module _ (census : Bool) (from to : SourceState) (old new : Sinks) (file : List 
 
   -- and not wholly written
   pub refuses_writing : (fault : Fault) → new.census ≡ old.census → WriteStops old.image new.image bytes fault
-      → Refuses census from to old new fault
+      → Refuses weak census from to old new fault
   refuses_writing fault untouched stops =
       let moved = subst (λ (b : List ℕ). WriteStops old.image new.image b fault) is.bytes stops in
-      let named = subst (WriteStops old.image new.image (file_bytes (compacted image is.marks))) stops.named moved in
-      subst (Refuses census from to old new) (sym stops.named)
+      let named = subst (WriteStops old.image new.image (file_bytes (compacted image weak is.marks))) stops.named moved in
+      subst (Refuses weak census from to old new) (sym stops.named)
       (record {
         file = file;
         read = read;
@@ -126,15 +138,15 @@ module _ (census : Bool) (from to : SourceState) (old new : Sinks) (file : List 
       })
 
   module _ (written : WritesWhole old.image new.image bytes) where
-    moved_written : WritesWhole old.image new.image (file_bytes (compacted image is.marks))
+    moved_written : WritesWhole old.image new.image (file_bytes (compacted image weak is.marks))
     moved_written = subst (WritesWhole old.image new.image) is.bytes written
 
     -- written, but the census is not
     pub refuses_report : (fault : Fault) → census ≡ true → WriteStops old.census new.census text fault
-        → Refuses census from to old new fault
+        → Refuses weak census from to old new fault
     refuses_report fault asked stops =
         let named = subst (WriteStops old.census new.census text) stops.named stops in
-        subst (Refuses census from to old new) (sym stops.named)
+        subst (Refuses weak census from to old new) (sym stops.named)
         (record {
           file = file;
           read = read;
@@ -145,7 +157,7 @@ module _ (census : Bool) (from to : SourceState) (old new : Sinks) (file : List 
         })
 
     -- and written, with what there is to report
-    pub compacts : Reports census image.memory is.marks old.census new.census → Compacts census from to old new summary
+    pub compacts : Reports weak census image.memory is.marks old.census new.census → Compacts weak census from to old new summary
     compacts reported =
         record {
           file = file;
@@ -159,12 +171,12 @@ module _ (census : Bool) (from to : SourceState) (old new : Sinks) (file : List 
         }
 
     -- no census is asked for
-    pub compacts_alone : census ≡ false → new.census ≡ old.census → Compacts census from to old new summary
+    pub compacts_alone : census ≡ false → new.census ≡ old.census → Compacts weak census from to old new summary
     compacts_alone unasked untouched =
-        compacts (subst (λ (c : Bool). Reports c image.memory is.marks old.census new.census) (sym unasked) untouched)
+        compacts (subst (λ (c : Bool). Reports weak c image.memory is.marks old.census new.census) (sym unasked) untouched)
 
     -- one is, and its text was written
-    pub compacts_and_reports : census ≡ true → WritesWhole old.census new.census text → Compacts census from to old new summary
+    pub compacts_and_reports : census ≡ true → WritesWhole old.census new.census text → Compacts weak census from to old new summary
     compacts_and_reports asked whole =
-        compacts (subst (λ (c : Bool). Reports c image.memory is.marks old.census new.census) (sym asked)
+        compacts (subst (λ (c : Bool). Reports weak c image.memory is.marks old.census new.census) (sym asked)
         (text, is.reported asked, whole))

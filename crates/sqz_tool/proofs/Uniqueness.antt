@@ -1,5 +1,5 @@
 -- A file has one compaction at most, one refusal at most, and not both.
-use Rattle.std.proofs.Common.{◌≡◌, ℕ, List, Bool, Some, None, sym, ap, subst, ◌∙◌, inl, inr, is_some}
+use Rattle.std.proofs.Common.{◌≡◌, ℕ, List, Bool, true, false, Some, None, sym, ap, subst, ◌∙◌, inl, inr, is_some}
 use Rattle.std.proofs.lemmas.Option.{none-some, same_Some}
 use Rattle.std.proofs.lemmas.Bool.{false≢true}
 use Rattle.sqz_object.specs.declared.order.Order.{Order}
@@ -11,18 +11,19 @@ use Rattle.sqz_image.specs.File.{data_of}
 use Rattle.sqz_image.specs.Refusals.{file_fault, refusal_of, HasChunks, Holds, HasNoPartition, HasUnreadableChunk}
 use Rattle.sqz_image.specs.Refusals.{LacksSpecialObjects, IsUnreadable}
 use Rattle.sqz_image.proofs.HoldsLemmas.{HasChunks-unique, Holds-unique}
+use Rattle.sqz_trace.specs.declared.weak.Weak.{Weak}
 use Rattle.sqz_trace.specs.Reachability.{IsReachability}
-use Rattle.sqz_trace.specs.Defects.{first_defect}
+use Rattle.sqz_trace.specs.Defects.{first_defect, lacks_nil}
 use Rattle.sqz_trace.proofs.ReachabilityLemmas.{IsReachability-unique}
-use Rattle.sqz_tool.specs.Verdict.{IsAccepted, HasDefect, IsRefused}
+use Rattle.sqz_tool.specs.Verdict.{IsAccepted, IsRefused}
 
-pub IsAccepted-unique : (file : List ℕ) (one other : SavedImage) (marks flags : List Bool) → IsAccepted file one marks
-    → IsAccepted file other flags → (one ≡ other) × (marks ≡ flags)
-IsAccepted-unique file one other marks flags p q =
+pub IsAccepted-unique : (weak : Weak) (file : List ℕ) (one other : SavedImage) (marks flags : List Bool)
+    → IsAccepted weak file one marks → IsAccepted weak file other flags → (one ≡ other) × (marks ≡ flags)
+IsAccepted-unique weak file one other marks flags p q =
     let same = Holds-unique file one other p.holds q.holds in (
       same,
-      IsReachability-unique other.memory marks flags
-          (subst (λ (i : SavedImage). IsReachability i.memory marks) same p.reachable) q.reachable,
+      IsReachability-unique other.memory weak marks flags
+          (subst (λ (i : SavedImage). IsReachability i.memory weak marks) same p.reachable) q.reachable,
     )
 
 module _ (file : List ℕ) where
@@ -69,14 +70,6 @@ module _ (file : List ℕ) where
       first.stuck second.stuck)
       ∙ sym second.refused
 
-  HasDefect-unique : (one other : Fault) → HasDefect file one → HasDefect file other → one ≡ other
-  HasDefect-unique one other p q =
-      let same : p.image ≡ q.image = Holds-unique file p.image q.image p.holds q.holds in
-      let marks : p.marks ≡ q.marks = IsReachability-unique q.image.memory p.marks q.marks
-      (subst (λ (i : SavedImage). IsReachability i.memory p.marks) same p.reachable) q.reachable in
-      same_Some one other
-      (sym p.defect ∙ ap (λ (i : SavedImage). first_defect i.memory p.marks) same ∙ ap (first_defect q.image.memory) marks ∙ q.defect)
-
   IsUnreadable-unique : (one other : Fault) → IsUnreadable file one → IsUnreadable file other → one ≡ other
   IsUnreadable-unique one other (inl p) (inl q) = same_Some one other (sym p ∙ q)
   IsUnreadable-unique one other (inl p) (inr (inl q)) = absurd (no_header_fault one q.sound p)
@@ -88,20 +81,48 @@ module _ (file : List ℕ) where
   IsUnreadable-unique one other (inr (inr p)) (inr (inl q)) = absurd (readable p.image other p.parts q)
   IsUnreadable-unique one other (inr (inr p)) (inr (inr q)) = p.refused ∙ sym q.refused
 
-  -- a file has one refusal at most
-  pub IsRefused-unique : (one other : Fault) → IsRefused file one → IsRefused file other → one ≡ other
-  IsRefused-unique one other (inl p) (inl q) = IsUnreadable-unique one other p q
-  IsRefused-unique one other (inl p) (inr q) = absurd (Holds-readable q.image one q.holds p)
-  IsRefused-unique one other (inr p) (inl q) = absurd (Holds-readable p.image other p.holds q)
-  IsRefused-unique one other (inr p) (inr q) = HasDefect-unique one other p q
+  module _ (weak : Weak) where
+    -- ---- what an image that it holds is refused for
 
-  -- and none where it is accepted
-  pub IsRefused-not_accepted : (fault : Fault) (image : SavedImage) (marks : List Bool) → IsRefused file fault
-      → IsAccepted file image marks → ⊥
-  IsRefused-not_accepted fault image marks (inl p) accepted = Holds-readable image fault accepted.holds p
-  IsRefused-not_accepted fault image marks (inr p) accepted =
-      let same : image ≡ p.image = Holds-unique file image p.image accepted.holds p.holds in
-      let one : marks ≡ p.marks = IsReachability-unique p.image.memory marks p.marks
-      (subst (λ (i : SavedImage). IsReachability i.memory marks) same accepted.reachable) p.reachable in
-      none-some fault (sym accepted.sound ∙ ap (λ (i : SavedImage). first_defect i.memory marks) same
-      ∙ ap (first_defect p.image.memory) one ∙ p.defect)
+    -- a nil that there is
+    no_nil_fault : (one other : SavedImage) → Holds file one → Holds file other → lacks_nil one.memory weak ≡ true
+        → lacks_nil other.memory weak ≡ false → ⊥
+    no_nil_fault one other p q lacks has =
+        let same : one ≡ other = Holds-unique file one other p q in
+        false≢true (sym has ∙ ap (λ (i : SavedImage). lacks_nil i.memory weak) (sym same) ∙ lacks)
+
+    -- one first defect
+    first_defect-same : (one other : SavedImage) (marks flags : List Bool) → Holds file one → Holds file other
+        → IsReachability one.memory weak marks → IsReachability other.memory weak flags
+        → first_defect one.memory weak marks ≡ first_defect other.memory weak flags
+    first_defect-same one other marks flags p q reachable others =
+        let same : one ≡ other = Holds-unique file one other p q in
+        ap (λ (i : SavedImage). first_defect i.memory weak marks) same
+        ∙ ap (first_defect other.memory weak)
+        (IsReachability-unique other.memory weak marks flags
+        (subst (λ (i : SavedImage). IsReachability i.memory weak marks) same reachable) others)
+
+    -- a file has one refusal at most
+    pub IsRefused-unique : (one other : Fault) → IsRefused weak file one → IsRefused weak file other → one ≡ other
+    IsRefused-unique one other (inl p) (inl q) = IsUnreadable-unique one other p q
+    IsRefused-unique one other (inl p) (inr (inl q)) = absurd (Holds-readable q.image one q.holds p)
+    IsRefused-unique one other (inl p) (inr (inr q)) = absurd (Holds-readable q.image one q.holds p)
+    IsRefused-unique one other (inr (inl p)) (inl q) = absurd (Holds-readable p.image other p.holds q)
+    IsRefused-unique one other (inr (inl p)) (inr (inl q)) = p.refused ∙ sym q.refused
+    IsRefused-unique one other (inr (inl p)) (inr (inr q)) = absurd (no_nil_fault p.image q.image p.holds q.holds p.lacks q.has_nil)
+    IsRefused-unique one other (inr (inr p)) (inl q) = absurd (Holds-readable p.image other p.holds q)
+    IsRefused-unique one other (inr (inr p)) (inr (inl q)) = absurd (no_nil_fault q.image p.image q.holds p.holds q.lacks p.has_nil)
+    IsRefused-unique one other (inr (inr p)) (inr (inr q)) =
+        same_Some one other
+        (sym p.defect ∙ first_defect-same p.image q.image p.marks q.marks p.holds q.holds p.reachable q.reachable ∙ q.defect)
+
+    -- and none where it is accepted
+    pub IsRefused-not_accepted : (fault : Fault) (image : SavedImage) (marks : List Bool) → IsRefused weak file fault
+        → IsAccepted weak file image marks → ⊥
+    IsRefused-not_accepted fault image marks (inl p) accepted = Holds-readable image fault accepted.holds p
+    IsRefused-not_accepted fault image marks (inr (inl p)) accepted =
+        no_nil_fault p.image image p.holds accepted.holds p.lacks accepted.has_nil
+    IsRefused-not_accepted fault image marks (inr (inr p)) accepted =
+        none-some fault
+        (sym accepted.sound
+        ∙ first_defect-same image p.image marks p.marks accepted.holds p.holds accepted.reachable p.reachable ∙ p.defect)

@@ -2,6 +2,7 @@
 use Rattle.std.specs.Prelude.{ℕ, ◌*◌, Bool, List}
 use Rattle.sqz_image.specs.Objects.{Memory, SavedImage, find}
 use Rattle.sqz_image.specs.File.{renewed}
+use Rattle.sqz_trace.specs.declared.weak.Weak.{Weak}
 use Rattle.sqz_regions.specs.Places.{live_words}
 use Rattle.sqz_slide.specs.Moved.{new_address, moved_objects}
 
@@ -10,13 +11,13 @@ abbrev pub new_special : Memory → List Bool → ℕ
 new_special memory marks = new_address memory marks memory.special (find memory memory.special)
 
 -- the live objects in their new places, from the same base on, and no free chunks
-abbrev pub compacted_memory : Memory → List Bool → Memory
-compacted_memory memory marks =
+abbrev pub compacted_memory : Memory → Weak → List Bool → Memory
+compacted_memory memory weak marks =
     record {
       order = memory.order;
       base = memory.base;
       special = new_special memory marks;
-      chunks = moved_objects memory marks;
+      chunks = moved_objects memory weak marks;
     }
 
 -- word 2 becomes the number of live bytes, word 4 the new address of the special objects array
@@ -25,6 +26,6 @@ compacted_header image marks =
     renewed image.header (4 * live_words image.memory marks) (new_special image.memory marks)
 
 -- the image that is left of an image, with marks that are reachability
-abbrev pub compacted : SavedImage → List Bool → SavedImage
-compacted image marks =
-    record { header = compacted_header image marks; memory = compacted_memory image.memory marks }
+abbrev pub compacted : SavedImage → Weak → List Bool → SavedImage
+compacted image weak marks =
+    record { header = compacted_header image marks; memory = compacted_memory image.memory weak marks }

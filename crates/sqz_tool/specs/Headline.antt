@@ -3,14 +3,15 @@ use Rattle.std.specs.Prelude.{◌≡◌, ◌⊎◌, ℕ, ◌*◌, ◌^◌, ◌<�
 use Rattle.std.specs.List.{concat}
 use Rattle.std.specs.Io.KnownBytes.{Consumes}
 use Rattle.sqz_image.specs.declared.fault.Fault.{Fault}
-use Rattle.sqz_image.specs.declared.fault.Fault.TheVariants.{OutOfMemory, ReadFailed, WriteFailed}
+use Rattle.sqz_image.specs.declared.fault.Fault.TheVariants.{OutOfMemory, ReadFailed, WriteFailed, NoNil}
 use Rattle.sqz_image.specs.File.{data_size, file_with}
 use Rattle.sqz_image.specs.Objects.{Memory, SavedImage, object_count, file_bytes}
 use Rattle.sqz_image.specs.Refusals.{file_fault}
 use Rattle.sqz_image.specs.Devices.{SourceState, SinkState, ReadsWhole, IsUnfinished, ReadStops, WritesWhole, WriteStops}
+use Rattle.sqz_trace.specs.declared.weak.Weak.{Weak}
 use Rattle.sqz_trace.specs.Reachability.{IsReachability}
 use Rattle.sqz_trace.specs.Live.{live}
-use Rattle.sqz_trace.specs.Defects.{first_defect}
+use Rattle.sqz_trace.specs.Defects.{first_defect, lacks_nil}
 use Rattle.sqz_regions.specs.Places.{live_words}
 use Rattle.sqz_census.specs.Census.{CensusRow, IsCensus}
 use Rattle.sqz_census.specs.Text.{census_text}
@@ -29,28 +30,35 @@ summary_of image marks =
     }
 
 -- the text of the census of the marked objects
-pub record IsReport (memory : Memory) (marks : List Bool) (text : List ℕ) : Type 0 where
+pub record IsReport (memory : Memory) (weak : Weak) (marks : List Bool) (text : List ℕ) : Type 0 where
   pub rows : List CensusRow
-  pub census : IsCensus memory marks rows
+  pub census : IsCensus memory weak marks rows
   pub text_is : text ≡ census_text rows
 
 -- the address and the pieces are those of the image's compaction, these are the numbers, and the text is that of its
 -- census where one is asked for
-pub record IsCompaction (census : Bool) (image : SavedImage) (special : ℕ) (pieces : List (List ℕ)) (summary : Summary) (text : List ℕ)
-    : Type 0 where
+pub record IsCompaction (weak : Weak) (census : Bool) (image : SavedImage) (special : ℕ) (pieces : List (List ℕ)) (summary : Summary)
+    (text : List ℕ) : Type 0 where
   pub marks : List Bool
-  pub reachable : IsReachability image.memory marks
-  pub sound : first_defect image.memory marks ≡ None
-  pub bytes : file_with image.memory.order image.header special pieces ≡ file_bytes (compacted image marks)
+  pub has_nil : lacks_nil image.memory weak ≡ false
+  pub reachable : IsReachability image.memory weak marks
+  pub sound : first_defect image.memory weak marks ≡ None
+  pub bytes : file_with image.memory.order image.header special pieces ≡ file_bytes (compacted image weak marks)
   pub few : length (concat pieces) < 2 ^ 30
   pub counted : summary ≡ summary_of image marks
-  pub reported : census ≡ true → IsReport image.memory marks text
+  pub reported : census ≡ true → IsReport image.memory weak marks text
+
+-- there is no nil for weak slots
+pub record LacksNilIn (weak : Weak) (image : SavedImage) (fault : Fault) : Type 0 where
+  pub lacks : lacks_nil image.memory weak ≡ true
+  pub refused : fault ≡ NoNil
 
 -- this is the defect of the lowest reachable object that has one
-pub record HasDefectIn (image : SavedImage) (fault : Fault) : Type 0 where
+pub record HasDefectIn (weak : Weak) (image : SavedImage) (fault : Fault) : Type 0 where
   pub marks : List Bool
-  pub reachable : IsReachability image.memory marks
-  pub defect : first_defect image.memory marks ≡ Some fault
+  pub has_nil : lacks_nil image.memory weak ≡ false
+  pub reachable : IsReachability image.memory weak marks
+  pub defect : first_defect image.memory weak marks ≡ Some fault
 
 -- what is seen of the two sinks of a run: that of the image, and that of its census
 pub record Sinks : Type 0 where
@@ -61,27 +69,27 @@ abbrev pub sinks : SinkState → SinkState → Sinks
 sinks image census = record { image = image; census = census }
 
 -- the sink of the census took its text and nothing else, or nothing where no census is asked for
-abbrev pub Reports : Bool → Memory → List Bool → SinkState → SinkState → Type 0
-Reports true memory marks old new = (text : List ℕ) × IsReport memory marks text × WritesWhole old new text
-Reports false memory marks old new = new ≡ old
+abbrev pub Reports : Weak → Bool → Memory → List Bool → SinkState → SinkState → Type 0
+Reports weak true memory marks old new = (text : List ℕ) × IsReport memory weak marks text × WritesWhole old new text
+Reports weak false memory marks old new = new ≡ old
 
 -- the source gave a file that is accepted, the sink of the image took its compaction and nothing else, and these are
 -- the numbers
-pub record Compacts (census : Bool) (from to : SourceState) (old new : Sinks) (summary : Summary) : Type 0 where
+pub record Compacts (weak : Weak) (census : Bool) (from to : SourceState) (old new : Sinks) (summary : Summary) : Type 0 where
   pub file : List ℕ
   pub read : ReadsWhole from to file
   pub image : SavedImage
   pub marks : List Bool
-  pub accepted : IsAccepted file image marks
-  pub written : WritesWhole old.image new.image (file_bytes (compacted image marks))
-  pub reported : Reports census image.memory marks old.census new.census
+  pub accepted : IsAccepted weak file image marks
+  pub written : WritesWhole old.image new.image (file_bytes (compacted image weak marks))
+  pub reported : Reports weak census image.memory marks old.census new.census
   pub counted : summary ≡ summary_of image marks
 
 -- the source gave a file that is refused for this reason, and the sinks are as they were
-pub record RefusesFile (fault : Fault) (from to : SourceState) (old new : Sinks) : Type 0 where
+pub record RefusesFile (weak : Weak) (fault : Fault) (from to : SourceState) (old new : Sinks) : Type 0 where
   pub file : List ℕ
   pub read : ReadsWhole from to file
-  pub refused : IsRefused file fault
+  pub refused : IsRefused weak file fault
   pub untouched : new ≡ old
 
 -- memory was refused while the source was read, which has not failed and was not yet at its end, or once it had
@@ -103,26 +111,26 @@ pub record StopsAtImage (bytes : List ℕ) (old new : Sinks) : Type 0 where
   pub untouched : new.census ≡ old.census
 
 -- the sink of the image took all, and that of the census a front of its text before it stopped
-pub record StopsAtCensus (memory : Memory) (marks : List Bool) (bytes : List ℕ) (old new : Sinks) : Type 0 where
+pub record StopsAtCensus (weak : Weak) (memory : Memory) (marks : List Bool) (bytes : List ℕ) (old new : Sinks) : Type 0 where
   pub written : WritesWhole old.image new.image bytes
   pub text : List ℕ
-  pub report : IsReport memory marks text
+  pub report : IsReport memory weak marks text
   pub stops : WriteStops old.census new.census text WriteFailed
 
 -- the source gave a file that is accepted, and its compaction, or the census where one is asked for, was not wholly
 -- written
-pub record StopsWriting (census : Bool) (from to : SourceState) (old new : Sinks) : Type 0 where
+pub record StopsWriting (weak : Weak) (census : Bool) (from to : SourceState) (old new : Sinks) : Type 0 where
   pub file : List ℕ
   pub read : ReadsWhole from to file
   pub image : SavedImage
   pub marks : List Bool
-  pub accepted : IsAccepted file image marks
-  pub stops : StopsAtImage (file_bytes (compacted image marks)) old new
-      ⊎ ((census ≡ true) × StopsAtCensus image.memory marks (file_bytes (compacted image marks)) old new)
+  pub accepted : IsAccepted weak file image marks
+  pub stops : StopsAtImage (file_bytes (compacted image weak marks)) old new
+      ⊎ ((census ≡ true) × StopsAtCensus weak image.memory marks (file_bytes (compacted image weak marks)) old new)
 
 -- what was done where the run was refused, by the refusal: all others are the first that applies to the file
-abbrev pub Refuses : Bool → SourceState → SourceState → Sinks → Sinks → Fault → Type 0
-Refuses census from to old new OutOfMemory = IsOutOfMemory from to old new
-Refuses census from to old new ReadFailed = StopsReading from to old new
-Refuses census from to old new WriteFailed = StopsWriting census from to old new
-Refuses census from to old new fault = RefusesFile fault from to old new
+abbrev pub Refuses : Weak → Bool → SourceState → SourceState → Sinks → Sinks → Fault → Type 0
+Refuses weak census from to old new OutOfMemory = IsOutOfMemory from to old new
+Refuses weak census from to old new ReadFailed = StopsReading from to old new
+Refuses weak census from to old new WriteFailed = StopsWriting weak census from to old new
+Refuses weak census from to old new fault = RefusesFile weak fault from to old new

@@ -5,7 +5,7 @@ ghost use Rattle.sqz_image.specs.declared.fault.Fault.TheVariants.{ReadFailed, W
 ghost use Rattle.sqz_image.specs.Devices.{SourceState, new_source};
 ghost use Rattle.sqz_tool.specs.FileRuns.{CompactsFiles, RefusesFiles};
 ghost use Rattle.sqz_tool.specs.Headline.{Compacts, Refuses, sinks};
-ghost use Rattle.sqz_tool.specs.Plans.{IsWorkers, IsRegion};
+ghost use Rattle.sqz_tool.specs.Plans.{IsWorkers, IsRegion, weak_of};
 
 use crate::opened::Opened;
 use crate::plan::Plan;
@@ -34,12 +34,12 @@ pub fn compact<'a, T: Files + Threads + Sync, C: Sink, G: Gate>(
 ) -> Result<Summary, Fault>
     ensures planned { IfOk result (λ _. IsWorkers arguments.now.workers × IsRegion arguments.now.region_words) }
     ensures compacts { IfOk result (λ summary.
-        CompactsFiles arguments.now.census (C.state out.old) (C.state out.new) summary) }
+        CompactsFiles (weak_of arguments.now.clear_weak) arguments.now.census (C.state out.old) (C.state out.new) summary) }
     ensures workers { IfErr result (λ fault. (fault ≡ BadWorkers) ↔ (IsWorkers arguments.now.workers → ⊥)) }
     ensures cut { IfErr result (λ fault. (fault ≡ BadCut)
         ↔ (IsWorkers arguments.now.workers × (IsRegion arguments.now.region_words → ⊥))) }
     ensures refuses { IfErr result (λ fault. fault ≢ BadWorkers → fault ≢ BadCut → fault ≢ ReadFailed
-        → RefusesFiles arguments.now.census (C.state out.old) (C.state out.new) fault) }
+        → RefusesFiles (weak_of arguments.now.clear_weak) arguments.now.census (C.state out.old) (C.state out.new) fault) }
     ensures unused { arguments.now.census ≡ false → C.state out.new ≡ C.state out.old }
     ensures quiet { IfErr result (λ fault. fault ≢ WriteFailed → C.state out.new ≡ C.state out.old) }
 {
@@ -62,10 +62,10 @@ fn compact_from<T: Threads + Sync, R: Read + Drop, W: Sink, C: Sink, G: Gate>(
     gate: &G,
 ) -> Result<Summary, Fault>
     ensures compacts { IfOk result (λ summary. (to : SourceState)
-        × Compacts plan.now.census (new_source (R.remaining reader)) to
+        × Compacts plan.now.weak plan.now.census (new_source (R.remaining reader)) to
         (sinks (W.state sink.old) (C.state out.old)) (sinks (W.state sink.new) (C.state out.new)) summary) }
     ensures refuses { IfErr result (λ fault. (to : SourceState)
-        × Refuses plan.now.census (new_source (R.remaining reader)) to
+        × Refuses plan.now.weak plan.now.census (new_source (R.remaining reader)) to
         (sinks (W.state sink.old) (C.state out.old)) (sinks (W.state sink.new) (C.state out.new)) fault) }
 {
     let mut source = ReadSource::new(reader);

@@ -4,7 +4,7 @@ ghost use Rattle.std.specs.Prelude.{◌≡◌, ◌⊎◌, IfOk, IfErr};
 ghost use Rattle.sqz_image.specs.declared.fault.Fault.TheVariants.{ReadFailed, BadWorkers, BadCut};
 ghost use Rattle.sqz_regions.specs.Regions.{Every};
 ghost use Rattle.sqz_command.specs.OutputFiles.{new_output};
-ghost use Rattle.sqz_tool.specs.Plans.{IsWorkers, IsRegion};
+ghost use Rattle.sqz_tool.specs.Plans.{IsWorkers, IsRegion, weak_of};
 
 use crate::plan::Plan;
 use sqz_command::{Arguments, OutputFile};
@@ -28,6 +28,7 @@ impl<'a, T: Files> Opened<'a, T> {
     pub(crate) fn of(rt: &'a T, arguments: &Arguments<'a>) -> Result<Self, Fault>
         ensures workers { IfOk result (λ opened. opened.plan.workers ≡ arguments.now.workers) }
         ensures cut { IfOk result (λ opened. opened.plan.cut ≡ Every arguments.now.region_words) }
+        ensures weak { IfOk result (λ opened. opened.plan.weak ≡ weak_of arguments.now.clear_weak) }
         ensures census { IfOk result (λ opened. opened.plan.census ≡ arguments.now.census) }
         ensures taken { IfOk result (λ _. IsWorkers arguments.now.workers × IsRegion arguments.now.region_words) }
         ensures path { IfOk result (λ opened. opened.sink.path.now ≡ arguments.now.output.now) }

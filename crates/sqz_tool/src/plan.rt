@@ -3,21 +3,24 @@
 ghost use Rattle.std.specs.Prelude.{◌≡◌, ◌⊎◌, IfOk, IfErr};
 ghost use Rattle.sqz_image.specs.declared.fault.Fault.TheVariants.{BadWorkers, BadCut};
 ghost use Rattle.sqz_regions.specs.Regions.{Every};
-ghost use Rattle.sqz_tool.specs.Plans.{IsWorkers, IsRegion};
+ghost use Rattle.sqz_tool.specs.Plans.{IsWorkers, IsRegion, weak_of};
 
 use sqz_command::Arguments;
 use sqz_image::Fault;
 use sqz_marks::Workers;
 use sqz_regions::Cut;
+use sqz_trace::Weak;
 
-/// How a run does its work, and whether it takes a census. The image that is written is the same for every plan, and
-/// so is the census.
+/// How a run does its work, what becomes of weak slots, and whether it takes a census. The image that is written is the
+/// same for every plan with this policy on weak slots, and so is the census.
 #[derive(Drop)]
 pub struct Plan {
     /// How many workers share the work.
     pub workers: Workers,
     /// Where the data words are cut into regions.
     pub cut: Cut,
+    /// What becomes of weak slots.
+    pub weak: Weak,
     /// Whether the census is wanted.
     pub census: bool,
 }
@@ -26,6 +29,7 @@ impl Plan {
     /// The plan that a command line asks for. Refused with `BadWorkers` unless the workers are from 1 to 64, else with
     /// `BadCut` unless the words of a region are from 1 to 2^30.
     pub(crate) fn of(arguments: &Arguments<'_>) -> Result<Plan, Fault>
+        ensures weak { IfOk result (λ plan. plan.weak ≡ weak_of arguments.now.clear_weak) }
         ensures census { IfOk result (λ plan. plan.census ≡ arguments.now.census) }
         ensures workers { IfOk result (λ plan. plan.workers ≡ arguments.now.workers) }
         ensures cut { IfOk result (λ plan. plan.cut ≡ Every arguments.now.region_words) }
@@ -37,6 +41,11 @@ impl Plan {
         Ok(Plan {
             workers: Workers::new(arguments.workers)?,
             cut: Cut::every(arguments.region_words)?,
+            weak: if arguments.clear_weak {
+                Weak::Clear
+            } else {
+                Weak::Keep
+            },
             census: arguments.census,
         })
     }

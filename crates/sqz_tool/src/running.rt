@@ -17,7 +17,8 @@ use std::thread::Threads;
 ///
 /// Refused with `OutOfMemory`, or with `ReadFailed` where the source failed or did not end; else exactly
 /// with the first fault that applies to the file: those of its header, then that of its first chunk that
-/// cannot be read, then `BadSpecialObjects`, then the defect of its lowest reachable object that has one.
+/// cannot be read, then `BadSpecialObjects`, then, where the plan clears weak slots, `NoNil`, then the defect of its lowest
+/// reachable object that has one.
 /// The sinks are then as they were. Refused with `WriteFailed` where one of them failed or took too little at a
 /// time: a front of the answer, perhaps all of it, then went out, and where it is all a front of the census.
 pub fn run<T: Threads + Sync, R: Source, W: Sink, C: Sink, G: Gate>(
@@ -29,9 +30,9 @@ pub fn run<T: Threads + Sync, R: Source, W: Sink, C: Sink, G: Gate>(
     report: &mut C,
     gate: &G,
 ) -> Result<Summary, Fault>
-    ensures compacts { IfOk result (λ summary. Compacts plan.now.census (R.state source.old) (R.state source.new)
+    ensures compacts { IfOk result (λ summary. Compacts plan.now.weak plan.now.census (R.state source.old) (R.state source.new)
         (sinks (W.state sink.old) (C.state report.old)) (sinks (W.state sink.new) (C.state report.new)) summary) }
-    ensures refuses { IfErr result (λ fault. Refuses plan.now.census (R.state source.old) (R.state source.new)
+    ensures refuses { IfErr result (λ fault. Refuses plan.now.weak plan.now.census (R.state source.old) (R.state source.new)
         (sinks (W.state sink.old) (C.state report.old)) (sinks (W.state sink.new) (C.state report.new)) fault) }
 {
     let bytes = read_all(alloc, source)?;

@@ -1,6 +1,6 @@
 -- Seeking the first bad slot of an object, field by field; and the numbers of defects.
-use Rattle.std.proofs.Common.{◌≡◌, ℕ, ◌+◌, ◌-◌, ◌<◌, ◌≤◌, Bool, true, false, cond, List, [], ◌∷◌, map}
-use Rattle.std.proofs.Common.{slice_index, Option, Some, None, ap, ◌∙◌, arith}
+use Rattle.std.proofs.Common.{◌≡◌, ◌⊎◌, ℕ, ◌+◌, ◌-◌, ◌<◌, ◌≤◌, Bool, true, false, cond, List, [], ◌∷◌, map}
+use Rattle.std.proofs.Common.{slice_index, Option, Some, None, ap, ◌∙◌, arith, inl, inr}
 use Rattle.sqz_object.specs.Value.{value_of}
 use Rattle.sqz_object.specs.Chunk.{fields}
 use Rattle.sqz_image.specs.declared.fault.Slot.{Slot}
@@ -8,11 +8,12 @@ use Rattle.sqz_image.specs.declared.fault.Slot.TheVariants.{Field}
 use Rattle.sqz_image.specs.Objects.{Memory, Object, address_in}
 use Rattle.sqz_trace.specs.Slots.{traced, field_slots}
 use Rattle.sqz_image.specs.declared.fault.Fault.{Fault}
-use Rattle.sqz_image.specs.declared.fault.Fault.TheVariants.{NoClass, BadMethod, BadContext, BadPointer}
-use Rattle.sqz_image.proofs.NumberLemmas.{NumberAtMost, NumberAtMost-none, NumberAtMost-some, NumberAtMost-if}
+use Rattle.sqz_image.specs.declared.fault.Fault.TheVariants.{NoClass, BadMethod, BadContext, BadWeak, BadPointer}
+use Rattle.sqz_image.proofs.NumberLemmas.{HasNumber, HasNumber-none, HasNumber-some, HasNumber-if}
+use Rattle.sqz_trace.specs.declared.weak.Weak.{Weak}
 use Rattle.sqz_trace.specs.Live.{live}
-use Rattle.sqz_trace.specs.Defects.{bad_pointer, defect, first_some, first_defect, bad_slot, is_bad_value, is_bad_word}
-use Rattle.sqz_trace.specs.Defects.{first_bad}
+use Rattle.sqz_trace.specs.Defects.{bad_pointer, defect, first_some, first_defect, bad_slot, is_bad_value}
+use Rattle.sqz_trace.specs.Defects.{is_bad_word, first_bad}
 use Rattle.sqz_trace.proofs.SlotLemmas.{field_slots-more, slot_word-field}
 
 module _ (memory : Memory) (chunk : List ℕ) where
@@ -61,29 +62,34 @@ module _ (memory : Memory) (chunk : List ℕ) where
 
 -- ---- the numbers of defects
 
-bad_pointer-number : (address : ℕ) (slot : Option Slot) → NumberAtMost 14 (bad_pointer address slot)
-bad_pointer-number address None = NumberAtMost-none 14
-bad_pointer-number address (Some slot) = NumberAtMost-some 14 (BadPointer address slot) (omega arith)
+-- the refusals of an image: those up to 14, and those of weak slots
+abbrev pub IsOfImage : ℕ → Type 0
+IsOfImage number = (number ≤ 14) ⊎ (20 ≤ number)
 
-defect-number : (memory : Memory) (object : Object) → NumberAtMost 14 (defect memory object)
-defect-number memory object =
-    let address : ℕ = address_in memory.base object in
-    NumberAtMost-if 14 _ (NoClass address) _ (omega arith)
-    (NumberAtMost-if 14 _ (BadMethod address) _ (omega arith)
-    (NumberAtMost-if 14 _ (BadContext address) _ (omega arith)
-    (bad_pointer-number address (bad_slot memory object.chunk))))
+bad_pointer-number : (address : ℕ) (slot : Option Slot) → HasNumber IsOfImage (bad_pointer address slot)
+bad_pointer-number address None = HasNumber-none IsOfImage
+bad_pointer-number address (Some slot) = HasNumber-some IsOfImage (BadPointer address slot) (inl (omega arith))
 
-first_some-number : (found : Option Fault) (others : List (Option Fault))
-    → NumberAtMost 14 found → NumberAtMost 14 (first_some others) → NumberAtMost 14 (first_some (found ∷ others))
-first_some-number None others one rest = rest
-first_some-number (Some fault) others one rest = one
+module _ (memory : Memory) (weak : Weak) where
+  defect-number : (object : Object) → HasNumber IsOfImage (defect memory weak object)
+  defect-number object =
+      let address : ℕ = address_in memory.base object in
+      HasNumber-if IsOfImage _ (NoClass address) _ (inl (omega arith))
+      (HasNumber-if IsOfImage _ (BadMethod address) _ (inl (omega arith))
+      (HasNumber-if IsOfImage _ (BadContext address) _ (inl (omega arith))
+      (HasNumber-if IsOfImage _ (BadWeak address) _ (inr (omega arith))
+      (bad_pointer-number address (bad_slot memory object.chunk)))))
 
-some_defect-number : (memory : Memory) (objects : List Object)
-    → NumberAtMost 14 (first_some (map (defect memory) objects))
-some_defect-number memory [] = NumberAtMost-none 14
-some_defect-number memory (object ∷ objects) =
-    first_some-number (defect memory object) (map (defect memory) objects) (defect-number memory object)
-    (some_defect-number memory objects)
+  first_some-number : (found : Option Fault) (others : List (Option Fault))
+      → HasNumber IsOfImage found → HasNumber IsOfImage (first_some others) → HasNumber IsOfImage (first_some (found ∷ others))
+  first_some-number None others one rest = rest
+  first_some-number (Some fault) others one rest = one
 
-pub first_defect-number : (memory : Memory) (marks : List Bool) → NumberAtMost 14 (first_defect memory marks)
-first_defect-number memory marks = some_defect-number memory (live memory marks)
+  some_defect-number : (objects : List Object) → HasNumber IsOfImage (first_some (map (defect memory weak) objects))
+  some_defect-number [] = HasNumber-none IsOfImage
+  some_defect-number (object ∷ objects) =
+      first_some-number (defect memory weak object) (map (defect memory weak) objects) (defect-number object)
+      (some_defect-number objects)
+
+  pub first_defect-number : (marks : List Bool) → HasNumber IsOfImage (first_defect memory weak marks)
+  first_defect-number marks = some_defect-number (live memory marks)

@@ -1,14 +1,14 @@
 -- What slots name is an object.
-use Rattle.std.proofs.Common.{◌≡◌, ℕ, ◌<◌, Option, Some, None, sym}
+use Rattle.std.proofs.Common.{◌≡◌, ℕ, ◌<◌, List, Option, Some, None, sym}
 use Rattle.std.specs.Option.{IfSome, option_and_then}
 use Rattle.sqz_object.specs.declared.value.Value.{Value}
 use Rattle.sqz_object.specs.declared.value.Value.TheVariants.{Int, Pointer, Odd}
 use Rattle.sqz_object.specs.Value.{value_of}
 use Rattle.sqz_image.specs.declared.fault.Slot.{Slot}
-use Rattle.sqz_image.specs.Objects.{Memory, objects, object_count, chunk_words}
+use Rattle.sqz_image.specs.Objects.{Memory, objects, object_count}
 use Rattle.sqz_image.proofs.ObjectLemmas.{find_in-lt}
-use Rattle.sqz_trace.specs.Slots.{slot_word}
-use Rattle.sqz_trace.specs.Edges.{object_named, named_by, target}
+use Rattle.sqz_trace.specs.Slots.{word_among}
+use Rattle.sqz_trace.specs.Targets.{object_named, named_by, named_among}
 
 module _ (memory : Memory) where
   -- what a value names is an object
@@ -33,7 +33,7 @@ module _ (memory : Memory) where
   named_at-lt None index e = absurd cc
   named_at-lt (Some word) index e = named_by-lt word index e
 
-  -- the target of a slot is an object
-  pub target-lt : (from : ℕ) (slot : Slot) (index : ℕ) → target memory from slot ≡ Some index
+  -- what a slot names is an object
+  pub named_among-lt : (count : ℕ) (chunk : List ℕ) (slot : Slot) (index : ℕ) → named_among memory count chunk slot ≡ Some index
       → index < object_count memory
-  target-lt from slot index e = named_at-lt (slot_word (chunk_words memory from) slot) index e
+  named_among-lt count chunk slot index e = named_at-lt (word_among count chunk slot) index e

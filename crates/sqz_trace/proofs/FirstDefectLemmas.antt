@@ -9,6 +9,7 @@ use Rattle.std.proofs.lemmas.Bool.{cases_lt}
 use Rattle.rayon.specs.Lists.{Reduces}
 use Rattle.rayon.proofs.Reducing.{Reduces-elim}
 use Rattle.sqz_image.specs.Objects.{Memory, object_count, objects, object_at}
+use Rattle.sqz_trace.specs.declared.weak.Weak.{Weak}
 use Rattle.sqz_trace.specs.Graph.{is_marked}
 use Rattle.sqz_trace.specs.Live.{marked}
 use Rattle.sqz_trace.specs.Defects.{defect, first_some, first_defect}
@@ -154,21 +155,21 @@ module _ {X Y : Type 0} (f : X → Option Y) (default : X) where
       ∙ first_some-marked marks xs (omega arith)
 
 -- what is reported of all objects is the first defect
-pub first_defect-between : (memory : Memory) (marks : List Bool) → length marks ≡ object_count memory
-    → first_between (defect_at memory marks) 0 (object_count memory) ≡ first_defect memory marks
-first_defect-between memory marks same =
+pub first_defect-between : (memory : Memory) (weak : Weak) (marks : List Bool) → length marks ≡ object_count memory
+    → first_between (defect_at memory weak marks) 0 (object_count memory) ≡ first_defect memory weak marks
+first_defect-between memory weak marks same =
     let whole : object_count memory - 0 ≡ object_count memory = omega arith in
-    ap (λ count. first_some (map (defect_at memory marks) (range_with_len 0 count))) whole
-    ∙ first_some-marked (defect memory) record { first = 0; chunk = [] } marks (objects memory) same
+    ap (λ count. first_some (map (defect_at memory weak marks) (range_with_len 0 count))) whole
+    ∙ first_some-marked (defect memory weak) record { first = 0; chunk = [] } marks (objects memory) same
 
 -- of a marked object its defect is reported, and of another nothing
-pub defect_at-marked : (memory : Memory) (marks : List Bool) (index : ℕ) → is_marked marks index ≡ true
-    → defect_at memory marks index ≡ defect memory (object_at memory index)
-defect_at-marked memory marks index e = ap (λ b. cond b (defect memory (object_at memory index)) None) e
+pub defect_at-marked : (memory : Memory) (weak : Weak) (marks : List Bool) (index : ℕ) → is_marked marks index ≡ true
+    → defect_at memory weak marks index ≡ defect memory weak (object_at memory index)
+defect_at-marked memory weak marks index e = ap (λ b. cond b (defect memory weak (object_at memory index)) None) e
 
-pub defect_at-unmarked : (memory : Memory) (marks : List Bool) (index : ℕ) → is_marked marks index ≡ false
-    → defect_at memory marks index ≡ None
-defect_at-unmarked memory marks index e = ap (λ b. cond b (defect memory (object_at memory index)) None) e
+pub defect_at-unmarked : (memory : Memory) (weak : Weak) (marks : List Bool) (index : ℕ) → is_marked marks index ≡ false
+    → defect_at memory weak marks index ≡ None
+defect_at-unmarked memory weak marks index e = ap (λ b. cond b (defect memory weak (object_at memory index)) None) e
 
 pub none_found : {X : Type 0} (x : Option X) → is_some x ≡ false → x ≡ None
 none_found None e = refl
@@ -185,11 +186,11 @@ ranges_reach : (count : ℕ) → count ≤ (0 + div_ceil count 4096) * 4096
 ranges_reach count = omega arith
 
 -- the first report of all ranges is the first defect
-pub first_defect-ranges : (memory : Memory) (marks : List Bool) → length marks ≡ object_count memory
+pub first_defect-ranges : (memory : Memory) (weak : Weak) (marks : List Bool) → length marks ≡ object_count memory
     → let count = object_count memory in
-    first_some (map (first_in_range (defect_at memory marks) 4096 count) (range_with_len 0 (div_ceil count 4096)))
-    ≡ first_defect memory marks
-first_defect-ranges memory marks same =
+    first_some (map (first_in_range (defect_at memory weak marks) 4096 count) (range_with_len 0 (div_ceil count 4096)))
+    ≡ first_defect memory weak marks
+first_defect-ranges memory weak marks same =
     let count = object_count memory in
-    first_between-ranges (defect_at memory marks) 4096 count (div_ceil count 4096) 0 (ranges_reach count)
-    ∙ first_defect-between memory marks same
+    first_between-ranges (defect_at memory weak marks) 4096 count (div_ceil count 4096) 0 (ranges_reach count)
+    ∙ first_defect-between memory weak marks same

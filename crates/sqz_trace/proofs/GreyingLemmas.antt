@@ -3,18 +3,18 @@ use Rattle.std.proofs.Common.{◌≡◌, ◌⊎◌, ℕ, ◌+◌, ◌<◌, true,
 use Rattle.std.proofs.Common.{refl, sym, ap, subst, ◌∙◌, arith, inl, inr}
 use Rattle.std.proofs.lemmas.Bool.{cases_order, cases_lt}
 use Rattle.std.proofs.lemmas.List.{length-set, get_or-set_same, get_or-set_other}
-use Rattle.sqz_image.specs.declared.fault.Slot.TheVariants.{ClassWord, Field}
-use Rattle.sqz_image.specs.Objects.{Memory, object_count, chunk_words}
+use Rattle.sqz_image.specs.declared.fault.Slot.TheVariants.{ClassWord}
+use Rattle.sqz_image.specs.Objects.{Memory, object_count}
 use Rattle.sqz_trace.specs.declared.shades.Shade.{Shade}
 use Rattle.sqz_trace.specs.declared.shades.Shade.TheVariants.{White, Grey, Black}
-use Rattle.sqz_trace.specs.Slots.{traced}
-use Rattle.sqz_trace.specs.Edges.{named_in, HasEdge}
+use Rattle.sqz_trace.specs.declared.weak.Weak.{Weak}
+use Rattle.sqz_trace.specs.Edges.{Parent, parent_at, HasEdge}
 use Rattle.sqz_trace.specs.Graph.{is_marked}
 use Rattle.sqz_trace.specs.Shades.{shade_at, marks_of}
-use Rattle.sqz_trace.specs.Targets.{IsTargetBelow}
+use Rattle.sqz_trace.specs.Targets.{named_in, IsTargetBelow}
 use Rattle.sqz_trace.specs.Greying.{Greys, Blackens, BecameGrey, IsLowest}
 use Rattle.sqz_trace.proofs.ShadeLemmas.{white-grey, marked-by, marked-same}
-use Rattle.sqz_trace.proofs.TargetLemmas.{IsTargetOf, IsTargetBelow-next, IsTargetBelow-more, IsTargetBelow-none}
+use Rattle.sqz_trace.proofs.TargetLemmas.{IsTargetOf, IsTargetBelow-next, IsTargetBelow-more, IsTargetBelow-field, IsTargetBelow-none}
 use Rattle.sqz_trace.proofs.TargetLemmas.{IsTargetBelow-edge, HasEdge-below}
 
 -- ---- targets that become grey
@@ -215,26 +215,27 @@ module _ (memory : Memory) (chunk : List ℕ) where
         targets = λ index target. greys.targets index (IsTargetBelow-none memory chunk index target);
         only = λ index. elim (greys.only index) [
           | inl same ↦ inl same
-          | inr (names, white, grey) ↦ inr (record { slot = ClassWord; below = tt; names = names }, white, grey)
+          | inr (names, white, grey) ↦ inr (record { slot = ClassWord; names = names }, white, grey)
         ];
       }
 
   -- the targets of the slots before became grey, and then that of the next field
-  pub Greys-next_field : (k : ℕ) (old shades new : List Shade) → Greys (IsTargetBelow memory chunk k) old shades
-      → Greys (IsTargetOf memory chunk k) shades new → Greys (IsTargetBelow memory chunk (k + 1)) old new
-  Greys-next_field k old shades new first second =
-      Greys-then (IsTargetBelow memory chunk k) (IsTargetOf memory chunk k) (IsTargetBelow memory chunk (k + 1))
-      (IsTargetBelow-next memory chunk k) (IsTargetBelow-more memory chunk k)
-      (λ index names. record { slot = Field k; below = omega arith; names = names }) old shades new first second
+  pub Greys-next_field : (count k : ℕ) (old shades new : List Shade) → k < count → Greys (IsTargetBelow memory chunk k) old shades
+      → Greys (IsTargetOf memory chunk count k) shades new → Greys (IsTargetBelow memory chunk (k + 1)) old new
+  Greys-next_field count k old shades new lt first second =
+      Greys-then (IsTargetBelow memory chunk k) (IsTargetOf memory chunk count k) (IsTargetBelow memory chunk (k + 1))
+      (λ index. IsTargetBelow-next memory chunk count k index lt) (IsTargetBelow-more memory chunk k)
+      (IsTargetBelow-field memory chunk count k) old shades new first second
 
-module _ (memory : Memory) (object : ℕ) (chunk : List ℕ) (its : chunk ≡ chunk_words memory object) where
-  -- the targets of all slots became grey, and then the object black
+module _ (memory : Memory) (weak : Weak) (object : ℕ) (parent : Parent) (its : parent ≡ parent_at memory weak object) where
+  -- the targets of all strong slots became grey, and then the object black
   pub Blackens-after_slots : (count : ℕ) (old shades : List Shade) → object < object_count memory
-      → length old ≡ object_count memory → count ≡ traced chunk
-      → Greys (IsTargetBelow memory chunk count) old shades → Blackens (HasEdge memory object) object old (set shades object Black)
+      → length old ≡ object_count memory → count ≡ parent.strong
+      → Greys (IsTargetBelow memory parent.words count) old shades
+      → Blackens (HasEdge memory weak object) object old (set shades object Black)
   Blackens-after_slots count old shades inside sized all greys =
-      Blackens-after (IsTargetBelow memory chunk count) (HasEdge memory object) object old shades
+      Blackens-after (IsTargetBelow memory parent.words count) (HasEdge memory weak object) object old shades
       (omega (arith, greys.sized, sized, inside))
       (λ index edge.
-      subst (λ (k : ℕ). IsTargetBelow memory chunk k index) (sym all) (IsTargetBelow-edge memory object chunk its index edge))
-      (λ index. HasEdge-below memory object chunk its count index inside) greys
+      subst (λ (k : ℕ). IsTargetBelow memory parent.words k index) (sym all) (IsTargetBelow-edge memory weak object parent its index edge))
+      (λ index. HasEdge-below memory weak object parent its count index inside all) greys

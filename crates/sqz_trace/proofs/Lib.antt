@@ -1,5 +1,6 @@
 pub mod ShadeLemmas
 pub mod SlotLemmas
+pub mod StrongLemmas
 pub mod EdgeLemmas
 pub mod NamedLemmas
 pub mod ReachabilityLemmas

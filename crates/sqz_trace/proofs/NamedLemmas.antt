@@ -1,18 +1,19 @@
--- The objects that the slots of an object name are marked where those that its class word and its traced fields name are.
-use Rattle.std.proofs.Common.{◌≡◌, ℕ, ◌+◌, ◌<◌, ◌≤◌, ◌⊎◌, Bool, cond, ltb, List, length, take, slice_index}
-use Rattle.std.proofs.Common.{Some, None, sym, ap, subst, ◌∙◌, arith, inl, inr}
-use Rattle.std.specs.Prelude.{option_and_then}
-use Rattle.std.proofs.lemmas.Option.{cond_some, option_and_then_some}
-use Rattle.std.proofs.lemmas.Bool.{cases_lt, lt-ltb, ltb-true}
+-- The objects that the strong slots of an object name are marked where those that its class word and its strong fields name are.
+use Rattle.std.proofs.Common.{◌≡◌, ℕ, ◌+◌, ◌<◌, ◌≤◌, ◌⊎◌, Bool, List, length, take, slice_index}
+use Rattle.std.proofs.Common.{Some, sym, ap, subst, ◌∙◌, arith, inl, inr}
+use Rattle.std.proofs.lemmas.Bool.{cases_lt}
 use Rattle.std.proofs.lemmas.List.{length-take-le, get_or-take}
 use Rattle.sqz_object.specs.Chunk.{fields}
 use Rattle.sqz_image.specs.declared.fault.Slot.{Slot}
 use Rattle.sqz_image.specs.declared.fault.Slot.TheVariants.{ClassWord, Field}
 use Rattle.sqz_image.specs.Objects.{Memory, object_count, chunk_words}
-use Rattle.sqz_trace.specs.Slots.{slot_word, traced}
-use Rattle.sqz_trace.specs.Edges.{named_by, named_in, HasEdge}
+use Rattle.sqz_trace.specs.declared.weak.Weak.{Weak}
+use Rattle.sqz_trace.specs.Targets.{named_by, named_among, named_in}
+use Rattle.sqz_trace.specs.Strong.{strong}
+use Rattle.sqz_trace.specs.Edges.{HasEdge}
 use Rattle.sqz_trace.specs.Marking.{IsNamedBelow, MarksTargets}
 use Rattle.sqz_trace.proofs.MarkingLemmas.{MarksTargets-then}
+use Rattle.sqz_trace.proofs.TargetLemmas.{named_among-field, named_among-cases}
 
 -- ---- words one after the other
 
@@ -44,58 +45,53 @@ module _ (memory : Memory) (words : List ℕ) (count : ℕ) where
 
 -- ---- the slots of a chunk
 
-module _ (memory : Memory) (chunk : List ℕ) (fits : traced chunk ≤ length (fields chunk)) where
-  abbrev traced_words : List ℕ
-  traced_words = take (traced chunk) (fields chunk)
+module _ (memory : Memory) (chunk : List ℕ) (count : ℕ) (fits : count ≤ length (fields chunk)) where
+  abbrev first_words : List ℕ
+  first_words = take count (fields chunk)
 
-  -- a slot is the class word, or one of the traced fields
-  named_cases : (slot : Slot) (index : ℕ) → named_in memory chunk slot ≡ Some index
-      → (named_in memory chunk ClassWord ≡ Some index) ⊎ IsNamedBelow memory traced_words (length traced_words) index
+  -- a slot is the class word, or one of the first fields
+  named_cases : (slot : Slot) (index : ℕ) → named_among memory count chunk slot ≡ Some index
+      → (named_in memory chunk ClassWord ≡ Some index) ⊎ IsNamedBelow memory first_words (length first_words) index
   named_cases ClassWord index e = inl e
   named_cases (Field k) index e =
+      let its = named_among-cases memory chunk count k index e in
       inr
-      (option_and_then_some (named_by memory) (slot_word chunk (Field k)) index e
-      (λ word is names.
-      let held = cond_some (ltb k (traced chunk)) (slice_index (fields chunk) k) word is in
-      let lt = ltb-true k (traced chunk) held.0 in
-      let same : slice_index traced_words k ≡ word = get_or-take (traced chunk) (fields chunk) k 0 lt ∙ held.1 in
-      record {
+      (record {
         place = k;
-        below = omega (arith, lt, length-take-le (traced chunk) (fields chunk) fits);
-        names = ap (named_by memory) same ∙ names;
-      }))
+        below = omega (arith, its.0, length-take-le count (fields chunk) fits);
+        names = ap (named_by memory) (get_or-take count (fields chunk) k 0 its.0) ∙ its.1;
+      })
 
-  -- each traced field is a slot
-  field_names : (index : ℕ) → (named : IsNamedBelow memory traced_words (length traced_words) index)
-      → named_in memory chunk (Field named.place) ≡ Some index
+  -- each of the first fields is a slot
+  field_names : (index : ℕ) → (named : IsNamedBelow memory first_words (length first_words) index)
+      → named_among memory count chunk (Field named.place) ≡ Some index
   field_names index named =
       let k = named.place in
-      let lt : k < traced chunk = omega (arith, named.below, length-take-le (traced chunk) (fields chunk) fits) in
-      let word = slice_index (fields chunk) k in
-      let held : slot_word chunk (Field k) ≡ Some word =
-      ap (λ b. cond b (Some word) None) (lt-ltb k (traced chunk) lt) in
-      ap (option_and_then (named_by memory)) held
-      ∙ ap (named_by memory) (sym (get_or-take (traced chunk) (fields chunk) k 0 lt))
-      ∙ named.names
+      let lt : k < count = omega (arith, named.below, length-take-le count (fields chunk) fits) in
+      named_among-field memory chunk count k index lt (ap (named_by memory) (sym (get_or-take count (fields chunk) k 0 lt)) ∙ named.names)
 
-module _ (memory : Memory) (object : ℕ) (inside : object < object_count memory) where
+module _ (memory : Memory) (weak : Weak) (object : ℕ) (inside : object < object_count memory) where
   abbrev its_words : List ℕ
   its_words = chunk_words memory object
+
+  abbrev its_strong : ℕ
+  its_strong = strong memory weak its_words
 
   abbrev IsItsClass : ℕ → Type 0
   IsItsClass index = named_in memory its_words ClassWord ≡ Some index
 
-  -- what the class word names is marked, and then what the traced fields name
-  pub MarksTargets-slots : traced its_words ≤ length (fields its_words)
-      → (words : List ℕ) → words ≡ take (traced its_words) (fields its_words)
+  -- what the class word names is marked, and then what the strong fields name
+  pub MarksTargets-slots : its_strong ≤ length (fields its_words)
+      → (words : List ℕ) → words ≡ take its_strong (fields its_words)
       → (old marks new : List Bool) (queue worklist longer : List ℕ) → MarksTargets IsItsClass old queue marks worklist
       → MarksTargets (IsNamedBelow memory words (length words)) marks worklist new longer
-      → MarksTargets (HasEdge memory object) old queue new longer
+      → MarksTargets (HasEdge memory weak object) old queue new longer
   MarksTargets-slots fits words are old marks new queue worklist longer first second =
       let IsNamedByField : List ℕ → ℕ → Type 0 = λ ws index. IsNamedBelow memory ws (length ws) index in
-      MarksTargets-then IsItsClass (IsNamedByField (traced_words memory its_words fits)) (HasEdge memory object)
-      (λ index edge. named_cases memory its_words fits edge.slot index edge.names)
+      MarksTargets-then IsItsClass (IsNamedByField (first_words memory its_words its_strong fits)) (HasEdge memory weak object)
+      (λ index edge. named_cases memory its_words its_strong fits edge.slot index edge.names)
       (λ index names. record { inside = inside; slot = ClassWord; names = names })
-      (λ index named. record { inside = inside; slot = Field named.place; names = field_names memory its_words fits index named })
+      (λ index named.
+      record { inside = inside; slot = Field named.place; names = field_names memory its_words its_strong fits index named })
       old marks new queue worklist longer first
       (subst (λ (ws : List ℕ). MarksTargets (IsNamedByField ws) marks worklist new longer) are second)

@@ -3,6 +3,7 @@ use Rattle.std.proofs.Common.{◌≡◌, ℕ, Bool, true, false, List, [], ◌�
 use Rattle.std.proofs.lemmas.List.{ext_get_or}
 use Rattle.std.proofs.lemmas.Option.{same_Some}
 use Rattle.sqz_image.specs.Objects.{Memory}
+use Rattle.sqz_trace.specs.declared.weak.Weak.{Weak}
 use Rattle.sqz_trace.specs.Graph.{Graph, Leads, IsReachable, is_marked, MarksReachable}
 use Rattle.sqz_trace.specs.Reachability.{graph_from, IsReachability}
 
@@ -70,9 +71,9 @@ MarksReachable-unique graph one other p q =
     (λ m. q.complete index (p.sound index m)) (λ m. p.complete index (q.sound index m)))
 
 -- there is one reachability of a memory
-pub IsReachability-unique : (memory : Memory) (one other : List Bool)
-    → IsReachability memory one → IsReachability memory other → one ≡ other
-IsReachability-unique memory one other p q =
+pub IsReachability-unique : (memory : Memory) (weak : Weak) (one other : List Bool)
+    → IsReachability memory weak one → IsReachability memory weak other → one ≡ other
+IsReachability-unique memory weak one other p q =
     let same : p.start ≡ q.start = same_Some _ _ (sym p.is_special ∙ q.is_special) in
-    MarksReachable-unique (graph_from q.start memory) one other
-    (subst (λ (start : ℕ). MarksReachable (graph_from start memory) one) same p.reached) q.reached
+    MarksReachable-unique (graph_from q.start memory weak) one other
+    (subst (λ (start : ℕ). MarksReachable (graph_from start memory weak) one) same p.reached) q.reached

@@ -1,4 +1,4 @@
--- What is wrong with an object: the refusals 11 to 14.
+-- What is wrong with an object, or with an object memory: the refusals 11 to 14, 20 and 21.
 use Rattle.std.specs.Prelude.{ℕ, ◌==◌, ◌&&◌, nat_lt, Bool, true, false, if◌then◌else◌, List, [], ◌∷◌, length, map}
 use Rattle.std.specs.Prelude.{slice_index, Option, Some, None, is_none}
 use Rattle.sqz_object.specs.declared.value.Value.{Value}
@@ -6,17 +6,21 @@ use Rattle.sqz_object.specs.declared.value.Value.TheVariants.{Int, Pointer, Odd}
 use Rattle.sqz_object.specs.Value.{value_of}
 use Rattle.sqz_object.specs.Chunk.{header_type, compact_index, fields}
 use Rattle.sqz_image.specs.declared.fault.Fault.{Fault}
-use Rattle.sqz_image.specs.declared.fault.Fault.TheVariants.{NoClass, BadMethod, BadContext, BadPointer}
+use Rattle.sqz_image.specs.declared.fault.Fault.TheVariants.{NoClass, BadMethod, BadContext, BadWeak, BadPointer}
 use Rattle.sqz_image.specs.declared.fault.Slot.{Slot}
 use Rattle.sqz_image.specs.Objects.{Memory, Object, address_in, find}
+use Rattle.sqz_trace.specs.declared.weak.Weak.{Weak}
+use Rattle.sqz_trace.specs.declared.weak.Weak.TheVariants.{Keep, Clear}
 use Rattle.sqz_trace.specs.Slots.{slots, slot_word, is_context, is_method, context_fields, method_fields}
+use Rattle.sqz_trace.specs.Strong.{is_weak, fixed_by, class_of}
+use Rattle.sqz_trace.specs.Edges.{nil}
 use Rattle.sqz_trace.specs.Live.{live}
 
 -- a header of one word with compact index 0 names no class
 abbrev pub lacks_class : List ℕ → Bool
 lacks_class chunk = header_type (slice_index chunk 0) == 3 && compact_index chunk == 0
 
--- a method or a context is bad where it states no number of traced fields, or more than it has
+-- an object is bad for which no number of fields is stated, or more than it has
 abbrev pub states_too_many : Option ℕ → ℕ → Bool
 states_too_many None count = true
 states_too_many (Some stated) count = nat_lt count stated
@@ -28,6 +32,11 @@ is_bad_method chunk =
 abbrev pub is_bad_context : List ℕ → Bool
 is_bad_context chunk =
     is_context chunk && states_too_many (context_fields (fields chunk)) (length (fields chunk))
+
+-- by its class
+abbrev pub is_bad_weak : Memory → Weak → List ℕ → Bool
+is_bad_weak memory weak chunk =
+    is_weak weak chunk && states_too_many (fixed_by memory (class_of memory weak chunk)) (length (fields chunk))
 
 -- a value that is no integer and names no object
 abbrev pub is_bad_value : Memory → Value → Bool
@@ -55,13 +64,14 @@ bad_pointer address None = None
 bad_pointer address (Some slot) = Some (BadPointer address slot)
 
 -- the first thing that is wrong with an object
-abbrev pub defect : Memory → Object → Option Fault
-defect memory object =
+abbrev pub defect : Memory → Weak → Object → Option Fault
+defect memory weak object =
     let address = address_in memory.base object in
     if lacks_class object.chunk then Some (NoClass address)
     else (if is_bad_method object.chunk then Some (BadMethod address)
     else (if is_bad_context object.chunk then Some (BadContext address)
-    else bad_pointer address (bad_slot memory object.chunk)))
+    else (if is_bad_weak memory weak object.chunk then Some (BadWeak address)
+    else bad_pointer address (bad_slot memory object.chunk))))
 
 abbrev pub first_some : {X : Type 0} → List (Option X) → Option X
 first_some [] = None
@@ -69,5 +79,10 @@ first_some (None ∷ others) = first_some others
 first_some ((Some x) ∷ others) = Some x
 
 -- the defect of the lowest marked object that has one
-abbrev pub first_defect : Memory → List Bool → Option Fault
-first_defect memory marks = first_some (map (defect memory) (live memory marks))
+abbrev pub first_defect : Memory → Weak → List Bool → Option Fault
+first_defect memory weak marks = first_some (map (defect memory weak) (live memory marks))
+
+-- where weak slots are cleared, an object memory has to have a nil that they can name
+abbrev pub lacks_nil : Memory → Weak → Bool
+lacks_nil memory Keep = false
+lacks_nil memory Clear = is_none (nil memory Clear)

@@ -1,32 +1,35 @@
--- What the slots of an object name.
-use Rattle.std.specs.Prelude.{◌≡◌, ℕ, ◌<◌, List, Option, Some, None, option_and_then}
-use Rattle.sqz_object.specs.declared.value.Value.{Value}
-use Rattle.sqz_object.specs.declared.value.Value.TheVariants.{Int, Pointer, Odd}
-use Rattle.sqz_object.specs.Value.{value_of}
+-- What leads from one object to another: its strong slots.
+use Rattle.std.specs.Prelude.{◌≡◌, ℕ, ◌<◌, List, Option, Some, option_and_then}
 use Rattle.sqz_image.specs.declared.fault.Slot.{Slot}
+use Rattle.sqz_image.specs.declared.fault.Slot.TheVariants.{Field}
 use Rattle.sqz_image.specs.Objects.{Memory, object_count, chunk_words, find}
-use Rattle.sqz_trace.specs.Slots.{slot_word}
+use Rattle.sqz_trace.specs.declared.weak.Weak.{Weak}
+use Rattle.sqz_trace.specs.Strong.{strong}
+use Rattle.sqz_trace.specs.Targets.{named_among}
 
--- the object that a value names: a pointer names the object whose address it is
-abbrev pub object_named : Memory → Value → Option ℕ
-object_named memory (Int number) = None
-object_named memory (Pointer address) = find memory address
-object_named memory (Odd word) = None
+-- an object as it is followed: its words, and how many of its fields are strong
+pub record Parent : Type 0 where
+  pub words : List ℕ
+  pub strong : ℕ
 
--- the object that the word of a slot names
-abbrev pub named_by : Memory → ℕ → Option ℕ
-named_by memory word = object_named memory (value_of word)
+abbrev pub parent_at : Memory → Weak → ℕ → Parent
+parent_at memory weak index =
+    record { words = chunk_words memory index; strong = strong memory weak (chunk_words memory index) }
 
--- the object that a slot of a chunk names; None where the chunk has no such slot, too
-abbrev pub named_in : Memory → List ℕ → Slot → Option ℕ
-named_in memory chunk slot = option_and_then (named_by memory) (slot_word chunk slot)
+-- the object that a strong slot names; None of a weak one
+abbrev pub strong_named : Memory → Parent → Slot → Option ℕ
+strong_named memory parent slot = named_among memory parent.strong parent.words slot
 
--- the object that a slot of an object names
-abbrev pub target : Memory → ℕ → Slot → Option ℕ
-target memory index slot = named_in memory (chunk_words memory index) slot
+-- the same of the object with an index
+abbrev pub strong_target : Memory → Weak → ℕ → Slot → Option ℕ
+strong_target memory weak index slot = strong_named memory (parent_at memory weak index) slot
 
--- some slot of the one object names the other
-pub record HasEdge (memory : Memory) (from to : ℕ) : Type 0 where
+-- some strong slot of the one object names the other
+pub record HasEdge (memory : Memory) (weak : Weak) (from to : ℕ) : Type 0 where
   pub inside : from < object_count memory
   pub slot : Slot
-  pub names : target memory from slot ≡ Some to
+  pub names : strong_target memory weak from slot ≡ Some to
+
+-- nil, which field 0 of the special objects array names
+abbrev pub nil : Memory → Weak → Option ℕ
+nil memory weak = option_and_then (λ special. strong_target memory weak special (Field 0)) (find memory memory.special)

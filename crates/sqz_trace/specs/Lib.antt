@@ -1,4 +1,6 @@
 pub mod Slots
+pub mod Targets
+pub mod Strong
 pub mod Edges
 pub mod Graph
 pub mod Reachability
@@ -7,5 +9,4 @@ pub mod Live
 pub mod Defects
 pub mod Ranges
 pub mod Shades
-pub mod Targets
 pub mod Greying

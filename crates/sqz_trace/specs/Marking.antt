@@ -1,7 +1,7 @@
 -- What one step of marking does: the targets of an object get their marks, and those that had none are queued.
 use Rattle.std.specs.Prelude.{◌≡◌, ℕ, suc, ◌+◌, ◌<◌, Bool, true, false, ◌⊎◌, List, [], ◌∷◌, length, slice_index, Contains, Some}
 use Rattle.sqz_image.specs.Objects.{Memory}
-use Rattle.sqz_trace.specs.Edges.{named_by}
+use Rattle.sqz_trace.specs.Targets.{named_by}
 use Rattle.sqz_trace.specs.Graph.{is_marked}
 
 -- how many objects have no mark

@@ -3,12 +3,13 @@ use Rattle.std.specs.Prelude.{ℕ, ◌+◌, ◌-◌, ◌*◌, min, Bool, if◌th
 use Rattle.std.specs.List.{range_with_len}
 use Rattle.sqz_image.specs.declared.fault.Fault.{Fault}
 use Rattle.sqz_image.specs.Objects.{Memory, object_at}
+use Rattle.sqz_trace.specs.declared.weak.Weak.{Weak}
 use Rattle.sqz_trace.specs.Graph.{is_marked}
 use Rattle.sqz_trace.specs.Defects.{defect, first_some}
 
 -- what there is to report of the object with an index: its defect, where it is marked and has one
-abbrev pub defect_at : Memory → List Bool → ℕ → Option Fault
-defect_at memory marks index = if is_marked marks index then defect memory (object_at memory index) else None
+abbrev pub defect_at : Memory → Weak → List Bool → ℕ → Option Fault
+defect_at memory weak marks index = if is_marked marks index then defect memory weak (object_at memory index) else None
 
 -- the first report from one index on, up to another, which is left out
 abbrev pub first_between : {X : Type 0} → (ℕ → Option X) → ℕ → ℕ → Option X

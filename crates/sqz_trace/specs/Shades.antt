@@ -4,6 +4,7 @@ use Rattle.std.specs.Prelude.{slice_index_or, slice_set, replicate}
 use Rattle.sqz_image.specs.Objects.{Memory, object_count, find}
 use Rattle.sqz_trace.specs.declared.shades.Shade.{Shade}
 use Rattle.sqz_trace.specs.declared.shades.Shade.TheVariants.{White, Grey, Black}
+use Rattle.sqz_trace.specs.declared.weak.Weak.{Weak}
 use Rattle.sqz_trace.specs.Graph.{Graph, IsReachable, is_marked}
 use Rattle.sqz_trace.specs.Reachability.{graph_from}
 
@@ -28,10 +29,10 @@ pub record AreLawful (graph : Graph) (shades : List Shade) : Type 0 where
   pub along : (from to : ℕ) → shade_at shades from ≡ Black → graph.Edge from to → is_marked (marks_of shades) to ≡ true
 
 -- the same of the objects of a memory, where the special objects array is the start
-pub record AreLawfulOf (memory : Memory) (shades : List Shade) : Type 0 where
+pub record AreLawfulOf (memory : Memory) (weak : Weak) (shades : List Shade) : Type 0 where
   pub start : ℕ
   pub is_special : find memory memory.special ≡ Some start
-  pub lawful : AreLawful (graph_from start memory) shades
+  pub lawful : AreLawful (graph_from start memory weak) shades
 
 -- the special objects array is grey, and all else white
 pub record AreFirst (memory : Memory) (shades : List Shade) : Type 0 where

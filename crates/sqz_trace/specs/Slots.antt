@@ -72,12 +72,16 @@ class_word Two chunk = Some (slice_index chunk 0)
 class_word Free chunk = None
 class_word Short chunk = None
 
--- the word that a slot of an object holds, which of the class word is the address in it; None where
--- the object has no such slot
+-- the word that a slot holds, among the class word of an object and its first fields, so many of them; of the class word
+-- it is the address in it. None where there is no such slot
+abbrev pub word_among : ℕ → List ℕ → Slot → Option ℕ
+word_among count chunk ClassWord = option_map class_address (class_word (chunk_kind chunk) chunk)
+word_among count chunk (Field index) =
+    if nat_lt index count then Some (slice_index (fields chunk) index) else None
+
+-- the word that a slot of an object holds: its class word, or one of its traced fields
 abbrev pub slot_word : List ℕ → Slot → Option ℕ
-slot_word chunk ClassWord = option_map class_address (class_word (chunk_kind chunk) chunk)
-slot_word chunk (Field index) =
-    if nat_lt index (traced chunk) then Some (slice_index (fields chunk) index) else None
+slot_word chunk slot = word_among (traced chunk) chunk slot
 
 -- the slot of the class word, if the kind has one
 abbrev pub class_slots : Kind → List Slot

@@ -1,17 +1,35 @@
--- The targets of the slots of an object that were looked at so far.
-use Rattle.std.specs.Prelude.{◌≡◌, ◌<◌, ℕ, List, Some}
+-- What the slots of an object name.
+use Rattle.std.specs.Prelude.{◌≡◌, ℕ, List, Option, Some, None, option_and_then}
+use Rattle.sqz_object.specs.declared.value.Value.{Value}
+use Rattle.sqz_object.specs.declared.value.Value.TheVariants.{Int, Pointer, Odd}
+use Rattle.sqz_object.specs.Value.{value_of}
 use Rattle.sqz_image.specs.declared.fault.Slot.{Slot}
-use Rattle.sqz_image.specs.declared.fault.Slot.TheVariants.{ClassWord, Field}
-use Rattle.sqz_image.specs.Objects.{Memory}
-use Rattle.sqz_trace.specs.Edges.{named_in}
+use Rattle.sqz_image.specs.Objects.{Memory, chunk_words, find}
+use Rattle.sqz_trace.specs.Slots.{traced, word_among}
 
--- a slot is the class word, or one of the first fields, so many of them
-abbrev pub IsBelow : ℕ → Slot → Type 0
-IsBelow count ClassWord = Unit {0}
-IsBelow count (Field index) = index < count
+-- the object that a value names: a pointer names the object whose address it is
+abbrev pub object_named : Memory → Value → Option ℕ
+object_named memory (Int number) = None
+object_named memory (Pointer address) = find memory address
+object_named memory (Odd word) = None
 
--- a slot of the chunk, among the class word and the first fields, so many of them, names it
+-- the object that the word of a slot names
+abbrev pub named_by : Memory → ℕ → Option ℕ
+named_by memory word = object_named memory (value_of word)
+
+-- the object that a slot names, among the class word of a chunk and its first fields, so many of them
+abbrev pub named_among : Memory → ℕ → List ℕ → Slot → Option ℕ
+named_among memory count chunk slot = option_and_then (named_by memory) (word_among count chunk slot)
+
+-- the object that a slot of a chunk names; None where the chunk has no such slot, too
+abbrev pub named_in : Memory → List ℕ → Slot → Option ℕ
+named_in memory chunk slot = named_among memory (traced chunk) chunk slot
+
+-- the object that a slot of an object names
+abbrev pub target : Memory → ℕ → Slot → Option ℕ
+target memory index slot = named_in memory (chunk_words memory index) slot
+
+-- a slot names it, among the class word of a chunk and its first fields, so many of them
 pub record IsTargetBelow (memory : Memory) (chunk : List ℕ) (count index : ℕ) : Type 0 where
   pub slot : Slot
-  pub below : IsBelow count slot
-  pub names : named_in memory chunk slot ≡ Some index
+  pub names : named_among memory count chunk slot ≡ Some index

@@ -4,20 +4,25 @@ ghost use Rattle.std.specs.Prelude.{◌≡◌, ◌<◌};
 ghost use Rattle.sqz_object.specs.Value.{value_of};
 ghost use Rattle.sqz_image.specs.Objects.{object_count, object_at};
 ghost use Rattle.sqz_trace.specs.Slots.{traced, field_slots};
-ghost use Rattle.sqz_trace.specs.Defects.{lacks_class, states_too_many, is_bad_method, is_bad_context, is_bad_value};
-ghost use Rattle.sqz_trace.specs.Defects.{first_bad, bad_slot, defect};
+ghost use Rattle.sqz_trace.specs.Defects.{lacks_class, states_too_many, is_bad_method, is_bad_context, is_bad_weak, is_bad_value};
+ghost use Rattle.sqz_trace.specs.Defects.{first_bad, bad_slot, defect, lacks_nil};
 
+use crate::classes::class_of;
 use crate::contexts::{context_fields, is_context};
+use crate::fixed::{fixed_by, is_weak};
 use crate::methods::{is_method, method_fields};
+use crate::parent::nil;
 use crate::slots::{class_address, traced_fields};
+use crate::weak::Weak;
 use sqz_image::{Fault, Heap, Object, Slot};
 use sqz_object::{Kind, Value, base_of, value_of};
 
-/// The first thing that is wrong with an object: `NoClass`, else `BadMethod` or `BadContext`, else
-/// `BadPointer` with its first slot that holds neither an integer nor the address of an object.
-pub fn defect(heap: &Heap, object: u32) -> Option<Fault>
+/// The first thing that is wrong with an object: `NoClass`, else `BadMethod` or `BadContext`, else, where weak slots are
+/// cleared, `BadWeak`, else `BadPointer` with its first slot, weak or not, that holds neither an integer nor the address
+/// of an object.
+pub fn defect(heap: &Heap, weak: Weak, object: u32) -> Option<Fault>
     requires { object < object_count heap.now }
-    ensures { result ≡ defect heap.now (object_at heap.now object) }
+    ensures { result ≡ defect heap.now weak (object_at heap.now object) }
 {
     let chunk = heap.object(object);
     if lacks_class(&chunk) {
@@ -31,6 +36,10 @@ pub fn defect(heap: &Heap, object: u32) -> Option<Fault>
     if is_bad_context(&chunk) {
         let address = heap.address(object);
         return Some(Fault::BadContext { address });
+    }
+    if is_bad_weak(heap, weak, &chunk) {
+        let address = heap.address(object);
+        return Some(Fault::BadWeak { address });
     }
     let slot = bad_slot(heap, &chunk)?;
     let address = heap.address(object);
@@ -61,6 +70,17 @@ fn is_bad_context(object: &Object<'_>) -> bool
     let base = base_of(object.header().base);
     let fields = object.fields();
     is_context(&base) && states_too_many(context_fields(fields), fields.len() as u32)
+}
+
+/// Whether the object has weak slots that are cleared, and its class states no number of fixed fields, or more than it has.
+fn is_bad_weak(heap: &Heap, weak: Weak, object: &Object<'_>) -> bool
+    ensures { result ≡ is_bad_weak heap.now weak object.now }
+{
+    is_weak(weak, object)
+        && states_too_many(
+            fixed_by(heap, class_of(heap, weak, object)),
+            object.fields().len() as u32,
+        )
 }
 
 /// Whether no number is stated, or a number above this count.
@@ -107,4 +127,14 @@ fn bad_field(heap: &Heap, object: &Object<'_>) -> Option<Slot>
         }
     }
     None
+}
+
+/// Whether weak slots are cleared and there is no nil for them to name.
+pub fn lacks_nil(heap: &Heap, weak: Weak) -> bool
+    ensures { result ≡ lacks_nil heap.now weak }
+{
+    match weak {
+        Weak::Keep => false,
+        Weak::Clear => nil(heap, weak).is_none(),
+    }
 }

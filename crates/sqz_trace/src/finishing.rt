@@ -3,31 +3,32 @@
 ghost use Rattle.std.specs.Prelude.{◌≡◌, ℕ, ◌+◌, ◌<◌, ◌≤◌, length, Some};
 ghost use Rattle.sqz_image.specs.Objects.{object_count};
 ghost use Rattle.sqz_trace.specs.declared.shades.Shade.TheVariants.{Grey};
-ghost use Rattle.sqz_trace.specs.Edges.{named_in, HasEdge};
+ghost use Rattle.sqz_trace.specs.Edges.{strong_named, HasEdge};
 ghost use Rattle.sqz_trace.specs.Reachability.{IsReachability};
 ghost use Rattle.sqz_trace.specs.Shades.{AreLawfulOf, shade_at};
 ghost use Rattle.sqz_trace.specs.Greying.{Blackens, Greys, IsLowest};
 
 use crate::greying::grey_white_target;
 use crate::marks::Marks;
+use crate::parent::Parent;
 use crate::shades::{Shade, Shades};
-use crate::traced_object::TracedObject;
+use crate::weak::Weak;
 use sqz_image::laws::heap_bounds;
 use sqz_image::{Heap, Slot};
 
 /// The reachable objects of a heap, by shades of which the special objects array is not white, each object that is not
-/// white is reachable, and none that a black one names is white. It takes no memory.
+/// white is reachable, and none that a strong slot of a black one names is white. It takes no memory.
 ///
 /// Where no object is grey it looks at each shade once. Else it goes over the objects from the lowest grey one on, and
 /// back to the lowest that becomes grey on the way.
-pub fn finish(heap: &Heap, mut shades: Shades) -> Marks
-    requires { AreLawfulOf heap.now shades.items }
-    ensures { IsReachability heap.now result }
+pub fn finish(heap: &Heap, weak: Weak, mut shades: Shades) -> Marks
+    requires { AreLawfulOf heap.now weak shades.items }
+    ensures { IsReachability heap.now weak result }
 {
     let mut object = 0;
     while object < heap.len() {
         object = match shades[object as usize] {
-            Shade::Grey => blacken(heap, object, &mut shades),
+            Shade::Grey => blacken(heap, weak, object, &mut shades),
             Shade::White | Shade::Black => object + 1,
         };
     }
@@ -36,34 +37,34 @@ pub fn finish(heap: &Heap, mut shades: Shades) -> Marks
 
 /// Makes the white targets of a grey object grey, and it black. Answers the lowest of them, or the next object where that
 /// is lower.
-fn blacken(heap: &Heap, object: u32, shades: &mut [Shade]) -> u32
+fn blacken(heap: &Heap, weak: Weak, object: u32, shades: &mut [Shade]) -> u32
     requires object { object < object_count heap.now }
     requires sized { length shades.old ≡ object_count heap.now }
     requires grey { shade_at shades.old object ≡ Grey }
-    ensures blackened { Blackens (HasEdge heap.now object) object shades.old shades.new }
+    ensures blackened { Blackens (HasEdge heap.now weak object) object shades.old shades.new }
     ensures lowest { IsLowest (object + 1) shades.old shades.new result }
 {
     heap_bounds(heap);
-    let parent = TracedObject::of(heap, object);
+    let parent = Parent::of(heap, weak, object);
     let mut lowest = grey_target(heap, &parent, Slot::ClassWord, shades, object + 1);
-    for k in 0..parent.traced() {
+    for k in 0..parent.strong() {
         lowest = grey_target(heap, &parent, Slot::Field(k), shades, lowest);
     }
     shades[object as usize] = Shade::Black;
     lowest
 }
 
-/// Makes the object that a slot names grey where it is white. Answers it, or the lowest so far where that is lower or
+/// Makes the object that a strong slot names grey where it is white. Answers it, or the lowest so far where that is lower or
 /// none became grey.
 fn grey_target(
     heap: &Heap,
-    parent: &TracedObject<'_>,
+    parent: &Parent<'_>,
     slot: Slot,
     shades: &mut [Shade],
     lowest: u32,
 ) -> u32
     requires { length shades.old ≡ object_count heap.now }
-    ensures greyed { Greys (λ index. named_in heap.now parent.now slot ≡ Some index) shades.old shades.new }
+    ensures greyed { Greys (λ index. strong_named heap.now parent.now slot ≡ Some index) shades.old shades.new }
     ensures lowest { IsLowest lowest shades.old shades.new result }
 {
     match grey_white_target(heap, parent, slot, shades) {

@@ -1,25 +1,33 @@
 //! What the objects of an image name, which of them are reachable, and what is wrong with them.
 #![tactic(auto)]
 
+mod classes;
 mod contexts;
 mod defects;
 mod finishing;
+mod fixed;
 mod greying;
 mod lowest_defect;
 mod marking;
 mod marks;
 mod methods;
+mod parent;
 mod shades;
 mod slots;
-mod traced_object;
+mod strong_slots;
 mod turns;
+mod weak;
 
-pub use defects::defect;
+pub use classes::{class_of, compact_class};
+pub use defects::{defect, lacks_nil};
 pub use finishing::finish;
+pub use fixed::is_weak;
 pub use lowest_defect::first_defect;
 pub use marking::mark_plain;
 pub use marks::Marks;
+pub use parent::{Parent, nil};
 pub use shades::{Shade, Shades, first_shades};
-pub use slots::{class_address, named_by, traced, traced_fields};
-pub use traced_object::{TracedObject, target};
+pub use slots::{class_address, named_by, target, traced, traced_fields};
+pub use strong_slots::{strong, strong_fields};
 pub use turns::blacken_listed;
+pub use weak::Weak;

@@ -8,6 +8,7 @@ ghost use Rattle.sqz_trace.specs.Ranges.{defect_at, first_between, first_in_rang
 
 use crate::defects::defect;
 use crate::marks::Marks;
+use crate::weak::Weak;
 use rayon::prelude::*;
 use sqz_image::{Fault, Heap};
 use std::thread::Threads;
@@ -16,14 +17,14 @@ use std::thread::Threads;
 const RANGE: u32 = 4096;
 
 /// The defect of the lowest marked object that has one, among the objects `from..to`.
-fn defect_in(heap: &Heap, marks: &Marks, from: u32, to: u32) -> Option<Fault>
+fn defect_in(heap: &Heap, weak: Weak, marks: &Marks, from: u32, to: u32) -> Option<Fault>
     requires inside { to ≤ object_count heap.now }
     requires sized { length marks.now ≡ object_count heap.now }
-    ensures { result ≡ first_between (defect_at heap.now marks.now) from to }
+    ensures { result ≡ first_between (defect_at heap.now weak marks.now) from to }
 {
     for object in from..to {
         if marks.has(object) {
-            let found = defect(heap, object);
+            let found = defect(heap, weak, object);
             if found.is_some() {
                 return found;
             }
@@ -34,21 +35,26 @@ fn defect_in(heap: &Heap, marks: &Marks, from: u32, to: u32) -> Option<Fault>
 
 /// The defect of the lowest marked object that has one, among the objects of the range with this
 /// number.
-fn defect_in_range(heap: &Heap, marks: &Marks, range: u32) -> Option<Fault>
+fn defect_in_range(heap: &Heap, weak: Weak, marks: &Marks, range: u32) -> Option<Fault>
     requires inside { range * RANGE < object_count heap.now }
     requires sized { length marks.now ≡ object_count heap.now }
-    ensures { result ≡ first_in_range (defect_at heap.now marks.now) RANGE (object_count heap.now) range }
+    ensures { result ≡ first_in_range (defect_at heap.now weak marks.now) RANGE (object_count heap.now) range }
 {
     let count = heap.len();
     let from = range * RANGE;
-    defect_in(heap, marks, from, count.min(from + RANGE))
+    defect_in(heap, weak, marks, from, count.min(from + RANGE))
 }
 
 /// The defect of the lowest marked object that has one. The objects are looked at in several
 /// threads, in ranges of thousands. It takes no memory.
-pub fn first_defect(rt: &(impl Threads + Sync), heap: &Heap, marks: &Marks) -> Option<Fault>
+pub fn first_defect(
+    rt: &(impl Threads + Sync),
+    heap: &Heap,
+    weak: Weak,
+    marks: &Marks,
+) -> Option<Fault>
     requires { length marks.now ≡ object_count heap.now }
-    ensures { result ≡ first_defect heap.now marks.now }
+    ensures { result ≡ first_defect heap.now weak marks.now }
 {
     let ranges = heap.len().div_ceil(RANGE);
     (0..ranges)
@@ -58,8 +64,8 @@ pub fn first_defect(rt: &(impl Threads + Sync), heap: &Heap, marks: &Marks) -> O
             |range: u32| -> Option<Fault>
                 requires inside { range * RANGE < object_count heap.now }
                 requires sized { length marks.now ≡ object_count heap.now }
-                ensures { result ≡ first_in_range (defect_at heap.entry.now marks.entry.now) RANGE (object_count heap.entry.now) range }
-            { defect_in_range(heap, marks, range) },
+                ensures { result ≡ first_in_range (defect_at heap.entry.now weak marks.entry.now) RANGE (object_count heap.entry.now) range }
+            { defect_in_range(heap, weak, marks, range) },
         )
         .reduce(
             rt,

@@ -4,14 +4,17 @@ ghost use Rattle.std.specs.Prelude.{◌≡◌, ◌<◌, length, IfOk, IfErr, OnO
 ghost use Rattle.sqz_image.specs.declared.fault.Fault.TheVariants.{OutOfMemory};
 ghost use Rattle.sqz_image.specs.declared.fault.Slot.TheVariants.{ClassWord};
 ghost use Rattle.sqz_image.specs.Objects.{object_count};
-ghost use Rattle.sqz_trace.specs.Edges.{named_by, named_in, HasEdge};
+ghost use Rattle.sqz_trace.specs.Targets.{named_by, named_in};
+ghost use Rattle.sqz_trace.specs.Edges.{HasEdge};
 ghost use Rattle.sqz_trace.specs.Reachability.{IsReachability};
 ghost use Rattle.sqz_trace.specs.Marking.{IsNamedBelow, MarksTargets};
 ghost use Rattle.sqz_trace.specs.Shades.{marks_of};
 
 use crate::marks::{Marks, has_mark};
 use crate::shades::{Shade, first_shades};
-use crate::slots::{class_address, named_by, traced_fields};
+use crate::slots::{class_address, named_by};
+use crate::strong_slots::strong_fields;
+use crate::weak::Weak;
 use sqz_image::{Fault, Heap, Object};
 use std::alloc::{AllocError, Global};
 
@@ -70,37 +73,38 @@ fn mark_class(
     Ok(())
 }
 
-/// Marks the objects that the slots of an object name, and adds those that had no mark to the
+/// Marks the objects that the strong slots of an object name, and adds those that had no mark to the
 /// worklist.
 fn mark_targets(
     heap: &Heap,
+    weak: Weak,
     index: u32,
     shades: &mut [Shade],
     worklist: &mut Vec<u32>,
 ) -> Result<(), AllocError>
     requires object { index < object_count heap.now }
     requires sized { length shades.old ≡ object_count heap.now }
-    ensures { OnOk result (MarksTargets (HasEdge heap.now index)
+    ensures { OnOk result (MarksTargets (HasEdge heap.now weak index)
         (marks_of shades.old) worklist.old.items (marks_of shades.new) worklist.new.items) }
 {
     let object = heap.object(index);
     let fields = object.fields();
-    let traced = traced_fields(&object) as usize;
+    let strong = strong_fields(heap, weak, &object) as usize;
     mark_class(heap, &object, shades, worklist)?;
-    mark_all_named(heap, &fields[..traced], shades, worklist)
+    mark_all_named(heap, &fields[..strong], shades, worklist)
 }
 
 /// The reachable objects of a heap: a mark for each. The program marks by workers; this is the plain form, in one thread.
 /// Fails for want of memory alone.
-pub fn mark_plain(alloc: Global, heap: &Heap) -> Result<Marks, Fault>
-    ensures reachable { IfOk result (λ marks. IsReachability heap.now marks) }
+pub fn mark_plain(alloc: Global, heap: &Heap, weak: Weak) -> Result<Marks, Fault>
+    ensures reachable { IfOk result (λ marks. IsReachability heap.now weak marks) }
     ensures refused { IfErr result (λ fault. fault ≡ OutOfMemory) }
 {
     let mut shades = first_shades(alloc, heap)?;
     let mut worklist = Vec::new(alloc);
     worklist.push(heap.special())?;
     while let Some(object) = worklist.pop() {
-        mark_targets(heap, object, &mut shades, &mut worklist)?;
+        mark_targets(heap, weak, object, &mut shades, &mut worklist)?;
     }
     Ok(Marks::new(shades))
 }

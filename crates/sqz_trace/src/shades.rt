@@ -2,6 +2,7 @@
 
 ghost use Rattle.std.specs.Prelude.{◌≡◌, ◌^◌, ◌<◌, length, IfOk, IfErr};
 ghost use Rattle.sqz_image.specs.declared.fault.Fault.TheVariants.{OutOfMemory};
+ghost use Rattle.sqz_trace.specs.declared.weak.Weak.{Weak};
 ghost use Rattle.sqz_trace.specs.Shades.{AreFirst, AreLawfulOf};
 
 use sqz_image::{Fault, Heap};
@@ -24,7 +25,7 @@ pub type Shades = Vec<Shade>;
 /// The shades at which marking begins: the special objects array is grey, all else white. Fails for want of memory alone.
 pub fn first_shades(alloc: Global, heap: &Heap) -> Result<Shades, Fault>
     ensures first { IfOk result (λ shades. AreFirst heap.now shades.items) }
-    ensures lawful { IfOk result (λ shades. AreLawfulOf heap.now shades.items) }
+    ensures lawful { IfOk result (λ shades. (weak : Weak) → AreLawfulOf heap.now weak shades.items) }
     ensures few { IfOk result (λ shades. length shades.items < 2 ^ 30) }
     ensures refused { IfErr result (λ fault. fault ≡ OutOfMemory) }
 {

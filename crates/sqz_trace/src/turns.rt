@@ -3,46 +3,53 @@
 ghost use Rattle.std.specs.Prelude.{◌≡◌, ◌+◌, ◌<◌, ◌≤◌, length, Some, vec_capacity};
 ghost use Rattle.sqz_image.specs.Objects.{object_count};
 ghost use Rattle.sqz_trace.specs.declared.shades.Shade.TheVariants.{Grey};
-ghost use Rattle.sqz_trace.specs.Edges.{named_in, HasEdge};
+ghost use Rattle.sqz_trace.specs.Edges.{strong_named, HasEdge};
 ghost use Rattle.sqz_trace.specs.Shades.{shade_at};
 ghost use Rattle.sqz_trace.specs.Greying.{Blackens, Greys, IsListed, white_count};
 
 use crate::greying::grey_white_target;
+use crate::parent::Parent;
 use crate::shades::Shade;
-use crate::traced_object::TracedObject;
+use crate::weak::Weak;
 use sqz_image::{Heap, Slot};
 
 /// Makes the white targets of a grey object grey, adds them to the end of the list, and makes the object black. Takes
 /// no memory: the list has room for all white objects.
-pub fn blacken_listed(heap: &Heap, object: u32, shades: &mut [Shade], list: &mut Vec<u32>)
+pub fn blacken_listed(
+    heap: &Heap,
+    weak: Weak,
+    object: u32,
+    shades: &mut [Shade],
+    list: &mut Vec<u32>,
+)
     requires object { object < object_count heap.now }
     requires sized { length shades.old ≡ object_count heap.now }
     requires grey { shade_at shades.old object ≡ Grey }
     requires room { length list.old.items + white_count shades.old ≤ vec_capacity list.old }
-    ensures blackened { Blackens (HasEdge heap.now object) object shades.old shades.new }
+    ensures blackened { Blackens (HasEdge heap.now weak object) object shades.old shades.new }
     ensures listed { IsListed shades.old shades.new list.old.items list.new.items }
     ensures room { length list.new.items + white_count shades.new ≤ vec_capacity list.new }
     ensures capacity { vec_capacity list.new ≡ vec_capacity list.old }
 {
-    let parent = TracedObject::of(heap, object);
+    let parent = Parent::of(heap, weak, object);
     grey_listed(heap, &parent, Slot::ClassWord, shades, list);
-    for k in 0..parent.traced() {
+    for k in 0..parent.strong() {
         grey_listed(heap, &parent, Slot::Field(k), shades, list);
     }
     shades[object as usize] = Shade::Black;
 }
 
-/// Makes the object that a slot names grey where it is white, and adds it to the end of the list then.
+/// Makes the object that a strong slot names grey where it is white, and adds it to the end of the list then.
 fn grey_listed(
     heap: &Heap,
-    parent: &TracedObject<'_>,
+    parent: &Parent<'_>,
     slot: Slot,
     shades: &mut [Shade],
     list: &mut Vec<u32>,
 )
     requires sized { length shades.old ≡ object_count heap.now }
     requires room { length list.old.items + white_count shades.old ≤ vec_capacity list.old }
-    ensures greyed { Greys (λ index. named_in heap.now parent.now slot ≡ Some index) shades.old shades.new }
+    ensures greyed { Greys (λ index. strong_named heap.now parent.now slot ≡ Some index) shades.old shades.new }
     ensures listed { IsListed shades.old shades.new list.old.items list.new.items }
     ensures capacity { vec_capacity list.new ≡ vec_capacity list.old }
 {

@@ -6,8 +6,7 @@ use Rattle.sqz_image.specs.declared.fault.Slot.TheVariants.{ClassWord, Field}
 use Rattle.sqz_image.specs.Objects.{Memory}
 use Rattle.sqz_trace.specs.declared.shades.Shade.{Shade}
 use Rattle.sqz_trace.specs.declared.shades.Shade.TheVariants.{White, Grey, Black}
-use Rattle.sqz_trace.specs.Edges.{named_in}
-use Rattle.sqz_trace.specs.Targets.{IsTargetBelow}
+use Rattle.sqz_trace.specs.Targets.{named_among, named_in, IsTargetBelow}
 use Rattle.sqz_trace.proofs.TargetLemmas.{IsTargetBelow-next, IsTargetBelow-none}
 use Rattle.sqz_marks.specs.declared.view.View.{View}
 use Rattle.sqz_marks.specs.Core.{times, HasSeen, looked, claimed, seen_by, counted, blackened}
@@ -170,12 +169,12 @@ module _ (memory : Memory) (chunk : List ℕ) where
       → HasSeenBelow memory chunk 0 view
   HasSeenBelow-none view seen index named = seen index (IsTargetBelow-none memory chunk index named)
 
-  pub HasSeenBelow-next : (k : ℕ) (old new : View) → HasSeenBelow memory chunk k old
+  pub HasSeenBelow-next : (count k : ℕ) (old new : View) → k < count → HasSeenBelow memory chunk k old
       → ((index : ℕ) → HasSeen old index → HasSeen new index)
-      → ((index : ℕ) → named_in memory chunk (Field k) ≡ Some index → HasSeen new index)
+      → ((index : ℕ) → named_among memory count chunk (Field k) ≡ Some index → HasSeen new index)
       → HasSeenBelow memory chunk (k + 1) new
-  HasSeenBelow-next k old new before keeps here index named =
-      elim (IsTargetBelow-next memory chunk k index named) [
+  HasSeenBelow-next count k old new lt before keeps here index named =
+      elim (IsTargetBelow-next memory chunk count k index lt named) [
         | inl below ↦ keeps index (before index below)
         | inr is ↦ here index is
       ]

@@ -8,6 +8,7 @@ use Rattle.sqz_trace.specs.declared.shades.Shade.{Shade}
 use Rattle.sqz_trace.specs.declared.shades.Shade.TheVariants.{White, Grey, Black}
 use Rattle.sqz_trace.specs.Shades.{shade_at, marks_of}
 use Rattle.sqz_trace.specs.Graph.{MarksReachable}
+use Rattle.sqz_trace.specs.declared.weak.Weak.{Weak}
 use Rattle.sqz_trace.specs.Reachability.{graph_from, IsReachability}
 use Rattle.sqz_trace.proofs.LawLemmas.{MarksReachable-finished}
 use Rattle.sqz_trace.proofs.ReachabilityLemmas.{MarksReachable-unique}
@@ -91,9 +92,10 @@ IsSettled-passed object other old new passed keeps settled won =
     keeps other (settled (subst (λ (list : List ℕ). 0 < times other list) passed.won won))
 
 -- where a pass that knows all is settled about each object, none is grey
-pub none_grey : (memory : Memory) (view : View) (shades : List Shade) (count : ℕ) → AreClosed memory view shades → length shades ≡ count
+pub none_grey : (memory : Memory) (weak : Weak) (view : View) (shades : List Shade) (count : ℕ)
+    → AreClosed memory weak view shades → length shades ≡ count
     → ((object : ℕ) → object < count → IsSettled view object) → (object : ℕ) → shade_at shades object ≢ Grey
-none_grey memory view shades count closed sized settled object =
+none_grey memory weak view shades count closed sized settled object =
     elim (cases_lt object count) [
       | inl lt ↦ (λ is. by_times (times object view.blackened) (times object view.won) (settled object lt) (sym (closed.known object) ∙ is))
       | inr past ↦ (λ is. white-grey (sym (get_or_past shades object White (omega (arith, sized, past))) ∙ is))
@@ -105,13 +107,20 @@ none_grey memory view shades count closed sized settled object =
     by_times (suc black) won known is =
         grey-black (sym is ∙ ap (λ b. if b then Black else (if ltb 0 won then Grey else White)) (lt-ltb 0 (suc black) (omega arith)))
 
+-- what a closed table shows of its object memory
+pub AreClosed-of : (view : View) (shades : List Shade) {from to : Memory} {old new : Weak} → from ≡ to → old ≡ new
+    → AreClosed from old view shades → AreClosed to new view shades
+AreClosed-of view shades {from} {to} {old} {new} memory weak closed =
+    subst (λ (w : Weak). AreClosed to w view shades) weak (subst (λ (m : Memory). AreClosed m old view shades) memory closed)
+
 -- so the marked objects are the reachable ones
-pub marks_of-settled : (memory : Memory) (view : View) (shades : List Shade) (marks : List Bool) → AreClosed memory view shades
-    → ((object : ℕ) → object < object_count memory → IsSettled view object) → IsReachability memory marks → marks_of shades ≡ marks
-marks_of-settled memory view shades marks closed settled reachable =
-    let graph = graph_from closed.lawful.start memory in
+pub marks_of-settled : (memory : Memory) (weak : Weak) (view : View) (shades : List Shade) (marks : List Bool)
+    → AreClosed memory weak view shades
+    → ((object : ℕ) → object < object_count memory → IsSettled view object) → IsReachability memory weak marks → marks_of shades ≡ marks
+marks_of-settled memory weak view shades marks closed settled reachable =
+    let graph = graph_from closed.lawful.start memory weak in
     let same : reachable.start ≡ closed.lawful.start = same_Some _ _ (sym reachable.is_special ∙ closed.lawful.is_special) in
     MarksReachable-unique graph (marks_of shades) marks
     (MarksReachable-finished graph shades closed.lawful.lawful
-    (none_grey memory view shades (object_count memory) closed closed.lawful.lawful.sized settled))
-    (subst (λ (start : ℕ). MarksReachable (graph_from start memory) marks) same reachable.reached)
+    (none_grey memory weak view shades (object_count memory) closed closed.lawful.lawful.sized settled))
+    (subst (λ (start : ℕ). MarksReachable (graph_from start memory weak) marks) same reachable.reached)

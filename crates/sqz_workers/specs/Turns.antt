@@ -3,6 +3,7 @@ use Rattle.std.specs.Prelude.{◌≡◌, ◌⊎◌, ℕ, Bool, true, false, List
 use Rattle.sqz_image.specs.Objects.{Memory}
 use Rattle.sqz_trace.specs.declared.shades.Shade.{Shade}
 use Rattle.sqz_trace.specs.declared.shades.Shade.TheVariants.{Grey}
+use Rattle.sqz_trace.specs.declared.weak.Weak.{Weak}
 use Rattle.sqz_trace.specs.Edges.{HasEdge}
 use Rattle.sqz_trace.specs.Shades.{shade_at, AreFirst}
 use Rattle.sqz_trace.specs.Greying.{Blackens, IsListed}
@@ -18,9 +19,9 @@ pub record IsBegun (memory : Memory) (progress : Progress) : Type 0 where
   pub alone : progress.list ≡ first.start ∷ []
 
 -- the object is grey: it becomes black, and its white targets grey, which join the list
-pub record IsLookedAt (memory : Memory) (object : ℕ) (old new : List Shade) (list longer : List ℕ) : Type 0 where
+pub record IsLookedAt (memory : Memory) (weak : Weak) (object : ℕ) (old new : List Shade) (list longer : List ℕ) : Type 0 where
   pub grey : shade_at old object ≡ Grey
-  pub blackened : Blackens (HasEdge memory object) object old new
+  pub blackened : Blackens (HasEdge memory weak object) object old new
   pub listed : IsListed old new list longer
 
 -- the object is not grey, and nothing changes
@@ -30,13 +31,13 @@ pub record IsPassedOver (object : ℕ) (old new : List Shade) (list longer : Lis
   pub list_is : longer ≡ list
 
 -- an object is taken from the end of the list, and looked at where it is grey
-pub record IsTaken (memory : Memory) (old new : Progress) : Type 0 where
+pub record IsTaken (memory : Memory) (weak : Weak) (old new : Progress) : Type 0 where
   pub object : ℕ
   pub rest : List ℕ
   pub last : old.list ≡ rest ++ object ∷ []
-  pub done : IsLookedAt memory object old.shades new.shades rest new.list ⊎ IsPassedOver object old.shades new.shades rest new.list
+  pub done : IsLookedAt memory weak object old.shades new.shades rest new.list ⊎ IsPassedOver object old.shades new.shades rest new.list
 
 -- one object is taken, or the list is empty and nothing changes
-abbrev pub IsTurn : Memory → Progress → Progress → Bool → Type 0
-IsTurn memory old new true = IsTaken memory old new
-IsTurn memory old new false = (old.list ≡ []) × (new ≡ old)
+abbrev pub IsTurn : Memory → Weak → Progress → Progress → Bool → Type 0
+IsTurn memory weak old new true = IsTaken memory weak old new
+IsTurn memory weak old new false = (old.list ≡ []) × (new ≡ old)

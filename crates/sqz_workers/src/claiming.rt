@@ -2,15 +2,15 @@
 
 ghost use Rattle.std.specs.Prelude.{◌≡◌, ℕ, ◌+◌, ◌<◌, ◌≤◌, ◌^◌, Some};
 ghost use Rattle.sqz_image.specs.Objects.{object_count};
-ghost use Rattle.sqz_trace.specs.Edges.{named_in};
+ghost use Rattle.sqz_trace.specs.Edges.{strong_named};
 ghost use Rattle.sqz_marks.specs.Core.{HasSeen, HasBlackened};
-ghost use Rattle.sqz_marks.specs.Table.{IsPassOf, IsSeenChunk};
+ghost use Rattle.sqz_marks.specs.Table.{IsPassOf, IsSeenParent};
 ghost use Rattle.sqz_workers.specs.Gains.{HasGained};
 
 use crate::worklist::Worklist;
 use sqz_image::{Heap, Slot};
 use sqz_marks::{Claim, MarkTable, Pass};
-use sqz_trace::{Shade, TracedObject};
+use sqz_trace::{Parent, Shade};
 
 /// Marks what an object names that was taken from a worklist, if there is such an object and it is grey. Answers how many
 /// objects were won.
@@ -30,50 +30,48 @@ pub(crate) fn mark_taken<L: Worklist>(
         return 0;
     }
     match table.look(pass, object) {
-        Shade::Grey => mark_slots(heap, table, pass, worklist, object),
+        Shade::Grey => mark_slots(table, pass, worklist, object),
         Shade::White | Shade::Black => 0,
     }
 }
 
-/// Claims what each slot of a grey object names, counts what was won and puts it into the worklist, and makes the object
+/// Claims what each strong slot of a grey object names, counts what was won and puts it into the worklist, and makes the object
 /// black. Answers how many objects were won.
 pub(crate) fn mark_slots<L: Worklist>(
-    heap: &Heap,
     table: &MarkTable<'_>,
     pass: &mut Pass,
     worklist: &mut L,
     object: u32,
 ) -> u32
-    requires heap { table.now.heap.memory ≡ heap.now }
     requires of { IsPassOf table.now pass.old }
-    requires inside { object < object_count heap.now }
+    requires inside { object < object_count table.now.heap.memory }
     requires seen { HasSeen pass.old.view object }
     ensures gained { HasGained pass.old pass.new result }
     ensures few { result ≤ 2 ^ 30 }
     ensures black { HasBlackened pass.new.view object }
 {
-    let parent = TracedObject::of(heap, object);
+    let parent = table.parent(object);
     let mut won = claim_slot(table, pass, worklist, &parent, Slot::ClassWord);
-    for k in 0..parent.traced() {
+    for k in 0..parent.strong() {
         won += claim_slot(table, pass, worklist, &parent, Slot::Field(k));
     }
     table.blacken(pass, object);
     won
 }
 
-/// Claims what a slot names, and counts it and puts it into the worklist if it was won. Answers how many objects were won.
+/// Claims what a strong slot names, and counts it and puts it into the worklist if it was won. Answers how many objects were won.
 fn claim_slot<L: Worklist>(
     table: &MarkTable<'_>,
     pass: &mut Pass,
     worklist: &mut L,
-    parent: &TracedObject<'_>,
+    parent: &Parent<'_>,
     slot: Slot,
 ) -> u32
     requires of { IsPassOf table.now pass.old }
-    requires seen { IsSeenChunk table.now.heap.memory pass.old.view parent.now }
+    requires seen { IsSeenParent table.now.heap.memory table.now.weak pass.old.view parent.now }
     ensures gained { HasGained pass.old pass.new result }
     ensures one { result ≤ 1 }
-    ensures named { (object : ℕ) → named_in table.now.heap.memory parent.now slot ≡ Some object → HasSeen pass.new.view object }
+    ensures named { (object : ℕ) → strong_named table.now.heap.memory parent.now slot ≡ Some object → HasSeen pass.new.view object }
 {
     match table.claim_of(pass, parent, slot) {
         Claim::Won(object) => {

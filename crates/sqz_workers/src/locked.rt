@@ -8,7 +8,7 @@ use crate::gate::{Gate, Phase};
 use crate::marking::{MarkedMemory, Marking};
 use sqz_image::{Fault, Heap};
 use sqz_marks::Workers;
-use sqz_trace::Marks;
+use sqz_trace::{Marks, Weak};
 use std::alloc::Global;
 use std::marker::Brand;
 use std::sync::{Mutex, Wait};
@@ -26,13 +26,14 @@ pub fn mark_locked<R: Threads + Wait + Sync, G: Gate>(
     rt: &R,
     alloc: Global,
     heap: &Heap,
+    weak: Weak,
     workers: Workers,
     gate: &G,
 ) -> Result<Marks, Fault>
-    ensures reachable { IfOk result (λ marks. IsReachability heap.now marks) }
+    ensures reachable { IfOk result (λ marks. IsReachability heap.now weak marks) }
     ensures refused { IfErr result (λ fault. fault ≡ OutOfMemory) }
 {
-    mark_in_turns::<Brand, R, G>(rt, alloc, heap, workers, gate)
+    mark_in_turns::<Brand, R, G>(rt, alloc, heap, weak, workers, gate)
 }
 
 /// The same, where the heap has a name.
@@ -40,11 +41,13 @@ fn mark_in_turns<M: MarkedMemory + Send + Sync, R: Threads + Wait + Sync, G: Gat
     rt: &R,
     alloc: Global,
     heap: &Heap,
+    weak: Weak,
     workers: Workers,
     gate: &G,
 ) -> Result<Marks, Fault>
-    requires { heap.now ≡ M.memory }
-    ensures reachable { IfOk result (λ marks. IsReachability heap.now marks) }
+    requires heap { heap.now ≡ M.memory }
+    requires weak { weak ≡ M.weak }
+    ensures reachable { IfOk result (λ marks. IsReachability heap.now weak marks) }
     ensures refused { IfErr result (λ fault. fault ≡ OutOfMemory) }
 {
     let marking: Mutex<Marking<M>> = Mutex::new(Marking::new(alloc, heap)?);
@@ -55,9 +58,10 @@ fn mark_in_turns<M: MarkedMemory + Send + Sync, R: Threads + Wait + Sync, G: Gat
         &|worker: usize|
             requires worker { worker < 64 }
             requires heap { heap.now ≡ M.memory }
-        { work(rt, &marking, heap, worker as u32, gate) },
+            requires weak { weak ≡ M.weak }
+        { work(rt, &marking, heap, weak, worker as u32, gate) },
     )?;
-    Ok(marking.into_inner().finish(heap))
+    Ok(marking.into_inner().finish(heap, weak))
 }
 
 /// The turns of a worker.
@@ -65,16 +69,18 @@ fn work<M: MarkedMemory, R: Wait, G: Gate>(
     rt: &R,
     marking: &Mutex<Marking<M>>,
     heap: &Heap,
+    weak: Weak,
     worker: u32,
     gate: &G,
 )
-    requires { heap.now ≡ M.memory }
+    requires heap { heap.now ≡ M.memory }
+    requires weak { weak ≡ M.weak }
 {
     let turns = 4 * u64::from(heap.len()) + 4096;
     let mut empty = 0;
     for turn in 0..turns {
         gate.pass(Phase::Mark, worker, turn);
-        if marking.lock(rt).turn(heap) {
+        if marking.lock(rt).turn(heap, weak) {
             empty = 0;
         } else {
             empty += 1;

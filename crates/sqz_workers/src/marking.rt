@@ -4,21 +4,28 @@ ghost use Rattle.std.specs.Prelude.{◌≡◌, [], IfOk, IfErr};
 ghost use Rattle.sqz_object.specs.declared.order.Order.TheVariants.{Little};
 ghost use Rattle.sqz_image.specs.declared.fault.Fault.TheVariants.{OutOfMemory};
 ghost use Rattle.sqz_image.specs.Objects.{Memory};
+ghost use Rattle.sqz_trace.specs.declared.weak.Weak.{Weak};
+ghost use Rattle.sqz_trace.specs.declared.weak.Weak.TheVariants.{Keep};
 ghost use Rattle.sqz_trace.specs.Reachability.{IsReachability};
 ghost use Rattle.sqz_workers.specs.Turns.{IsBegun, IsTurn};
 
 use sqz_image::{Fault, Heap};
-use sqz_trace::{Marks, Shade, Shades, blacken_listed, finish, first_shades};
+use sqz_trace::{Marks, Shade, Shades, Weak, blacken_listed, finish, first_shades};
 use std::alloc::Global;
 use std::marker::{Brand, Model, PhantomData};
 
-/// Names the object memory that is marked, since a lock tells no more of what is under it than its type.
+/// Names the object memory that is marked, and what becomes of weak slots, since a lock tells no more of what is under it
+/// than its type.
 pub trait MarkedMemory {
     ghost memory: { Memory };
+
+    ghost weak: { Weak };
 }
 
 impl MarkedMemory for Brand {
     ghost memory = { record { order = Little; base = 0; special = 0; chunks = [] } };
+
+    ghost weak = { Keep };
 }
 
 /// How far the marking of an object memory has come. Each worker changes it by turns.
@@ -40,7 +47,7 @@ impl<M: MarkedMemory> Model for Marking<M> {
 
     ghost view = { λ marking. record { shades = marking.shades.items; list = marking.list.items } };
 
-    ghost invariant = { λ marking. AreLawfulOf M.memory marking.shades.items
+    ghost invariant = { λ marking. AreLawfulOf M.memory M.weak marking.shades.items
         × (length marking.list.items + white_count marking.shades.items ≤ vec_capacity marking.list) };
 }
 
@@ -63,24 +70,26 @@ impl<M: MarkedMemory> Marking<M> {
 
     /// Takes one object from the list; if it is grey, its white targets become grey and join the list, and it becomes
     /// black. Answers whether there was one. It takes no memory.
-    pub fn turn(&mut self, heap: &Heap) -> bool
-        requires { heap.now ≡ M.memory }
-        ensures { IsTurn heap.now self.old self.new result }
+    pub fn turn(&mut self, heap: &Heap, weak: Weak) -> bool
+        requires heap { heap.now ≡ M.memory }
+        requires weak { weak ≡ M.weak }
+        ensures { IsTurn heap.now weak self.old self.new result }
     {
         let Some(object) = self.list.pop() else {
             return false;
         };
         if let Some(Shade::Grey) = self.shades.get(object as usize) {
-            blacken_listed(heap, object, &mut self.shades, &mut self.list);
+            blacken_listed(heap, weak, object, &mut self.shades, &mut self.list);
         }
         true
     }
 
     /// The reachable objects: what is grey yet is marked to its end.
-    pub fn finish(self, heap: &Heap) -> Marks
-        requires { heap.now ≡ M.memory }
-        ensures { IsReachability heap.now result }
+    pub fn finish(self, heap: &Heap, weak: Weak) -> Marks
+        requires heap { heap.now ≡ M.memory }
+        requires weak { weak ≡ M.weak }
+        ensures { IsReachability heap.now weak result }
     {
-        finish(heap, self.shades)
+        finish(heap, weak, self.shades)
     }
 }

@@ -60,7 +60,7 @@ fn mark_from(
 {
     match table.look(pass, object) {
         Shade::Grey => {
-            mark_slots(heap, table, pass, worklist, object);
+            mark_slots(table, pass, worklist, object);
             mark_listed(heap, table, pass, worklist);
             true
         }

@@ -16,7 +16,7 @@ use crossbeam_deque::{Stealer, Worker};
 use sqz_image::{Fault, Heap};
 use sqz_marks::{MarkTable, Pass, Workers};
 use sqz_regions::Regions;
-use sqz_trace::{Marks, finish};
+use sqz_trace::{Marks, Weak, finish};
 use std::alloc::{AllocError, Global};
 use std::thread::{Threads, join_mut};
 
@@ -41,12 +41,13 @@ pub fn mark<R: Threads + Sync, G: Gate>(
     rt: &R,
     alloc: Global,
     heap: &Heap,
+    weak: Weak,
     regions: &Regions<'_>,
     workers: Workers,
     gate: &G,
 ) -> Result<Marked, Fault>
     requires { regions.now.memory ≡ heap.now }
-    ensures reachable { IfOk result (λ marked. IsReachability heap.now marked.marks) }
+    ensures reachable { IfOk result (λ marked. IsReachability heap.now weak marked.marks) }
     ensures sums { IfOk result (λ marked. AreSums regions.now marked.marks marked.live_words.items) }
     ensures whole { IfOk result (λ marked. sum marked.live_words.items ≡ live_words heap.now marked.marks) }
     ensures room { IfOk result (λ marked. heap.now.base + 4 * sum marked.live_words.items ≤ 2 ^ 32) }
@@ -58,7 +59,7 @@ pub fn mark<R: Threads + Sync, G: Gate>(
     let (mut deques, stealers) = deques_of(alloc, count)?;
     let mut worklist = Vec::with_capacity(alloc, heap.len() as usize)?;
     let mut claims = vec![in alloc; 0u64; count]?;
-    let (table, mut pass) = MarkTable::new(alloc, heap, regions, workers)?;
+    let (table, mut pass) = MarkTable::new(alloc, heap, weak, regions, workers)?;
     let _refused = deques[0].push(heap.special());
     mark_by_shares(
         rt,
@@ -75,7 +76,7 @@ pub fn mark<R: Threads + Sync, G: Gate>(
     let Ok(closed) = table.close(alloc, pass) else {
         return Err(Fault::OutOfMemory);
     };
-    let marks = finish(heap, closed.shades);
+    let marks = finish(heap, weak, closed.shades);
     let (claims, finished) = counted(alloc, &claims, marks.count())?;
     Ok(Marked {
         marks,

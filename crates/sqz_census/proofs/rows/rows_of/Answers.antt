@@ -6,10 +6,11 @@ use Rattle.sqz_census.proofs.rows.rows_of.Goals as goal
 pub returns : goal.returns
 returns g c =
     let memory = c.args.heap.now in
+    let weak = c.args.weak in
     let places = c.args.forward.now in
     let shares = c.args.shares.now in
     let slice = ap (λ it. it.slice.now) c.map.ensures.base ∙ c.par_iter.ensures in
     let done = c.in_ok-collect.ensures in
     let chain = done.1 in
-    let zipped = slice-AllZip chain.0 shares (chain.1 ∙ slice) (IsRowOf memory places) done.0 (rw c.map.ensures.f at chain.2) in
-    rows_zipped memory places shares done.0 c.in_ok-collect.field-0 done.2 zipped
+    let zipped = slice-AllZip chain.0 shares (chain.1 ∙ slice) (IsRowOf memory weak places) done.0 (rw c.map.ensures.f at chain.2) in
+    rows_zipped memory weak places shares done.0 c.in_ok-collect.field-0 done.2 zipped

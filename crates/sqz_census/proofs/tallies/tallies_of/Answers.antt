@@ -6,63 +6,65 @@ use Rattle.sqz_census.proofs.tallies.tallies_of.Goals.{then-entry, else-entry}
 
 pub index_mut-tally-requires : goal.index_mut-tally-requires
 index_mut-tally-requires c =
+    let weak = c.requires.entries.0 in
+    let kept = c.requires.entries.1 in
     let object = c.loop-entry.entry-index in
-    let inside : c.loop-entry.entry-index < object_count c.args.heap.now =
-    omega (arith, c.loop-entry-test.true, c.requires.entries.sized) in
+    let inside : c.loop-entry.entry-index < object_count c.args.heap.now = omega (arith, c.loop-entry-test.true, kept.sized) in
     let lt =
-    entry_key-lt c.args.heap.now c.args.marks.now object inside c.loop-entry.tallies.items c.loop-entry.invariant _
-    (c.requires.entries.each object inside) c.if-entry.true in
+    entry_key-lt c.args.heap.now weak c.args.marks.now object inside c.loop-entry.tallies.items (c.loop-entry.invariant weak kept) _
+    (kept.each object inside) c.if-entry.true in
     omega (arith, lt, c.loop-entry.tallies.ok.0)
 
 pub overflow_add-tally : goal.overflow_add-tally
 overflow_add-tally c =
+    let weak = c.requires.entries.0 in
+    let kept = c.requires.entries.1 in
     let object = c.loop-entry.entry-index in
-    let inside : c.loop-entry.entry-index < object_count c.args.heap.now =
-    omega (arith, c.loop-entry-test.true, c.requires.entries.sized) in
+    let inside : c.loop-entry.entry-index < object_count c.args.heap.now = omega (arith, c.loop-entry-test.true, kept.sized) in
     let room =
-    entry_room c.args.heap.now c.args.marks.now object inside c.loop-entry.tallies.items c.loop-entry.invariant _
-    (c.requires.entries.each object inside) c.if-entry.true c.index_mut-tally.result.now c.index_mut-tally.ensures.value
+    entry_room c.args.heap.now weak c.args.marks.now object inside c.loop-entry.tallies.items (c.loop-entry.invariant weak kept) _
+    (kept.each object inside) c.if-entry.true c.index_mut-tally.result.now c.index_mut-tally.ensures.value
     c.heap_bounds.ensures.words (omega (arith, inside, c.len.ensures.objects, c.len.ensures.few)) in
     omega (arith, room.0)
 
 pub overflow_add-tally-then-entry : goal.overflow_add-tally-then-entry
 overflow_add-tally-then-entry c =
+    let weak = c.requires.entries.0 in
+    let kept = c.requires.entries.1 in
     let object = c.loop-entry.entry-index in
-    let inside : c.loop-entry.entry-index < object_count c.args.heap.now =
-    omega (arith, c.loop-entry-test.true, c.requires.entries.sized) in
+    let inside : c.loop-entry.entry-index < object_count c.args.heap.now = omega (arith, c.loop-entry-test.true, kept.sized) in
     let room =
-    entry_room c.args.heap.now c.args.marks.now object inside c.loop-entry.tallies.items c.loop-entry.invariant _
-    (c.requires.entries.each object inside) c.if-entry.true c.index_mut-tally.result.now c.index_mut-tally.ensures.value
+    entry_room c.args.heap.now weak c.args.marks.now object inside c.loop-entry.tallies.items (c.loop-entry.invariant weak kept) _
+    (kept.each object inside) c.if-entry.true c.index_mut-tally.result.now c.index_mut-tally.ensures.value
     c.heap_bounds.ensures.words (omega (arith, inside, c.len.ensures.objects, c.len.ensures.few)) in
     omega (arith, room.1)
 
 pub loop-entry-preserved : goal.loop-entry-preserved
-loop-entry-preserved c =
+loop-entry-preserved c weak kept =
     let memory = c.args.heap.now in
     let marks = c.args.marks.now in
     let object = c.loop-entry.entry-index in
-    let so_far = c.loop-entry.invariant in
-    let inside : c.loop-entry.entry-index < object_count c.args.heap.now =
-    omega (arith, c.loop-entry-test.true, c.requires.entries.sized) in
-    let known = c.requires.entries.each object inside in
+    let so_far = c.loop-entry.invariant weak kept in
+    let inside : c.loop-entry.entry-index < object_count c.args.heap.now = omega (arith, c.loop-entry-test.true, kept.sized) in
+    let known = kept.each object inside in
     elim c.if-entry.branch [
       | then-entry w ↦
           rw w.tallies-is
-          (entry_more memory marks object inside c.loop-entry.tallies.items so_far _ known w.if-entry.true
+          (entry_more memory weak marks object inside c.loop-entry.tallies.items so_far _ known w.if-entry.true
           w.index_mut-tally.result.now w.index_mut-tally.ensures.value)
       | else-entry w ↦
           rw w.tallies-is
-          (dead_more memory marks object inside c.loop-entry.tallies.items so_far _ known w.if-entry.false
+          (dead_more memory weak marks object inside c.loop-entry.tallies.items so_far _ known w.if-entry.false
           (omega (arith, c.len.ensures.objects, c.len.ensures.few)))
     ]
 
+pub returns-clause-tallies : goal.returns-clause-tallies
+returns-clause-tallies c weak kept =
+    AreTallies-all c.args.heap.now weak c.args.marks.now c.loop-entry.entry-index c.loop-entry.tallies.items c.requires.sized
+    (omega (arith, c.loop-entry-test.false, kept.sized)) (c.loop-entry.invariant weak kept)
+
 pub returns-clause-fit : goal.returns-clause-fit
 returns-clause-fit c =
-    let memory = c.args.heap.now in
-    let marks = c.args.marks.now in
-    let tallies = c.loop-entry.tallies.items in
-    let all =
-    AreTallies-all memory marks c.loop-entry.entry-index tallies c.requires.sized
-    (omega (arith, c.loop-entry-test.false, c.requires.entries.sized)) c.loop-entry.invariant in
-    FitWords-tallies memory marks tallies c.requires.sized c.heap_bounds.ensures.words
-    (omega (arith, c.len.ensures.objects, c.len.ensures.few)) all
+    let weak = c.requires.entries.0 in
+    FitWords-tallies c.args.heap.now weak c.args.marks.now c.loop-entry.tallies.items c.requires.sized c.heap_bounds.ensures.words
+    (omega (arith, c.len.ensures.objects, c.len.ensures.few)) (returns-clause-tallies c weak c.requires.entries.1)

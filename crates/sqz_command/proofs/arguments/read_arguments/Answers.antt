@@ -1,7 +1,8 @@
 use Rattle.std.proofs.Common.{◌≡◌, ◌∙◌, ap, rules, sym}
-use Rattle.std.specs.Prelude.{codes, option_map}
+use Rattle.std.specs.Prelude.{Err, Ok, codes, option_map}
 use Rattle.std.proofs.lemmas.Option.{same_Some}
-use Rattle.sqz_command.proofs.CommandLineLemmas.{first_is, flag_read, none_refused, number_read, one_is}
+use Rattle.clap.specs.declared.parser.matches.ArgMatches.{ArgMatches}
+use Rattle.sqz_command.proofs.CommandLineLemmas.{first_is, flag_is, number_read, one_is, refusals_are}
 use Rattle.sqz_command.proofs.arguments.read_arguments.Goals as goal
 
 pub unwrap-requires-3 : goal.unwrap-requires-3
@@ -49,12 +50,27 @@ returns-clause-region_words c =
 pub returns-clause-census : goal.returns-clause-census
 returns-clause-census c =
     let m = c.in_ok-matches.matches in
-    let is = one_is c.in_ok-command.field-0 _ m (codes "census") c.in_ok-command.ensures.shape c.in_ok-matches.ensures.matches in
     let given = c.in_ok-command.ensures.given m c.in_ok-matches.ensures.parsed in
     let get = c.get_flag.ensures in
-    let read = flag_read m (codes "census") c.get_flag.result given.census get.none get.value get.other in
-    (λ set. is ∙ read.0 set, λ text. read.1 (sym is ∙ text))
+    flag_is c.in_ok-command.field-0 _ m (codes "census") c.get_flag.result
+    c.in_ok-command.ensures.shape c.in_ok-matches.ensures.matches given.census get.none get.value get.other
+
+pub returns-clause-clear_weak : goal.returns-clause-clear_weak
+returns-clause-clear_weak c =
+    let m = c.in_ok-matches.matches in
+    let given = c.in_ok-command.ensures.given m c.in_ok-matches.ensures.parsed in
+    let get = c.get_flag-2.ensures in
+    flag_is c.in_ok-command.field-0 _ m (codes "clear-weak") c.get_flag-2.result
+    c.in_ok-command.ensures.shape c.in_ok-matches.ensures.matches given.clear_weak get.none get.value get.other
 
 pub returns-clause-refused : goal.returns-clause-refused
 returns-clause-refused c =
-    none_refused c.in_ok-command.field-0 _ c.in_ok-matches.matches c.in_ok-command.ensures.shape c.in_ok-matches.ensures.kinds
+    refusals_are c.in_ok-command.field-0 _ (Ok c.in_ok-matches.matches) c.in_ok-command.ensures.shape c.in_ok-matches.ensures.kinds
+
+pub returns-in_err-matches-clause-refused : goal.returns-in_err-matches-clause-refused
+returns-in_err-matches-clause-refused c =
+    let kinds =
+    refusals_are {T = ArgMatches} c.in_ok-command.field-0 _ (Err c.in_err-matches.field-0.0)
+    c.in_ok-command.ensures.shape c.in_err-matches.ensures.kinds
+    in
+    search rules

@@ -1,5 +1,6 @@
 use Rattle.std.proofs.Common.{[], ◌∷◌, Some, None, refl}
 use Rattle.sqz_object.specs.declared.order.Order.TheVariants.{Big}
+use Rattle.sqz_trace.specs.declared.weak.Weak.TheVariants.{Keep}
 use Rattle.sqz_examples.proofs.WorkedImages.{CompactsTo-computed}
 use Rattle.sqz_examples.proofs.compacted.big_endian_bytes.Goals as goal
 
@@ -7,6 +8,6 @@ pub returns : goal.returns
 returns c =
     CompactsTo-computed _ Big
     ((0x1007 ∷ []) ∷ (0x320F ∷ 1 ∷ 1 ∷ []) ∷ (0x100B ∷ 1 ∷ []) ∷ (0x1011 ∷ 0xA0D ∷ 0x53717565 ∷ 0x616B0000 ∷ []) ∷
-    (0x320F ∷ 0x1000 ∷ 0x101C ∷ []) ∷ [])
+    (0x320F ∷ 0x1000 ∷ 0x101C ∷ []) ∷ []) Keep
     ((Some (0 ∷ [])) ∷ None ∷ (Some (3 ∷ 2 ∷ [])) ∷ (Some (3 ∷ [])) ∷ (Some []) ∷ [])
-    _ refl refl refl refl refl
+    _ refl refl refl refl refl refl

@@ -1,11 +1,12 @@
 use Rattle.std.proofs.Common.{[], ◌∷◌, Some, refl}
 use Rattle.sqz_object.specs.declared.order.Order.TheVariants.{Little}
+use Rattle.sqz_trace.specs.declared.weak.Weak.TheVariants.{Keep}
 use Rattle.sqz_examples.proofs.WorkedImages.{CompactsTo-computed}
 use Rattle.sqz_examples.proofs.compacted.context_without_stack_pointer.Goals as goal
 
 pub returns : goal.returns
 returns c =
     CompactsTo-computed _ Little
-    ((0x1007 ∷ []) ∷ (0xD323 ∷ 0x1000 ∷ 1 ∷ 0x1000 ∷ 0x1000 ∷ 0x1000 ∷ 0x1000 ∷ 0x1002 ∷ []) ∷ (0x320F ∷ 0x1000 ∷ 0x1004 ∷ []) ∷ [])
+    ((0x1007 ∷ []) ∷ (0xD323 ∷ 0x1000 ∷ 1 ∷ 0x1000 ∷ 0x1000 ∷ 0x1000 ∷ 0x1000 ∷ 0x1002 ∷ []) ∷ (0x320F ∷ 0x1000 ∷ 0x1004 ∷ []) ∷ []) Keep
     ((Some (0 ∷ [])) ∷ (Some (1 ∷ [])) ∷ (Some []) ∷ [])
-    _ refl refl refl refl refl
+    _ refl refl refl refl refl refl

@@ -1,11 +1,12 @@
 use Rattle.std.proofs.Common.{[], ◌∷◌, Some, refl}
 use Rattle.sqz_object.specs.declared.order.Order.TheVariants.{Little}
+use Rattle.sqz_trace.specs.declared.weak.Weak.TheVariants.{Keep}
 use Rattle.sqz_examples.proofs.WorkedImages.{CompactsTo-computed}
 use Rattle.sqz_examples.proofs.compacted.special_array_alone.Goals as goal
 
 pub returns : goal.returns
 returns c =
     CompactsTo-computed _ Little
-    ((0x3207 ∷ []) ∷ [])
+    ((0x3207 ∷ []) ∷ []) Keep
     ((Some []) ∷ [])
-    _ refl refl refl refl refl
+    _ refl refl refl refl refl refl

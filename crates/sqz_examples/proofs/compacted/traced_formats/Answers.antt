@@ -1,5 +1,6 @@
 use Rattle.std.proofs.Common.{[], ◌∷◌, Some, None, refl}
 use Rattle.sqz_object.specs.declared.order.Order.TheVariants.{Little}
+use Rattle.sqz_trace.specs.declared.weak.Weak.TheVariants.{Keep}
 use Rattle.sqz_examples.proofs.WorkedImages.{CompactsTo-computed}
 use Rattle.sqz_examples.proofs.compacted.traced_formats.Goals as goal
 
@@ -7,7 +8,7 @@ pub returns : goal.returns
 returns c =
     CompactsTo-computed _ Little
     ((0x1007 ∷ []) ∷ (0x320F ∷ 1 ∷ 1 ∷ []) ∷ (0x100B ∷ 0x1018 ∷ []) ∷ (0x110B ∷ 0x1020 ∷ []) ∷ (0x120B ∷ 0x1028 ∷ []) ∷
-    (0x130B ∷ 0x1030 ∷ []) ∷ (0x140B ∷ 0x1000 ∷ []) ∷ (0x320B ∷ 0x1010 ∷ []) ∷ [])
+    (0x130B ∷ 0x1030 ∷ []) ∷ (0x140B ∷ 0x1000 ∷ []) ∷ (0x320B ∷ 0x1010 ∷ []) ∷ []) Keep
     ((Some (2 ∷ 3 ∷ 4 ∷ 5 ∷ 6 ∷ 0 ∷ [])) ∷ None ∷ (Some (2 ∷ [])) ∷ (Some (2 ∷ 3 ∷ [])) ∷ (Some (2 ∷ 3 ∷ 4 ∷ [])) ∷
     (Some (2 ∷ 3 ∷ 4 ∷ 5 ∷ [])) ∷ (Some (2 ∷ 3 ∷ 4 ∷ 5 ∷ 6 ∷ [])) ∷ (Some []) ∷ [])
-    _ refl refl refl refl refl
+    _ refl refl refl refl refl refl

@@ -1,11 +1,12 @@
 use Rattle.std.proofs.Common.{[], ◌∷◌, replicate, Some, refl}
 use Rattle.sqz_object.specs.declared.order.Order.TheVariants.{Little}
+use Rattle.sqz_trace.specs.declared.weak.Weak.TheVariants.{Keep}
 use Rattle.sqz_examples.proofs.WorkedImages.{IsRefused-for_defect}
 use Rattle.sqz_examples.proofs.defects.all_ones.Goals as goal
 
 pub returns : goal.returns
 returns c =
     IsRefused-for_defect _ Little
-    ((replicate 63 0xFFFFFFFF) ∷ [])
+    ((replicate 63 0xFFFFFFFF) ∷ []) Keep
     ((Some []) ∷ [])
-    _ refl refl refl refl
+    _ refl refl refl refl refl

@@ -1,11 +1,12 @@
 use Rattle.std.proofs.Common.{[], ◌∷◌, Some, refl}
 use Rattle.sqz_object.specs.declared.order.Order.TheVariants.{Little}
+use Rattle.sqz_trace.specs.declared.weak.Weak.TheVariants.{Keep}
 use Rattle.sqz_examples.proofs.WorkedImages.{IsRefused-for_defect}
 use Rattle.sqz_examples.proofs.defects.class_word_before_field.Goals as goal
 
 pub returns : goal.returns
 returns c =
     IsRefused-for_defect _ Little
-    ((0x1007 ∷ []) ∷ (0x2001 ∷ 0x109 ∷ 0x1002 ∷ []) ∷ (0x320F ∷ 0x1000 ∷ 0x1008 ∷ []) ∷ [])
+    ((0x1007 ∷ []) ∷ (0x2001 ∷ 0x109 ∷ 0x1002 ∷ []) ∷ (0x320F ∷ 0x1000 ∷ 0x1008 ∷ []) ∷ []) Keep
     ((Some (0 ∷ [])) ∷ (Some (1 ∷ [])) ∷ (Some []) ∷ [])
-    _ refl refl refl refl
+    _ refl refl refl refl refl

@@ -1,11 +1,12 @@
 use Rattle.std.proofs.Common.{[], ◌∷◌, Some, None, refl}
 use Rattle.sqz_object.specs.declared.order.Order.TheVariants.{Little}
+use Rattle.sqz_trace.specs.declared.weak.Weak.TheVariants.{Keep}
 use Rattle.sqz_examples.proofs.WorkedImages.{IsRefused-for_defect}
 use Rattle.sqz_examples.proofs.defects.field_names_end.Goals as goal
 
 pub returns : goal.returns
 returns c =
     IsRefused-for_defect _ Little
-    ((0x1007 ∷ []) ∷ (0x320B ∷ 0x100C ∷ []) ∷ [])
+    ((0x1007 ∷ []) ∷ (0x320B ∷ 0x100C ∷ []) ∷ []) Keep
     (None ∷ (Some []) ∷ [])
-    _ refl refl refl refl
+    _ refl refl refl refl refl

@@ -1,11 +1,12 @@
 use Rattle.std.proofs.Common.{[], ◌∷◌, Some, None, refl}
 use Rattle.sqz_object.specs.declared.order.Order.TheVariants.{Little}
+use Rattle.sqz_trace.specs.declared.weak.Weak.TheVariants.{Keep}
 use Rattle.sqz_examples.proofs.WorkedImages.{IsRefused-for_defect}
 use Rattle.sqz_examples.proofs.defects.lower_of_two.Goals as goal
 
 pub returns : goal.returns
 returns c =
     IsRefused-for_defect _ Little
-    ((0x1007 ∷ []) ∷ (0x320F ∷ 0x1002 ∷ 0x1010 ∷ []) ∷ (0x10B ∷ 1 ∷ []) ∷ [])
+    ((0x1007 ∷ []) ∷ (0x320F ∷ 0x1002 ∷ 0x1010 ∷ []) ∷ (0x10B ∷ 1 ∷ []) ∷ []) Keep
     (None ∷ (Some []) ∷ (Some (2 ∷ [])) ∷ [])
-    _ refl refl refl refl
+    _ refl refl refl refl refl

@@ -1,11 +1,12 @@
 use Rattle.std.proofs.Common.{[], ◌∷◌, Some, None, refl}
 use Rattle.sqz_object.specs.declared.order.Order.TheVariants.{Little}
+use Rattle.sqz_trace.specs.declared.weak.Weak.TheVariants.{Keep}
 use Rattle.sqz_examples.proofs.WorkedImages.{IsRefused-for_defect}
 use Rattle.sqz_examples.proofs.defects.not_through_negative_stack.Goals as goal
 
 pub returns : goal.returns
 returns c =
     IsRefused-for_defect _ Little
-    ((0x1007 ∷ []) ∷ (0x10B ∷ 1 ∷ []) ∷ (0xD31F ∷ 0x1004 ∷ 1 ∷ 0xFFFFFFFF ∷ 1 ∷ 1 ∷ 1 ∷ []) ∷ (0x320F ∷ 0x1000 ∷ 0x100C ∷ []) ∷ [])
+    ((0x1007 ∷ []) ∷ (0x10B ∷ 1 ∷ []) ∷ (0xD31F ∷ 0x1004 ∷ 1 ∷ 0xFFFFFFFF ∷ 1 ∷ 1 ∷ 1 ∷ []) ∷ (0x320F ∷ 0x1000 ∷ 0x100C ∷ []) ∷ []) Keep
     ((Some (0 ∷ [])) ∷ None ∷ (Some (2 ∷ [])) ∷ (Some []) ∷ [])
-    _ refl refl refl refl
+    _ refl refl refl refl refl

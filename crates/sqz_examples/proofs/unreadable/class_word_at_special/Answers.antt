@@ -4,7 +4,7 @@ use Rattle.sqz_examples.proofs.WorkedImages.{IsRefused-with_no_special}
 use Rattle.sqz_examples.proofs.unreadable.class_word_at_special.Goals as goal
 
 pub returns : goal.returns
-returns c =
+returns c weak =
     IsRefused-with_no_special _ Little
-    ((0x1007 ∷ []) ∷ (0x320F ∷ 1 ∷ 1 ∷ []) ∷ (0x100B ∷ 1 ∷ []) ∷ (0x1011 ∷ 0x109 ∷ 1 ∷ []) ∷ (0x320F ∷ 0x1000 ∷ 0x101C ∷ []) ∷ [])
+    ((0x1007 ∷ []) ∷ (0x320F ∷ 1 ∷ 1 ∷ []) ∷ (0x100B ∷ 1 ∷ []) ∷ (0x1011 ∷ 0x109 ∷ 1 ∷ []) ∷ (0x320F ∷ 0x1000 ∷ 0x101C ∷ []) ∷ []) weak
     refl refl refl

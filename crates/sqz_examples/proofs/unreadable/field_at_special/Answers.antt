@@ -4,4 +4,4 @@ use Rattle.sqz_examples.proofs.WorkedImages.{IsRefused-with_no_special}
 use Rattle.sqz_examples.proofs.unreadable.field_at_special.Goals as goal
 
 pub returns : goal.returns
-returns c = IsRefused-with_no_special _ Little ((0x1007 ∷ []) ∷ (0x320B ∷ 0x1000 ∷ []) ∷ []) refl refl refl
+returns c weak = IsRefused-with_no_special _ Little ((0x1007 ∷ []) ∷ (0x320B ∷ 0x1000 ∷ []) ∷ []) weak refl refl refl

@@ -4,4 +4,4 @@ use Rattle.sqz_examples.proofs.WorkedImages.{IsRefused-with_no_special}
 use Rattle.sqz_examples.proofs.unreadable.no_data.Goals as goal
 
 pub returns : goal.returns
-returns c = IsRefused-with_no_special _ Little [] refl refl refl
+returns c weak = IsRefused-with_no_special _ Little [] weak refl refl refl

@@ -4,4 +4,4 @@ use Rattle.sqz_examples.proofs.WorkedImages.{IsRefused-with_no_special}
 use Rattle.sqz_examples.proofs.unreadable.no_object_at_special.Goals as goal
 
 pub returns : goal.returns
-returns c = IsRefused-with_no_special _ Little ((0x3207 ∷ []) ∷ []) refl refl refl
+returns c weak = IsRefused-with_no_special _ Little ((0x3207 ∷ []) ∷ []) weak refl refl refl

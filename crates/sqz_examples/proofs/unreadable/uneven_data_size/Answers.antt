@@ -2,4 +2,4 @@ use Rattle.std.proofs.Common.{inl, refl}
 use Rattle.sqz_examples.proofs.unreadable.uneven_data_size.Goals as goal
 
 pub returns : goal.returns
-returns c = inl (inl refl)
+returns c weak = inl (inl refl)

@@ -1,9 +1,7 @@
-use Rattle.std.proofs.Common.{◌≡◌, ◌∙◌, ◌≤◌, ◌+◌, ℕ, List, sym, ap, subst, arith, Some}
+use Rattle.std.proofs.Common.{◌≡◌, ◌<◌, ◌+◌, ℕ, sym, subst, arith, Some}
 use Rattle.sqz_image.specs.declared.fault.Slot.TheVariants.{ClassWord}
-use Rattle.sqz_image.specs.Objects.{Memory, chunk_words}
-use Rattle.sqz_trace.specs.Slots.{traced}
-use Rattle.sqz_trace.specs.Edges.{named_in, HasEdge}
-use Rattle.sqz_trace.specs.Targets.{IsTargetBelow}
+use Rattle.sqz_trace.specs.Edges.{HasEdge}
+use Rattle.sqz_trace.specs.Targets.{named_in, IsTargetBelow}
 use Rattle.sqz_trace.proofs.TargetLemmas.{IsTargetBelow-none, IsTargetBelow-next, IsTargetBelow-edge, IsTargetOf}
 use Rattle.sqz_mark_tests.proofs.PassLemmas.{ClaimsTargets-of, ClaimsTargets-then, ClaimsTargets-blackened}
 use Rattle.sqz_mark_tests.proofs.alone.mark_targets.Goals as goal
@@ -14,45 +12,41 @@ claim_target-requires-in-loop-k-clause-seen c =
       object = c.args.object;
       inside = c.requires.inside;
       seen = c.loop-k.invariant.later.keeps c.args.object c.requires.seen;
-      its = c.of-parent.ensures ∙ ap (λ (m : Memory). chunk_words m c.args.object) (sym c.requires.memory);
+      its = c.parent-parent.ensures;
     }
 
 pub loop-k-init : goal.loop-k-init
 loop-k-init c =
-    let memory = c.args.table.now.heap.memory in
-    let chunk = c.of-parent.result in
-    ClaimsTargets-of memory (λ object. named_in memory chunk ClassWord ≡ Some object) (IsTargetBelow memory chunk 0) c.args.pass.now
-    c.claim_target.new.pass c.claim_target.new.won.items (IsTargetBelow-none memory chunk) c.in_ok-claim_target.ensures
+    let memory = c.args.table.now.heap.memory in let words = c.parent-parent.result.words in
+    ClaimsTargets-of memory (λ object. named_in memory words ClassWord ≡ Some object) (IsTargetBelow memory words 0) c.args.pass.now
+    c.claim_target.new.pass c.claim_target.new.won.items (IsTargetBelow-none memory words) c.in_ok-claim_target.ensures
 
 pub loop-k-preserved : goal.loop-k-preserved
 loop-k-preserved c =
-    let memory = c.args.table.now.heap.memory in
-    let chunk = c.of-parent.result in
-    let k = c.loop-k.k in
-    ClaimsTargets-then memory (IsTargetBelow memory chunk k) (IsTargetOf memory chunk k) (IsTargetBelow memory chunk (k + 1))
-    c.args.pass.now c.loop-k.pass c.claim_target-in-loop-k.new.pass c.loop-k.won.items c.claim_target-in-loop-k.new.won.items
-    (IsTargetBelow-next memory chunk k) c.loop-k.invariant c.in_ok-claim_target-2.ensures
-
--- what an edge leads to was claimed
-edge_below : (memory its_memory : Memory) (object : ℕ) (chunk : List ℕ) (k end : ℕ) → its_memory ≡ memory → chunk ≡ chunk_words memory object
-    → end ≡ traced chunk → end ≤ k → k ≤ end → (target : ℕ) → HasEdge its_memory object target → IsTargetBelow its_memory chunk k target
-edge_below memory its_memory object chunk k end same its ends low high target edge =
-    let is : traced chunk ≡ k = omega (arith, ends, low, high) in
-    let its_own = its ∙ ap (λ (m : Memory). chunk_words m object) (sym same) in
-    subst (λ (n : ℕ). IsTargetBelow its_memory chunk n target) is (IsTargetBelow-edge its_memory object chunk its_own target edge)
+    let memory = c.args.table.now.heap.memory in let parent = c.parent-parent.result in let k = c.loop-k.k in
+    let lt : c.loop-k.k < c.parent-parent.result.strong = omega (arith, c.loop-k-test.true, c.strong-k-end.ensures.strong) in
+    ClaimsTargets-then memory (IsTargetBelow memory parent.words k) (IsTargetOf memory parent.words parent.strong k)
+    (IsTargetBelow memory parent.words (k + 1)) c.args.pass.now c.loop-k.pass c.claim_target-in-loop-k.new.pass c.loop-k.won.items
+    c.claim_target-in-loop-k.new.won.items (λ index. IsTargetBelow-next memory parent.words parent.strong k index lt)
+    c.loop-k.invariant c.in_ok-claim_target-2.ensures
 
 pub blacken-requires-clause-targets : goal.blacken-requires-clause-targets
 blacken-requires-clause-targets c = λ target edge.
+    let table = c.args.table.now in let parent = c.parent-parent.result in
+    let all : parent.strong ≡ c.loop-k.k = omega (arith, c.strong-k-end.ensures.strong, c.loop-k-test.false, c.loop-k.auto.k-end) in
     c.loop-k.invariant.targets target
-    (edge_below c.args.heap.now c.args.table.now.heap.memory c.args.object c.of-parent.result c.loop-k.k c.traced-k-end.result c.requires.memory
-    c.of-parent.ensures c.traced-k-end.ensures.traced c.loop-k-test.false c.loop-k.auto.k-end target edge)
+    (subst (λ (n : ℕ). IsTargetBelow table.heap.memory parent.words n target) all
+    (IsTargetBelow-edge table.heap.memory table.weak c.args.object parent c.parent-parent.ensures target edge))
 
 pub returns : goal.returns
 returns c =
-    let memory = c.args.table.now.heap.memory in
-    let below = edge_below c.args.heap.now memory c.args.object c.of-parent.result c.loop-k.k c.traced-k-end.result c.requires.memory
-    c.of-parent.ensures c.traced-k-end.ensures.traced c.loop-k-test.false c.loop-k.auto.k-end in
-    ClaimsTargets-blackened memory (HasEdge memory c.args.object) c.args.object c.args.pass.now c.loop-k.pass c.blacken.new.pass
-    c.loop-k.won.items c.blacken.ensures.step
-    (ClaimsTargets-of memory (IsTargetBelow memory c.of-parent.result c.loop-k.k) (HasEdge memory c.args.object) c.args.pass.now c.loop-k.pass
-    c.loop-k.won.items below c.loop-k.invariant)
+    let table = c.args.table.now in let parent = c.parent-parent.result in
+    let all : parent.strong ≡ c.loop-k.k = omega (arith, c.strong-k-end.ensures.strong, c.loop-k-test.false, c.loop-k.auto.k-end) in
+    let IsTarget = HasEdge table.heap.memory table.weak c.args.object in
+    ClaimsTargets-blackened table.heap.memory IsTarget c.args.object c.args.pass.now c.loop-k.pass c.blacken.new.pass c.loop-k.won.items
+    c.blacken.ensures.step
+    (ClaimsTargets-of table.heap.memory (IsTargetBelow table.heap.memory parent.words c.loop-k.k) IsTarget c.args.pass.now c.loop-k.pass
+    c.loop-k.won.items
+    (λ target edge. subst (λ (n : ℕ). IsTargetBelow table.heap.memory parent.words n target) all
+    (IsTargetBelow-edge table.heap.memory table.weak c.args.object parent c.parent-parent.ensures target edge))
+    c.loop-k.invariant)

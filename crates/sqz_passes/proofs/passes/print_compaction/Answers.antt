@@ -13,5 +13,5 @@ write_image-requires g c =
     let whole = c.in_ok-pieces.ensures.whole marks c.in_ok-forward.ensures.places reachable.reached.sized in
     let words = rw is at whole in
     let le = live_words-le-words image.memory marks sized in
-    let same = length-moved_objects image.memory marks c.requires in
+    let same = length-moved_objects image.memory c.args.work.now.weak marks c.requires in
     record { few = rw c.as_slice.ensures (omega (arith, ap length words, same, le, rw is at c.heap_bounds.ensures.words)) }

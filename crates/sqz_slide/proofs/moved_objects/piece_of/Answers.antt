@@ -17,6 +17,7 @@ piece_size-room-requires-clause-ordered c =
 pub loop-index-preserved : goal.loop-index-preserved
 loop-index-preserved c marks places =
     let memory = c.args.heap.now in
+    let weak = c.args.weak in
     let index = c.loop-index.index in
     let lt : c.loop-index.index < object_count c.args.heap.now =
     omega (
@@ -26,7 +27,7 @@ loop-index-preserved c marks places =
       ap object_count c.requires.regions,
       objects_before-le c.args.regions.now.cut c.args.regions.now.memory (c.args.region + 1),
     ) in
-    let below = moved_below memory marks c.objects-from.result.0 in
+    let below = moved_below memory weak marks c.objects-from.result.0 in
     let test = is_marked-place memory marks c.args.forward.now index places lt ∙ sym (ap is_some c.place.ensures.place)
     ∙ sym c.is_some.ensures in
     elim c.if-is_some.branch [
@@ -35,12 +36,12 @@ loop-index-preserved c marks places =
           let object = w.object-object.result in
           rw w.words-is
           (ap (λ (words : List ℕ). below ++ words) (w.in_ok-push_moved.ensures marks places)
-          ∙ sym (append_assoc below words (moved memory marks object))
-          ∙ ap (λ (words : List ℕ). words ++ moved memory marks object) (c.loop-index.invariant marks places)
-          ∙ ap (λ (chunk : List ℕ). moved_below memory marks index ++ moved memory marks chunk) w.object-object.ensures
-          ∙ sym (moved_below_yes memory marks index lt (test ∙ w.if-is_some.true))))
+          ∙ sym (append_assoc below words (moved memory weak marks object))
+          ∙ ap (λ (words : List ℕ). words ++ moved memory weak marks object) (c.loop-index.invariant marks places)
+          ∙ ap (λ (chunk : List ℕ). moved_below memory weak marks index ++ moved memory weak marks chunk) w.object-object.ensures
+          ∙ sym (moved_below_yes memory weak marks index lt (test ∙ w.if-is_some.true))))
       | else-is_some w ↦
-          rw w.words-is (c.loop-index.invariant marks places ∙ sym (moved_below_no memory marks index lt (test ∙ w.if-is_some.false)))
+          rw w.words-is (c.loop-index.invariant marks places ∙ sym (moved_below_no memory weak marks index lt (test ∙ w.if-is_some.false)))
     ]
 
 pub returns : goal.returns
@@ -51,6 +52,6 @@ returns c marks places =
     let rises = objects_before-rises regions.cut regions.memory region (region + 1) (omega arith) in
     let most = c.loop-index.auto.index-end (omega (arith, rises, ends.first, ends.end)) in
     let end : c.loop-index.index ≡ c.objects-from.result.1 = omega (arith, c.loop-index-test.false, most) in
-    moved_in-between regions marks c.args.heap.now region c.objects-from.result.0 c.objects-from.result.1 c.loop-index.words.items
-    c.requires.regions ends.first ends.end
-    (c.loop-index.invariant marks places ∙ ap (moved_below c.args.heap.now marks) end)
+    moved_in-between regions c.args.weak marks c.args.heap.now region c.objects-from.result.0 c.objects-from.result.1
+    c.loop-index.words.items c.requires.regions ends.first ends.end
+    (c.loop-index.invariant marks places ∙ ap (moved_below c.args.heap.now c.args.weak marks) end)

@@ -11,12 +11,12 @@ use Rattle.sqz_slide.proofs.ShareLemmas.{first_region-none, first_region-all}
 use Rattle.sqz_slide.proofs.sliding.joined.Goals as goal
 
 pub loop-share-init : goal.loop-share-init
-loop-share-init c regions marks shares =
+loop-share-init c regions weak marks shares =
     let none = first_region-none (region_count regions.cut regions.memory) (length c.args.shares.items) c.requires.some in
-    rw (c.in_ok-pieces.ensures.items, none) (no_piece_yet regions marks 0)
+    rw (c.in_ok-pieces.ensures.items, none) (no_piece_yet regions weak marks 0)
 
 pub loop-share-preserved : goal.loop-share-preserved
-loop-share-preserved c regions marks shares =
+loop-share-preserved c regions weak marks shares =
     let all = c.args.shares.items in
     let worker = length c.loop-share.yielded in
     let share = c.in_ok-share.field-0 in
@@ -30,16 +30,16 @@ loop-share-preserved c regions marks shares =
       map-append (λ piece. piece.items) c.loop-share.pieces.items share.items,
       length_push c.loop-share.yielded c.in-Some.share,
     )
-    (pieces_joined regions marks 0 _ _ _ _ (c.loop-share.invariant regions marks shares) (shares worker share turn.0 is))
+    (pieces_joined regions weak marks 0 _ _ _ _ (c.loop-share.invariant regions weak marks shares) (shares worker share turn.0 is))
 
 pub returns : goal.returns
-returns c regions marks shares =
+returns c regions weak marks shares =
     let count = region_count regions.cut regions.memory in
     let all = c.args.shares.items in
     let gives = c.into_iter-share-iterator.ensures.into_iter_gives in
     let road = YieldsList-from_vec all gives.0 (gives.1 ∙ c.args.shares.ok.0) in
     let end = YieldsList-end road c.loop-share.yielded c.loop-share.share-iterator c.loop-share.yielded_by
     c.next.result c.next.new.self c.in-None.is c.next.ensures.steps in
-    subst (λ (to : ℕ). ArePiecesOf regions marks 0 to (map (λ piece. piece.items) c.loop-share.pieces.items))
+    subst (λ (to : ℕ). ArePiecesOf regions weak marks 0 to (map (λ piece. piece.items) c.loop-share.pieces.items))
     (ap (first_region count (length all)) end.1 ∙ first_region-all count (length all) c.requires.some)
-    (c.loop-share.invariant regions marks shares)
+    (c.loop-share.invariant regions weak marks shares)

@@ -13,7 +13,8 @@ pub loop-region-preserved : goal.loop-region-preserved
 loop-region-preserved g c marks places =
     let regions = c.args.regions.now in
     rw c.in_ok-push.ensures.items
-    (rw map_push (one_piece_more regions marks _ _ _ _ (c.loop-region.invariant marks places) (c.in_ok-piece_of.ensures marks places)))
+    (rw map_push
+    (one_piece_more regions c.args.weak marks _ _ _ _ (c.loop-region.invariant marks places) (c.in_ok-piece_of.ensures marks places)))
 
 pub returns : goal.returns
 returns g c marks places =

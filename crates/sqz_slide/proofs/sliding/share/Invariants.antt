@@ -6,4 +6,4 @@ use Rattle.sqz_slide.proofs.sliding.share.Given as goal
 abbrev pub invariant-loop-region : goal.invariant-loop-region
 invariant-loop-region g l =
     (marks : List Bool) → ArePlacesOf l.heap marks l.forward
-    → ArePiecesOf l.regions marks l.from l.region (map (λ piece. piece.items) l.pieces.items)
+    → ArePiecesOf l.regions l.weak marks l.from l.region (map (λ piece. piece.items) l.pieces.items)

@@ -11,21 +11,21 @@ joined-requires g c =
 
 -- the workers' pieces are those of all regions
 are_pieces : (g : _) (c : After-new g) (marks : List Bool) → ArePlacesOf c.args.heap.now marks c.args.forward.now
-    → ArePieces c.args.regions.now marks c.new.result
+    → ArePieces c.args.regions.now c.args.weak marks c.new.result
 are_pieces g c marks places =
     let all = c.in_ok-shares.shares in
     let count = sym all.ok.0 ∙ c.in_ok-shares.ensures.len in
-    let are : AreShares c.args.regions.now marks c.in_ok-shares.shares.items =
+    let are : AreShares c.args.regions.now c.args.weak marks c.in_ok-shares.shares.items =
     λ worker pieces lt is.
     (let given = rw (← is) at (c.in_ok-shares.ensures.each worker (Ok pieces) (omega (arith, lt, count))).1.met in
-    subst (λ (n : ℕ). IsShareOf c.args.regions.now marks n worker (map (λ piece. piece.items) pieces.items))
+    subst (λ (n : ℕ). IsShareOf c.args.regions.now c.args.weak marks n worker (map (λ piece. piece.items) pieces.items))
     (sym (count ∙ c.number.ensures.number)) (given marks places)) in
-    rw c.new.ensures (c.in_ok-joined.ensures c.args.regions.now marks are)
+    rw c.new.ensures (c.in_ok-joined.ensures c.args.regions.now c.args.weak marks are)
 
 pub returns-clause-pieces : goal.returns-clause-pieces
 returns-clause-pieces g c marks places = are_pieces g c marks places
 
 pub returns-clause-whole : goal.returns-clause-whole
 returns-clause-whole g c marks places sized =
-    concat-pieces c.args.regions.now marks c.args.heap.now c.count.result c.new.result c.requires.regions
+    concat-pieces c.args.regions.now c.args.weak marks c.args.heap.now c.count.result c.new.result c.requires.regions
     (rw c.count.ensures.count (are_pieces g c marks places)) c.count.ensures.all sized

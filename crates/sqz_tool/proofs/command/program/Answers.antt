@@ -8,12 +8,14 @@ use Rattle.sqz_tool.proofs.command.program.Goals as goal
 
 pub returns-in-Ok-clause-whole : goal.returns-in-Ok-clause-whole
 returns-in-Ok-clause-whole g c =
-    λ taken. ends_whole _ _ _ c.finish.result c.in-Ok.arguments.census c.in-Ok.ensures.census c.compact.result c.finish.ensures.exit
+    λ taken. ends_whole _ _ _ c.finish.result c.in-Ok.arguments.clear_weak c.in-Ok.arguments.census
+    c.in-Ok.ensures.clear_weak c.in-Ok.ensures.census c.compact.result c.finish.ensures.exit
     c.compact.ensures.compacts
 
 pub returns-in-Ok-clause-faulty : goal.returns-in-Ok-clause-faulty
 returns-in-Ok-clause-faulty g c =
-    λ taken. ends_faulty _ _ _ c.finish.result c.in-Ok.arguments.census c.in-Ok.ensures.census _ _ c.compact.result c.finish.ensures.exit
+    λ taken. ends_faulty _ _ _ c.finish.result c.in-Ok.arguments.clear_weak c.in-Ok.arguments.census
+    c.in-Ok.ensures.clear_weak c.in-Ok.ensures.census _ _ c.compact.result c.finish.ensures.exit
     c.finish.ensures.line c.compact.ensures.refuses
 
 pub returns-in-Ok-clause-unused : goal.returns-in-Ok-clause-unused

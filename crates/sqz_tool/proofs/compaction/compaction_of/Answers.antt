@@ -9,7 +9,7 @@ use Rattle.sqz_tool.proofs.compaction.compaction_of.Goals as goal
 pub unwrap-special-requires : goal.unwrap-special-requires
 unwrap-special-requires g c =
     let marks = c.in_ok-marked.marked.marks in
-    let special = place_of_special c.heap-heap.result.now marks c.special.result c.in_ok-marked.ensures.reachable c.special.ensures.special
+    let special = place_of_special c.heap-heap.result.now c.args.plan.now.weak marks c.special.result c.in_ok-marked.ensures.reachable c.special.ensures.special
     c.in_ok-forward.forward c.in_ok-forward.ensures.places c.special.ensures.inside in
     ap is_some (c.place.ensures.place ∙ special)
 
@@ -22,7 +22,7 @@ overflow_mul-summary g c =
 pub returns-clause-compaction : goal.returns-clause-compaction
 returns-clause-compaction g c =
     let image = c.args.image.now in
-    let marks = c.in_ok-marked.marked.marks in
+    let marks = c.in_ok-marked.marked.marks in let weak = c.args.plan.now.weak in
     let is = c.heap-heap.ensures in
     let reachable = rw is at c.in_ok-marked.ensures.reachable in
     let words = c.in_ok-pieces.ensures.whole marks c.in_ok-forward.ensures.places c.in_ok-marked.ensures.reachable.reached.sized in
@@ -31,18 +31,19 @@ returns-clause-compaction g c =
     let found = rw is at c.special.ensures.special in
     let inside = rw is at c.special.ensures.inside in
     let places = rw is at c.in_ok-forward.ensures.places in
-    let special = place_of_special image.memory marks c.special.result reachable found c.in_ok-forward.forward places inside in
+    let special = place_of_special image.memory weak marks c.special.result reachable found c.in_ok-forward.forward places inside in
     let kept = c.count.ensures ∙ sym (length-live image.memory marks reachable.reached.sized) in
     let le = live_words-le-words image.memory marks reachable.reached.sized in
     let live = (rw c.deref-3.ensures.value at c.total.ensures) ∙ whole in
     let report = rw is at (c.in_ok-census.ensures.text c.in_ok-marked.ensures.reachable c.in_ok-forward.ensures.places) in
     record {
       marks = marks;
+      has_nil = rw is at (sym c.lacks_nil.ensures ∙ c.if-lacks_nil.false);
       reachable = reachable;
       sound = sym (rw is at c.in_default.ensures);
-      bytes = bytes_are image marks c.in_ok-pieces.pieces c.requires words c.unwrap-special.result c.special.result reachable found
+      bytes = bytes_are image weak marks c.in_ok-pieces.pieces c.requires words c.unwrap-special.result c.special.result reachable found
           (same_Some _ _ (sym c.unwrap-special.ensures ∙ c.place.ensures.place ∙ special));
-      few = few_words image marks c.in_ok-pieces.pieces c.requires words (omega (arith, le, rw is at c.heap_bounds.ensures.words));
+      few = few_words image weak marks c.in_ok-pieces.pieces c.requires words (omega (arith, le, rw is at c.heap_bounds.ensures.words));
       counted = same_summary (c.len.ensures.objects ∙ ap object_count is) kept c.header.ensures (ap (λ (n : ℕ). 4 * n) live);
       reported = report;
     }

@@ -6,14 +6,14 @@ use Rattle.sqz_tool.proofs.running.run.Goals as goal
 pub returns-in_err-image-clause-refuses : goal.returns-in_err-image-clause-refuses
 returns-in_err-image-clause-refuses g c =
     let p = err_from_is_err_and c.from_residual-in_err-image.result c.from_residual-in_err-image.ensures.1 in
-    rw (p.1, p.2) (refuses_file _ _ _ _ _ _ c.in_ok-bytes.bytes.items refl c.in_ok-bytes.ensures.whole
+    rw (p.1, p.2) (refuses_file _ _ _ _ _ _ _ c.in_ok-bytes.bytes.items refl c.in_ok-bytes.ensures.whole
     (rw c.deref.ensures.value at c.in_err-image.ensures.refused))
 
 pub returns-in_err-compaction-clause-refuses : goal.returns-in_err-compaction-clause-refuses
 returns-in_err-compaction-clause-refuses g c =
     let p = err_from_is_err_and c.from_residual-in_err-compaction.result c.from_residual-in_err-compaction.ensures.1 in
     let holds = rw c.deref.ensures.value at c.in_ok-image.ensures.image in
-    rw (p.1, p.2) (refuses_image _ _ _ _ _ _ c.in_ok-bytes.bytes.items c.in_ok-image.image refl
+    rw (p.1, p.2) (refuses_image _ _ _ _ _ _ _ c.in_ok-bytes.bytes.items c.in_ok-image.image refl
     c.in_ok-bytes.ensures.whole holds c.in_err-compaction.ensures.refused)
 
 pub returns-in_err-write_all-clause-refuses : goal.returns-in_err-write_all-clause-refuses
@@ -22,5 +22,5 @@ returns-in_err-write_all-clause-refuses g c =
     let holds = rw c.deref.ensures.value at c.in_ok-image.ensures.image in
     let written = rw c.as_slice-pieces.ensures at c.in_ok-write_image.ensures.whole in
     let stops = rw c.deref-then-plan.ensures.value at c.in_err-write_all.ensures.stopped in
-    rw (p.1, p.2) (refuses_report _ _ _ _ _ c.in_ok-bytes.bytes.items c.in_ok-image.image _ _ _ _ c.in_ok-bytes.ensures.whole holds
+    rw (p.1, p.2) (refuses_report _ _ _ _ _ _ c.in_ok-bytes.bytes.items c.in_ok-image.image _ _ _ _ c.in_ok-bytes.ensures.whole holds
     c.in_ok-compaction.ensures.compaction written _ c.if-plan.true stops)

@@ -13,7 +13,7 @@ use Rattle.sqz_trace.proofs.defects.bad_field.Goals.{After-traced_fields}
 length_is : (c : After-traced_fields) → length (take c.traced_fields.result c.fields.result.now) ≡ traced c.args.object.now
 length_is c =
     let inside = traced_inside c.args.object.now in
-    let same : length c.fields.result.now ≡ length (fields c.args.object.now) = ap length c.fields.ensures in
+    let same : length c.fields.result.now ≡ length (fields c.args.object.now) = ap length c.fields.ensures.fields in
     let count = c.traced_fields.ensures.traced in
     length-take-le c.traced_fields.result c.fields.result.now (omega arith) ∙ count
 
@@ -25,7 +25,7 @@ test_is : (c : After-traced_fields) (index : ℕ) → index < traced c.args.obje
 test_is c index lt =
     let count = c.traced_fields.ensures.traced in
     let read = get_or-take c.traced_fields.result c.fields.result.now index 0 (omega arith) in
-    let word = read ∙ ap (λ xs. slice_index xs index) c.fields.ensures in
+    let word = read ∙ ap (λ xs. slice_index xs index) c.fields.ensures.fields in
     ap (λ (x : ℕ). is_bad_value c.args.heap.now (value_of x)) word
 
 pub returns-then-is_bad_word : goal.returns-then-is_bad_word

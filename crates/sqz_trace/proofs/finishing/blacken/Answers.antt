@@ -1,4 +1,4 @@
-use Rattle.std.proofs.Common.{◌≡◌, ◌+◌, ◌∙◌, arith}
+use Rattle.std.proofs.Common.{◌≡◌, ◌<◌, ◌+◌, ◌∙◌, arith}
 use Rattle.sqz_trace.specs.Targets.{IsTargetBelow}
 use Rattle.sqz_trace.proofs.TargetLemmas.{IsTargetOf}
 use Rattle.sqz_trace.proofs.GreyingLemmas.{Greys-next_field, Blackens-after_slots, IsLowest-then, IsLowest-blackened}
@@ -7,22 +7,23 @@ use Rattle.sqz_trace.proofs.finishing.blacken.Goals as goal
 pub loop-k-preserved : goal.loop-k-preserved
 loop-k-preserved c =
     let memory = c.args.heap.now in
-    let chunk = c.of-parent.result in
+    let parent = c.of-parent.result in
     let k = c.loop-k.k in
+    let lt : c.loop-k.k < c.of-parent.result.strong = omega (arith, c.loop-k-test.true, c.strong-k-end.ensures.strong) in
     let so_far = c.loop-k.invariant in
     let step = c.grey_target-lowest-in-loop-k.ensures in
     record {
-      greyed = Greys-next_field memory chunk k c.args.shades.now _ _ so_far.greyed step.greyed;
+      greyed = Greys-next_field memory parent.words parent.strong k c.args.shades.now _ _ lt so_far.greyed step.greyed;
       lowest =
-          IsLowest-then (c.args.object + 1) c.args.shades.now _ _ so_far.lowest (IsTargetBelow memory chunk k)
-          (IsTargetOf memory chunk k) _ _ so_far.greyed step.greyed step.lowest;
+          IsLowest-then (c.args.object + 1) c.args.shades.now _ _ so_far.lowest (IsTargetBelow memory parent.words k)
+          (IsTargetOf memory parent.words parent.strong k) _ _ so_far.greyed step.greyed step.lowest;
     }
 
 pub returns-clause-blackened : goal.returns-clause-blackened
 returns-clause-blackened c =
-    let end : c.loop-k.k ≡ c.traced-k-end.result = omega (arith, c.loop-k-test.false, c.loop-k.auto.k-end) in
-    Blackens-after_slots c.args.heap.now c.args.object c.of-parent.result c.of-parent.ensures c.loop-k.k c.args.shades.now _
-    c.requires.object c.requires.sized (end ∙ c.traced-k-end.ensures.traced) c.loop-k.invariant.greyed
+    let end : c.loop-k.k ≡ c.strong-k-end.result = omega (arith, c.loop-k-test.false, c.loop-k.auto.k-end) in
+    Blackens-after_slots c.args.heap.now c.args.weak c.args.object c.of-parent.result c.of-parent.ensures c.loop-k.k c.args.shades.now _
+    c.requires.object c.requires.sized (end ∙ c.strong-k-end.ensures.strong) c.loop-k.invariant.greyed
 
 pub returns-clause-lowest : goal.returns-clause-lowest
 returns-clause-lowest c =

@@ -6,6 +6,6 @@ use Rattle.sqz_trace.proofs.finishing.blacken.Given as goal
 abbrev pub invariant-loop-k : goal.invariant-loop-k
 invariant-loop-k l =
     record {
-      greyed : Greys (IsTargetBelow l.heap l.parent l.k) l.fn.shades l.shades;
+      greyed : Greys (IsTargetBelow l.heap l.parent.words l.k) l.fn.shades l.shades;
       lowest : IsLowest (l.object + 1) l.fn.shades l.shades l.lowest;
     }

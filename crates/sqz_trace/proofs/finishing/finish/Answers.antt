@@ -24,7 +24,7 @@ loop-object-smaller-in-Grey c =
     sym (get_or_read _ _ _ inside c.index.ensures White) ∙ c.in-Grey.is
     in
     let step = rw c.deref_mut.ensures.value at c.blacken-object.ensures.blackened in
-    let less = unfinished-blackened (HasEdge c.args.heap.now object) object old.items new inside grey step in
+    let less = unfinished-blackened (HasEdge c.args.heap.now c.args.weak object) object old.items new inside grey step in
     rw (whole_slice old.len new old.items step.sized old.ok.0)
     (less_to_do (object_count c.args.heap.now) (unfinished_count new) (unfinished_count old.items) object c.blacken-object.result less)
 
@@ -48,7 +48,7 @@ loop-object-preserved-in-Grey c =
       lawful = record {
         start = law.start;
         is_special = law.is_special;
-        lawful = AreLawful-blackened (graph_from law.start c.args.heap.now) object old.items new law.lawful grey step;
+        lawful = AreLawful-blackened (graph_from law.start c.args.heap.now c.args.weak) object old.items new law.lawful grey step;
       };
       before = λ index lt is. elim (cases_order index object) [
         | inl same ↦ grey-black (sym is ∙ ap (shade_at new) same ∙ step.black)
@@ -64,11 +64,11 @@ loop-object-preserved-in-Grey c =
 pub returns : goal.returns
 returns c =
     let law = c.loop-object.invariant.lawful in
-    let all = none_grey (graph_from law.start c.args.heap.now) c.loop-object.shades.items c.loop-object.object
+    let all = none_grey (graph_from law.start c.args.heap.now c.args.weak) c.loop-object.shades.items c.loop-object.object
     (omega (arith, c.loop-object-test.false, c.len.ensures.objects, law.lawful.sized)) c.loop-object.invariant.before in
     rw c.new.ensures
     (record {
       start = law.start;
       is_special = law.is_special;
-      reached = MarksReachable-finished (graph_from law.start c.args.heap.now) c.loop-object.shades.items law.lawful all;
+      reached = MarksReachable-finished (graph_from law.start c.args.heap.now c.args.weak) c.loop-object.shades.items law.lawful all;
     })

@@ -8,7 +8,7 @@ use Rattle.sqz_trace.proofs.finishing.finish.Given as goal
 abbrev pub invariant-loop-object : goal.invariant-loop-object
 invariant-loop-object l =
     record {
-      lawful : AreLawfulOf l.heap l.shades.items;
+      lawful : AreLawfulOf l.heap l.weak l.shades.items;
       before : (index : ℕ) → index < l.object → shade_at l.shades.items index ≢ Grey;
     }
 

@@ -10,23 +10,23 @@ pub returns-then-is_some : goal.returns-then-is_some
 returns-then-is_some c =
     let memory = c.args.heap.now in
     let reported =
-    defect_at-marked memory c.args.marks.now c.loop-object.object (sym c.has.ensures ∙ c.if-has.true) ∙ sym c.defect-found.ensures in
+    defect_at-marked memory c.args.weak c.args.marks.now c.loop-object.object (sym c.has.ensures ∙ c.if-has.true) ∙ sym c.defect-found.ensures in
     let found = ap is_some reported ∙ sym c.is_some.ensures ∙ c.if-is_some.true in
     sym
     (c.loop-object.invariant
-    ∙ first_between-found (defect_at memory c.args.marks.now) c.loop-object.object c.args.to c.loop-object-test.true found
+    ∙ first_between-found (defect_at memory c.args.weak c.args.marks.now) c.loop-object.object c.args.to c.loop-object-test.true found
     ∙ reported)
 
 pub loop-object-preserved : goal.loop-object-preserved
 loop-object-preserved c =
     let memory = c.args.heap.now in
-    let next = first_between-next (defect_at memory c.args.marks.now) c.loop-object.object c.args.to c.loop-object-test.true in
+    let next = first_between-next (defect_at memory c.args.weak c.args.marks.now) c.loop-object.object c.args.to c.loop-object-test.true in
     c.loop-object.invariant
     ∙ next
     (elim c.if-has.branch [
       | then-has+else-is_some w ↦
-          defect_at-marked memory c.args.marks.now c.loop-object.object (sym c.has.ensures ∙ w.if-has.true)
+          defect_at-marked memory c.args.weak c.args.marks.now c.loop-object.object (sym c.has.ensures ∙ w.if-has.true)
           ∙ sym w.defect-found.ensures
           ∙ none_found w.defect-found.result (sym w.is_some.ensures ∙ w.if-is_some.false)
-      | else-has w ↦ defect_at-unmarked memory c.args.marks.now c.loop-object.object (sym c.has.ensures ∙ w.if-has.false)
+      | else-has w ↦ defect_at-unmarked memory c.args.weak c.args.marks.now c.loop-object.object (sym c.has.ensures ∙ w.if-has.false)
     ])

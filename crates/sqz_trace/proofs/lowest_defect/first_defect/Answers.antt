@@ -23,7 +23,7 @@ pub returns : goal.returns
 returns g c =
     let count = object_count c.args.heap.now in
     let ends = c.into_par_iter.ensures in
-    let report = first_in_range (defect_at c.args.heap.now c.args.marks.now) 4096 count in
+    let report = first_in_range (defect_at c.args.heap.now c.args.weak c.args.marks.now) 4096 count in
     let done = c.reduce.ensures in
     let chain = rw (c.map.ensures.base, c.map.ensures.f, c.with_min_len.ensures.base) at done.1 in
     let n = c.div_ceil-ranges.result in
@@ -32,4 +32,4 @@ returns g c =
     let ranges = chain.1 ∙ (λ i. nat_range (ends.0 i) (ends.1 i)) ∙ ap (range_with_len 0) many in
     first_some-reduced done.0 c.reduce.result done.2
     ∙ ap first_some (AllZip-map report chain.0 done.0 chain.2 ∙ ap (map report) ranges)
-    ∙ first_defect-ranges c.args.heap.now c.args.marks.now c.requires
+    ∙ first_defect-ranges c.args.heap.now c.args.weak c.args.marks.now c.requires

@@ -15,11 +15,11 @@ loop-object-init c start is_special =
     let begins : first.start ≡ start = same_Some _ _ (sym first.is_special ∙ is_special) in
     let same : c.special.result ≡ start = same_Some _ _ (sym c.special.ensures.special ∙ is_special) in
     rw (first.are, c.in_ok-push.ensures.items, c.new-worklist.ensures.items, map-set, marks_of-replicate, begins, same)
-    (IsMarking-start (graph_from start c.args.heap.now) (omega (arith, same, c.special.ensures.inside)))
+    (IsMarking-start (graph_from start c.args.heap.now c.args.weak) (omega (arith, same, c.special.ensures.inside)))
 
 pub mark_targets-requires-clause-object : goal.mark_targets-requires-clause-object
 mark_targets-requires-clause-object c =
-    IsMarking-inside (graph_from c.special.result c.args.heap.now) (marks_of c.loop-object.shades.items) c.loop-object.worklist.items
+    IsMarking-inside (graph_from c.special.result c.args.heap.now c.args.weak) (marks_of c.loop-object.shades.items) c.loop-object.worklist.items
     c.in-Some.object (c.loop-object.invariant c.special.result c.special.ensures.special)
     (rw c.in-Some.ensures.items (Contains-push c.pop.new.self.items c.in-Some.object))
 
@@ -31,7 +31,7 @@ mark_targets-requires-clause-sized c =
 pub new-requires : goal.new-requires
 new-requires c =
     let marking = c.loop-object.invariant c.special.result c.special.ensures.special in
-    let sized = c.in_ok-shades.ensures.lawful.lawful.sized in
+    let sized = (c.in_ok-shades.ensures.lawful c.args.weak).lawful.sized in
     omega (arith, c.loop-object.shades.ok.0, length-marks_of c.loop-object.shades.items, marking.sized, sized, c.in_ok-shades.ensures.few)
 
 pub loop-object-preserved : goal.loop-object-preserved
@@ -39,7 +39,7 @@ loop-object-preserved c start is_special =
     let marking = rw c.in-Some.ensures.items at (c.loop-object.invariant start is_special) in
     let step = rw c.deref_mut.ensures.value at c.in_ok-mark_targets.ensures in
     let next =
-    IsMarking-step (graph_from start c.args.heap.now) c.in-Some.object (marks_of c.loop-object.shades.items)
+    IsMarking-step (graph_from start c.args.heap.now c.args.weak) c.in-Some.object (marks_of c.loop-object.shades.items)
     (marks_of c.mark_targets.new.shades) c.pop.new.self.items c.mark_targets.new.worklist.items marking step
     in
     let size = same_length c.mark_targets.new.shades c.loop-object.shades.items step.sized in
@@ -47,7 +47,7 @@ loop-object-preserved c start is_special =
 
 pub returns-clause-reachable : goal.returns-clause-reachable
 returns-clause-reachable c =
-    let graph = graph_from c.special.result c.args.heap.now in
+    let graph = graph_from c.special.result c.args.heap.now c.args.weak in
     let none = nil_from_length c.loop-object.worklist.items (omega (arith, c.in_default.ensures.cases.0, c.loop-object.worklist.ok.0)) in
     rw c.new.ensures
     (record {

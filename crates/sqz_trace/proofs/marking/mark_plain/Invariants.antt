@@ -9,7 +9,7 @@ use Rattle.sqz_trace.proofs.marking.mark_plain.Given as goal
 abbrev pub invariant-loop-object : goal.invariant-loop-object
 invariant-loop-object l =
     (start : ℕ) → find l.heap l.heap.special ≡ Some start
-    → IsMarking (graph_from start l.heap) (marks_of l.shades.items) l.worklist.items
+    → IsMarking (graph_from start l.heap l.weak) (marks_of l.shades.items) l.worklist.items
 
 abbrev pub decreases-loop-object : goal.decreases-loop-object
 decreases-loop-object l = unmarked_count (marks_of l.shades.items) + vec_len l.worklist

@@ -13,11 +13,11 @@ returns-clause-first c =
     }
 
 pub returns-clause-lawful : goal.returns-clause-lawful
-returns-clause-lawful c =
+returns-clause-lawful c weak =
     let blank = c.in_ok-shades.ensures.items_if_clones_equal (λ shade same. same) in
     rw (blank, c.len.ensures.objects)
     (record {
       start = c.special.result;
       is_special = c.special.ensures.special;
-      lawful = AreLawful-first (graph_from c.special.result c.args.heap.now) c.special.ensures.inside;
+      lawful = AreLawful-first (graph_from c.special.result c.args.heap.now weak) c.special.ensures.inside;
     })

@@ -1,5 +1,5 @@
 use Rattle.std.proofs.Common.{ap, ◌∙◌}
-use Rattle.sqz_trace.specs.Edges.{object_named}
+use Rattle.sqz_trace.specs.Targets.{object_named}
 use Rattle.sqz_trace.proofs.EdgeLemmas.{named_by-inside}
 use Rattle.sqz_trace.proofs.slots.named_by.Goals as goal
 

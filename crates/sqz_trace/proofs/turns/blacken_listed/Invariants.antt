@@ -7,7 +7,7 @@ use Rattle.sqz_trace.proofs.turns.blacken_listed.Given as goal
 abbrev pub invariant-loop-k : goal.invariant-loop-k
 invariant-loop-k l =
     record {
-      greyed : Greys (IsTargetBelow l.heap l.parent l.k) l.fn.shades l.shades;
+      greyed : Greys (IsTargetBelow l.heap l.parent.words l.k) l.fn.shades l.shades;
       listed : IsListed l.fn.shades l.shades l.fn.list.items l.list.items;
       capacity : vec_capacity l.list ≡ vec_capacity l.fn.list;
     }

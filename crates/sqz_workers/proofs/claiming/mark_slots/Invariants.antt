@@ -8,5 +8,5 @@ invariant-loop-k g l =
     record {
       gained : HasGained l.fn.pass l.pass l.won;
       few : l.won ≤ l.k + 1;
-      seen : HasSeenBelow l.fn.heap l.parent l.k l.pass.view;
+      seen : HasSeenBelow l.fn.table.heap.memory l.parent.words l.k l.pass.view;
     }

@@ -4,6 +4,7 @@ use Rattle.std.specs.List.{concat}
 use Rattle.std.specs.Slots.{slots_items}
 use Rattle.sqz_image.specs.Objects.{Memory, object_count, find}
 use Rattle.sqz_trace.specs.declared.shades.Shade.{Shade}
+use Rattle.sqz_trace.specs.declared.weak.Weak.{Weak}
 use Rattle.sqz_trace.specs.Shades.{has_mark, marks_of}
 use Rattle.sqz_trace.proofs.MarkingLemmas.{whole_slice}
 use Rattle.sqz_regions.specs.Bases.{AreSums}
@@ -19,6 +20,9 @@ use Rattle.sqz_marks.proofs.table.MarkTable.close.Goals.{After-deref_mut-2, Afte
 -- the heap that the rule was told
 is_heap : (c : After-deref_mut-2) → c.self.inside.table.shared.key.0.value ≡ c.args.self.heap
 is_heap c = c.self.invariant.1 ∙ ap (λ (m : SharedMarks). m.heap) c.self.view_is
+
+is_weak : (c : After-free) → c.self.inside.table.shared.key.1 ≡ c.args.self.weak
+is_weak c = c.self.invariant.2 ∙ ap (λ (m : SharedMarks). m.weak) c.self.view_is
 
 same_memory : (c : After-deref_mut-2) → c.self.inside.heap.now ≡ c.args.self.heap.memory
 same_memory c = c.self.invariant.0 ∙ ap (λ (m : SharedMarks). m.heap.memory) c.self.view_is
@@ -37,7 +41,7 @@ regions_of c = ap length c.deref_mut-2.ensures.value ∙ sym c.in-Ok-vec.live_wo
 pub read_sums-requires-clause-few : goal.read_sums-requires-clause-few
 read_sums-requires-clause-few c region inside =
     let key = c.self.inside.table.shared.key in let final = c.close_with-closed.ensures.values.2 in
-    sum_few key.0.value key.1 final.0 final.1.0 (slots_items c.close_with-closed.result.words) final.2 c.len-objects.result (count_is c) region
+    sum_few key.0.value key.1 key.2 final.0 final.1.0 (slots_items c.close_with-closed.result.words) final.2 c.len-objects.result (count_is c) region
     (subst (λ (h : Regioning). region < region_count h.cut h.memory) (sym (is_heap c)) (omega (arith, inside, regions_of c, regions_are c)))
 
 -- where a call on a later fact speaks of an earlier one
@@ -57,7 +61,7 @@ are_shades c =
     let count = objects ∙ count_is (early c) in
     let read : c.read_shades.new.shades ≡ kept.shades =
     c.read_shades.ensures ∙ ap (λ (list : List Shade). map shade_of (take (length list) (slots_items c.close_with-closed.result.words))) c.deref_mut.ensures.value
-    ∙ shades_read key.0.value key.1 final.0 kept (slots_items c.close_with-closed.result.words) final.2 (length items) count in
+    ∙ shades_read key.0.value key.1 key.2 final.0 kept (slots_items c.close_with-closed.result.words) final.2 (length items) count in
     whole_slice c.in-Ok.shades.len c.read_shades.new.shades items (ap length read ∙ kept.lawful.shades.sized ∙ sym count) c.in-Ok.shades.ok.0 ∙ read
 
 -- the sums that were read
@@ -75,31 +79,32 @@ are_sums c =
     whole_slice c.in-Ok-vec.live_words.len c.read_sums.new.sums items sized c.in-Ok-vec.live_words.ok.0
     ∙ ext_get_or 0 c.read_sums.new.sums kept.sums (sized ∙ count)
     (λ region lt. c.read_sums.ensures.read region (omega (arith, lt, c.read_sums.ensures.sized))
-    ∙ sum_read key.0.value key.1 final.0 kept (slots_items c.close_with-closed.result.words) final.2 c.len-objects.result (count_is (early c)) region)
+    ∙ sum_read key.0.value key.1 key.2 final.0 kept (slots_items c.close_with-closed.result.words) final.2 c.len-objects.result (count_is (early c)) region)
 
 is_view : (c : After-free) → c.pass.inside.seat.me.0 ≡ c.args.pass.view
 is_view c = ap (λ (p : HeldPass). p.view) c.pass.view_is
 
-whole : (c : After-free) → c.pass.inside.seat.me.0.weight ≡ c.self.inside.table.shared.key.1
+whole : (c : After-free) → c.pass.inside.seat.me.0.weight ≡ c.self.inside.table.shared.key.2
 whole c =
-    ap (λ (v : View). v.weight) (is_view c) ∙ c.requires.whole ∙ sym (ap (λ (m : SharedMarks). m.workers) c.self.view_is) ∙ sym c.self.invariant.2
+    ap (λ (v : View). v.weight) (is_view c) ∙ c.requires.whole ∙ sym (ap (λ (m : SharedMarks). m.workers) c.self.view_is) ∙ sym c.self.invariant.3
 
 pub returns-clause-closed : goal.returns-clause-closed
 returns-clause-closed c =
     let key = c.self.inside.table.shared.key in let seat = c.pass.inside.seat in let final = c.close_with-closed.ensures.values.2 in
     let special : find key.0.value.memory key.0.value.memory.special ≡ Some (start_of key.0.value.memory) =
-    subst (λ (h : Regioning). find h.memory h.memory.special ≡ Some (start_of h.memory)) (sym c.self.invariant.1) c.self.invariant.5 in
-    let closed = AreClosed-kept key.0.value key.1 final.0 final.1.0 seat.id seat.me.0 final.1.1 (whole c) special in
-    subst (λ (ss : List Shade). AreClosed c.args.self.heap.memory c.args.pass.view ss) (sym (are_shades c))
-    (subst (λ (h : Regioning). AreClosed h.memory c.args.pass.view (shades_of c)) (is_heap (early c))
-    (subst (λ (v : View). AreClosed key.0.value.memory v (shades_of c)) (is_view c) closed))
+    subst (λ (h : Regioning). find h.memory h.memory.special ≡ Some (start_of h.memory)) (sym c.self.invariant.1) c.self.invariant.6 in
+    let closed = AreClosed-kept key.0.value key.1 key.2 final.0 final.1.0 seat.id seat.me.0 final.1.1 (whole c) special in
+    subst (λ (ss : List Shade). AreClosed c.args.self.heap.memory c.args.self.weak c.args.pass.view ss) (sym (are_shades c))
+    (subst (λ (h : Regioning). AreClosed h.memory c.args.self.weak c.args.pass.view (shades_of c)) (is_heap (early c))
+    (subst (λ (v : View). AreClosed key.0.value.memory c.args.self.weak v (shades_of c)) (is_view c)
+    (subst (λ (w : Weak). AreClosed key.0.value.memory w seat.me.0 (shades_of c)) (is_weak c) closed)))
 
 -- the sums of the regions
 sums : (c : After-free) → AreSums c.args.self.heap (marks_of (shades_of c)) c.close_with-closed.ensures.values.2.1.0.sums
 sums c =
     let key = c.self.inside.table.shared.key in let seat = c.pass.inside.seat in let final = c.close_with-closed.ensures.values.2 in
     subst (λ (h : Regioning). AreSums h (marks_of (shades_of c)) final.1.0.sums) (is_heap (early c))
-    (AreSums-kept key.0.value key.1 final.0 final.1.0 seat.id seat.me.0 final.1.1 (whole c)
+    (AreSums-kept key.0.value key.1 key.2 final.0 final.1.0 seat.id seat.me.0 final.1.1 (whole c)
     (subst HasCountedAll (sym (is_view c)) c.requires.counted))
 
 pub returns-clause-sums : goal.returns-clause-sums

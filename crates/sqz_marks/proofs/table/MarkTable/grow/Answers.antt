@@ -11,7 +11,7 @@ fetch_add-requires g c =
     let marks = c.self.inside in let shared = marks.table.shared in let seat = c.args.seat.now in let self = c.args.self.now.heap in
     let is_heap = ap (λ (m : SharedMarks). m.heap) c.self.view_is in
     let count = c.len.ensures.objects ∙ ap object_count (c.self.invariant.0 ∙ ap (λ (m : SharedMarks). m.heap.memory) c.self.view_is) in
-    count_owes shared.table_id shared.key.0.value marks.regions.now self shared.key.1 c.self.invariant.1 is_heap c.self.invariant.3 seat.table_id
+    count_owes shared.table_id shared.key.0.value marks.regions.now self shared.key.1 shared.key.2 c.self.invariant.1 is_heap c.self.invariant.4 seat.table_id
     (c.requires.of ∙ sym (ap (λ (m : SharedMarks). m.table) c.self.view_is)) seat.id seat.me g.O.CountedObject.object c.args.region
     _ _ (ap (λ n. n + c.args.region) count)
     (subst (λ o. c.args.region ≡ region_at self.cut self.memory o) c.requires.object c.requires.region) c.requires.inside

@@ -10,9 +10,10 @@ invariant_of-result g c =
     let first = c.in_ok-shades.ensures.first in
     let start : first.start ≡ c.special.result = same_Some _ _ (sym first.is_special ∙ c.special.ensures.special) in
     let white = white_count-first (object_count c.args.heap.now) first.start (omega (arith, start, c.special.ensures.inside)) in
-    let sized = c.in_ok-shades.ensures.lawful.lawful.sized in
+    let sized = (c.in_ok-shades.ensures.lawful g.M.MarkedMemory.weak).lawful.sized in
     let whites = rw (← first.are) at white in (
-      subst (λ (memory : Memory). AreLawfulOf memory c.in_ok-shades.shades.items) c.requires c.in_ok-shades.ensures.lawful,
+      subst (λ (memory : Memory). AreLawfulOf memory g.M.MarkedMemory.weak c.in_ok-shades.shades.items) c.requires
+          (c.in_ok-shades.ensures.lawful g.M.MarkedMemory.weak),
       rw (c.in_ok-push.ensures.items, c.in_ok-list.ensures.items)
           (omega (
             arith,

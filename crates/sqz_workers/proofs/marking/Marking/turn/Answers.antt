@@ -1,10 +1,10 @@
-use Rattle.std.proofs.Common.{◌≡◌, sym, subst, rules}
-use Rattle.sqz_image.specs.Objects.{Memory}
+use Rattle.std.proofs.Common.{◌≡◌, sym, rules}
 use Rattle.sqz_trace.specs.declared.shades.Shade.TheVariants.{Grey}
 use Rattle.sqz_trace.specs.Reachability.{graph_from}
 use Rattle.sqz_trace.specs.Shades.{shade_at, AreLawfulOf}
 use Rattle.sqz_trace.proofs.MarkingLemmas.{whole_slice}
 use Rattle.sqz_trace.proofs.LawLemmas.{AreLawful-blackened}
+use Rattle.sqz_workers.proofs.TurnLemmas.{AreLawfulOf-same}
 use Rattle.sqz_workers.proofs.marking.Marking.turn.Goals as goal
 
 pub invariant_of-self-in-Grey-1 : goal.invariant_of-self-in-Grey-1
@@ -14,13 +14,13 @@ invariant_of-self-in-Grey-1 g c =
     let new = c.blacken_listed.new.shades in
     let step = rw c.deref_mut.ensures.value at c.blacken_listed.ensures.blackened in
     let grey : shade_at c.self.inside.shades.items c.in-Some.object ≡ Grey = search rules in
-    let law = subst (λ (memory : Memory). AreLawfulOf memory c.self.inside.shades.items) (sym c.requires) c.self.invariant.0 in
-    let next : AreLawfulOf c.args.heap.now c.blacken_listed.new.shades =
+    let law = AreLawfulOf-same c.self.inside.shades.items (sym c.requires.heap) (sym c.requires.weak) c.self.invariant.0 in
+    let next : AreLawfulOf c.args.heap.now c.args.weak c.blacken_listed.new.shades =
     record {
       start = law.start;
       is_special = law.is_special;
-      lawful = AreLawful-blackened (graph_from law.start memory) c.in-Some.object old.items new law.lawful grey step;
+      lawful = AreLawful-blackened (graph_from law.start memory c.args.weak) c.in-Some.object old.items new law.lawful grey step;
     }
     in
     rw (whole_slice old.len new old.items step.sized old.ok.0)
-    (subst (λ (memory : Memory). AreLawfulOf memory new) c.requires next, c.blacken_listed.ensures.room)
+    (AreLawfulOf-same new c.requires.heap c.requires.weak next, c.blacken_listed.ensures.room)

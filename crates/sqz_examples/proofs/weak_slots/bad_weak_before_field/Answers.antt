@@ -1,0 +1,13 @@
+use Rattle.std.proofs.Common.{[], ◌∷◌, Some, None, refl}
+use Rattle.sqz_object.specs.declared.order.Order.TheVariants.{Little}
+use Rattle.sqz_trace.specs.declared.weak.Weak.TheVariants.{Clear}
+use Rattle.sqz_examples.proofs.WorkedImages.{IsRefused-for_defect}
+use Rattle.sqz_examples.proofs.weak_slots.bad_weak_before_field.Goals as goal
+
+pub returns : goal.returns
+returns c =
+    IsRefused-for_defect _ Little
+    ((0x1007 ∷ []) ∷ (0x1113 ∷ 1 ∷ 1 ∷ 0x1000 ∷ []) ∷ (0x1005 ∷ 0x409 ∷ 0x1002 ∷ []) ∷
+    (0x320F ∷ 0x1000 ∷ 0x1018 ∷ []) ∷ []) Clear
+    ((Some (0 ∷ [])) ∷ (Some (2 ∷ 1 ∷ [])) ∷ (Some (2 ∷ [])) ∷ (Some []) ∷ [])
+    _ refl refl refl refl refl

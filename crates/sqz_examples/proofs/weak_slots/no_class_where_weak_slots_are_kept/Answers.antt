@@ -1,0 +1,12 @@
+use Rattle.std.proofs.Common.{[], ◌∷◌, Some, None, refl}
+use Rattle.sqz_object.specs.declared.order.Order.TheVariants.{Little}
+use Rattle.sqz_trace.specs.declared.weak.Weak.TheVariants.{Keep}
+use Rattle.sqz_examples.proofs.WorkedImages.{IsRefused-for_defect}
+use Rattle.sqz_examples.proofs.weak_slots.no_class_where_weak_slots_are_kept.Goals as goal
+
+pub returns : goal.returns
+returns c =
+    IsRefused-for_defect _ Little
+    ((0x40B ∷ 1 ∷ []) ∷ (0x320F ∷ 1 ∷ 0x1000 ∷ []) ∷ []) Keep
+    ((Some (0 ∷ [])) ∷ (Some []) ∷ [])
+    _ refl refl refl refl refl

@@ -1,0 +1,12 @@
+use Rattle.std.proofs.Common.{[], ◌∷◌, Some, None, refl}
+use Rattle.sqz_object.specs.declared.order.Order.TheVariants.{Little}
+use Rattle.sqz_trace.specs.declared.weak.Weak.TheVariants.{Clear}
+use Rattle.sqz_examples.proofs.WorkedImages.{CompactsTo-computed}
+use Rattle.sqz_examples.proofs.weak_slots.weak_special_array_with_class_word.Goals as goal
+
+pub returns : goal.returns
+returns c =
+    CompactsTo-computed _ Little
+    ((0x1007 ∷ []) ∷ (0x1113 ∷ 1 ∷ 1 ∷ 0x409 ∷ []) ∷ (0x1005 ∷ 0x40D ∷ 0x1000 ∷ 1 ∷ []) ∷ []) Clear
+    ((Some (0 ∷ [])) ∷ (Some (1 ∷ [])) ∷ (Some []) ∷ [])
+    _ refl refl refl refl refl refl

@@ -1,0 +1,10 @@
+use Rattle.std.proofs.Common.{◌≡◌, Bool, List, ◌++◌, map, take}
+use Rattle.sqz_trace.specs.declared.weak.Weak.{Weak}
+use Rattle.sqz_regions.specs.Bases.{ArePlacesOf}
+use Rattle.sqz_slide.specs.Moved.{nil_place, moved_weak}
+use Rattle.sqz_slide.proofs.moved_objects.push_weak.Given as goal
+
+abbrev pub invariant-loop-field : goal.invariant-loop-field
+invariant-loop-field l =
+    (weak : Weak) (marks : List Bool) → ArePlacesOf l.heap marks l.forward → l.nil ≡ nil_place l.heap weak marks
+    → l.words.items ≡ l.fn.words.items ++ map (moved_weak l.heap weak marks) (take l.field-index l.fields)

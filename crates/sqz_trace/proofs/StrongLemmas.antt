@@ -1,0 +1,73 @@
+-- The strong fields of an object, by its class word alone and by its class.
+use Rattle.std.proofs.Common.{◌≡◌, ℕ, ◌≤◌, Bool, true, false, cond, List, length, Option, Some, None, refl, ap, subst, sym, ◌∙◌, arith, inl, inr}
+use Rattle.std.proofs.lemmas.Bool.{cases_lt, lt-ltb, le-ltb}
+use Rattle.std.specs.Prelude.{option_map, option_and_then}
+use Rattle.sqz_object.specs.declared.chunk.Kind.{Kind}
+use Rattle.sqz_object.specs.declared.chunk.Kind.TheVariants.{Three, Two, Free, Short}
+use Rattle.sqz_object.specs.Chunk.{chunk_kind, fields}
+use Rattle.sqz_image.specs.declared.fault.Slot.TheVariants.{ClassWord, Field}
+use Rattle.sqz_image.specs.Objects.{Memory, chunk_words}
+use Rattle.sqz_trace.specs.declared.weak.Weak.{Weak}
+use Rattle.sqz_trace.specs.Slots.{traced, class_address, class_word}
+use Rattle.sqz_trace.specs.Targets.{named_by, named_in}
+use Rattle.sqz_trace.specs.Strong.{is_weak, fixed_by, unless_above, strong_by, strong_by_word, held_by_word}
+use Rattle.sqz_trace.specs.Strong.{class_by, class_of, strong}
+use Rattle.sqz_trace.specs.Edges.{strong_target}
+use Rattle.sqz_trace.proofs.SlotLemmas.{traced_inside}
+use Rattle.sqz_trace.proofs.TargetLemmas.{named_among-more}
+
+module _ (memory : Memory) (weak : Weak) where
+  -- without a class there are no more strong fields than with one
+  strong_by-none : (chunk : List ℕ) (class : Option ℕ) → strong_by memory weak chunk None ≤ strong_by memory weak chunk class
+  strong_by-none chunk class = by_test (is_weak weak chunk) (traced chunk)
+    where
+      by_test : (test : Bool) (other : ℕ)
+          → cond test (unless_above (length (fields chunk)) (fixed_by memory None)) other
+          ≤ cond test (unless_above (length (fields chunk)) (fixed_by memory class)) other
+      by_test true other = omega arith
+      by_test false other = omega arith
+
+  -- a field that is strong by the class word alone is strong
+  strong_by_word-le : (chunk : List ℕ) → strong_by_word memory weak chunk ≤ strong memory weak chunk
+  strong_by_word-le chunk = by_kind (chunk_kind chunk) refl
+    where
+      none : (kind : Kind) → chunk_kind chunk ≡ kind → class_word kind chunk ≡ None → named_in memory chunk ClassWord ≡ None
+      none kind is lacks =
+          ap (λ k. option_and_then (named_by memory) (option_map class_address (class_word k chunk))) is
+          ∙ ap (λ word. option_and_then (named_by memory) (option_map class_address word)) lacks
+
+      by_kind : (kind : Kind) → chunk_kind chunk ≡ kind
+          → strong_by_word memory weak chunk ≤ strong_by memory weak chunk (class_by memory weak chunk kind)
+      by_kind Three is = omega arith
+      by_kind Two is = omega arith
+      by_kind Free is =
+          subst (λ class. strong_by memory weak chunk class ≤ strong_by memory weak chunk None) (sym (none Free is refl)) (omega arith)
+      by_kind Short is =
+          let class = class_by memory weak chunk Short in
+          subst (λ word. strong_by memory weak chunk word ≤ strong_by memory weak chunk class) (sym (none Short is refl))
+          (strong_by-none chunk class)
+
+  -- what leads to a class by a compact index are strong slots
+  pub held_by_word-target : (index field found : ℕ) → held_by_word memory weak index field ≡ Some found
+      → strong_target memory weak index (Field field) ≡ Some found
+  held_by_word-target index field found held =
+      let chunk = chunk_words memory index in
+      named_among-more memory chunk (strong_by_word memory weak chunk) (strong memory weak chunk) (Field field) found
+      (strong_by_word-le chunk) held
+
+-- the strong fields are some of the fields
+pub strong_inside : (memory : Memory) (weak : Weak) (chunk : List ℕ) → strong memory weak chunk ≤ length (fields chunk)
+strong_inside memory weak chunk =
+    by_test (is_weak weak chunk) (length (fields chunk)) (fixed_by memory (class_of memory weak chunk)) (traced_inside chunk)
+  where
+    unless_above-le : (count : ℕ) (stated : Option ℕ) → unless_above count stated ≤ count
+    unless_above-le count None = omega arith
+    unless_above-le count (Some stated) =
+        elim (cases_lt count stated) [
+          | inl lt ↦ rw (lt-ltb count stated lt) (omega arith)
+          | inr ge ↦ rw (le-ltb count stated ge) (omega arith)
+        ]
+
+    by_test : (test : Bool) (count : ℕ) (stated : Option ℕ) {other : ℕ} → other ≤ count → cond test (unless_above count stated) other ≤ count
+    by_test true count stated le = unless_above-le count stated
+    by_test false count stated le = le
