@@ -12,7 +12,8 @@ use Rattle.sqz_object.specs.Partition.{IsStuck, stated_length, chunk_fault}
 use Rattle.sqz_object.proofs.ChunkLemmas.{is_chunk_with_no_fault, no_chunk_at_fault}
 use Rattle.sqz_image.specs.declared.fault.Fault.{Fault}
 use Rattle.sqz_image.specs.declared.fault.Fault.TheVariants.{BadSpecialObjects, NoNil}
-use Rattle.sqz_image.specs.File.{order_of, header_of, base_address, special_address, data_of}
+use Rattle.sqz_image.specs.File.{order_of, prefix_of, image_bytes, header_of, base_address, special_address}
+use Rattle.sqz_image.specs.File.{data_of}
 use Rattle.sqz_image.specs.Objects.{SavedImage, find, file_bytes}
 use Rattle.sqz_image.specs.Refusals.{file_fault, HasChunks, Holds, refusal_of}
 use Rattle.sqz_trace.specs.declared.weak.Weak.{Weak}
@@ -59,7 +60,9 @@ pub record Findings : Type 0 where
 
 -- of a file that is read in this order
 abbrev pub findings_in : Order → List ℕ → Findings
-findings_in order file = record { fault = file_fault file; found_order = order_of file; words = data_of order file }
+findings_in order file =
+    let bytes : List ℕ = image_bytes file in
+    record { fault = file_fault file; found_order = order_of bytes; words = data_of order bytes }
 
 -- its header is sound, and these are its order and its data words
 abbrev pub IsReadAs : List ℕ → Order → List ℕ → Type 0
@@ -72,16 +75,21 @@ module _ (file : List ℕ) (order : Order) (chunks : List (List ℕ)) where
   -- the image in the file, with these chunks
   abbrev pub image_in : SavedImage
   image_in =
-      let header = header_of order file in
+      let header = header_of order (image_bytes file) in
       let base : ℕ = base_address header in
       let special : ℕ = special_address header in
-      record { header = header; memory = record { order = order; base = base; special = special; chunks = chunks } }
+      record {
+        prefix = prefix_of file;
+        header = header;
+        memory = record { order = order; base = base; special = special; chunks = chunks };
+      }
 
   -- the file has these chunks
   pub HasChunks-computed : IsReadAs file order (concat chunks) → list_all is_chunk chunks ≡ true
       → HasChunks file image_in
   HasChunks-computed read each = record {
     sound = ap (λ (f : Findings). f.fault) read;
+    prefix = refl;
     order = ap (λ (f : Findings). f.found_order) read;
     header = refl;
     base = refl;

@@ -1,5 +1,6 @@
 -- Image files given by their words, and what a worked image says of a file that is accepted.
 use Rattle.std.specs.Prelude.{◌≡◌, ℕ, ◌*◌, Bool, List, [], ◌∷◌, ◌++◌, length}
+use Rattle.std.specs.List.{repeat}
 use Rattle.sqz_object.specs.declared.order.Order.{Order}
 use Rattle.sqz_object.specs.Bytes.{spelling_of}
 use Rattle.sqz_image.specs.Objects.{SavedImage, file_bytes}
@@ -21,6 +22,10 @@ file_at order base data_words special = spelling_of order (words_at base data_wo
 -- the same where the first data word has the address 0x1000, as in most worked images
 abbrev pub file_of : Order → List ℕ → ℕ → List ℕ
 file_of order data_words special = file_at order 0x1000 data_words special
+
+-- the file behind so many bytes of 0x23
+abbrev pub behind : ℕ → List ℕ → List ℕ
+behind count file = repeat count (0x23 ∷ []) ++ file
 
 -- the file is accepted, and the answer is the file of the image that is left of it
 pub record CompactsTo (weak : Weak) (file answer : List ℕ) : Type 0 where

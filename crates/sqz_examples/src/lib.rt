@@ -5,6 +5,7 @@
 mod compacted;
 mod defects;
 mod marking;
+mod prefixes;
 mod unreadable;
 mod weak_slots;
 mod words;

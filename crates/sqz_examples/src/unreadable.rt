@@ -4,7 +4,6 @@
 //! A file is given as an image is in [`crate::compacted`].
 
 ghost use Rattle.std.specs.Prelude.{[], ◌∷◌, ◌++◌, take, slice_set};
-ghost use Rattle.std.specs.List.{repeat};
 ghost use Rattle.sqz_object.specs.declared.order.Order.TheVariants.{Little};
 ghost use Rattle.sqz_object.specs.Bytes.{spelling_of};
 ghost use Rattle.sqz_image.specs.declared.fault.Fault.TheVariants.{TooShort, BadVersion, BadHeaderSize, BadDataSize};
@@ -25,13 +24,6 @@ fn cut_in_header()
 fn other_version()
     ensures { let words = words_at 0x1000 (0x1007 ∷ 0x320F ∷ 1 ∷ 1 ∷ 0x320B ∷ 0x1000 ∷ []) 0x1010 in
         (weak : Weak) → IsRefused weak (spelling_of Little (slice_set words 0 6504)) BadVersion }
-{}
-
-/// The header is at the front of the file, and nowhere else.
-fn behind_512_bytes()
-    ensures { (weak : Weak) → IsRefused weak
-        (repeat 512 (0x23 ∷ []) ++ file_of Little (0x1007 ∷ 0x320F ∷ 1 ∷ 1 ∷ 0x320B ∷ 0x1000 ∷ []) 0x1010)
-        BadVersion }
 {}
 
 /// Another size of the header is not read.

@@ -4,7 +4,7 @@ use Rattle.std.proofs.Common.{cond, eqb, ltb, List, length, take, drop, slice_in
 use Rattle.std.proofs.Common.{sym, ap, subst, ◌∙◌, arith, inl, inr}
 use Rattle.std.proofs.lemmas.Option.{none-some}
 use Rattle.std.proofs.lemmas.Bool.{eqb-true, ltb-false, cases_lt}
-use Rattle.std.proofs.lemmas.List.{length-drop, length-take, get_or-take, get_or_past}
+use Rattle.std.proofs.lemmas.List.{length-drop, length-take, get_or-take, get_or_past, get_or-drop}
 use Rattle.sqz_object.specs.declared.order.Order.{Order}
 use Rattle.sqz_object.specs.Bytes.{words_of}
 use Rattle.sqz_object.specs.Partition.{IsPartition}
@@ -12,10 +12,11 @@ use Rattle.sqz_object.proofs.WordLemmas.{length-words_of, words_of-lt}
 use Rattle.sqz_image.specs.declared.fault.Fault.{Fault}
 use Rattle.sqz_image.specs.declared.fault.Fault.TheVariants.{TooShort, BadVersion, BadHeaderSize, BadDataSize}
 use Rattle.sqz_image.specs.declared.fault.Fault.TheVariants.{BadBase, Truncated, OutOfMemory}
-use Rattle.sqz_image.specs.File.{header_size, order_of, header_of, stated_header_size, data_size, base_address}
-use Rattle.sqz_image.specs.File.{special_address, data_of}
+use Rattle.sqz_image.specs.File.{header_size, order_of, prefix_of, image_bytes, header_of, stated_header_size}
+use Rattle.sqz_image.specs.File.{data_size, base_address, special_address, data_of}
 use Rattle.sqz_image.specs.Objects.{SavedImage}
-use Rattle.sqz_image.specs.Refusals.{header_fault, fault_in_order, file_fault, HasChunks, Holds, IsUnreadable}
+use Rattle.sqz_image.specs.Refusals.{header_fault, fault_in_order, header_bytes_fault, file_fault, HasChunks, Holds}
+use Rattle.sqz_image.specs.Refusals.{IsUnreadable}
 use Rattle.sqz_image.proofs.NumberLemmas.{HasNumber, HasNumber-none, HasNumber-some, HasNumber-if}
 use Rattle.sqz_image.specs.Memory.{IsMemory, IsWholeMemory, IsNoMemory}
 
@@ -65,27 +66,31 @@ IsSoundHeader-from_no_fault header bytes e =
       room = ltb-false _ _ parts.3;
     }
 
-in_order_parts : (file : List ℕ) (found : Option Order) (order : Order)
-    → found ≡ Some order → fault_in_order found file ≡ None → header_fault (header_of order file) (length file) ≡ None
-in_order_parts file found order is e = ap (λ (o : Option Order). fault_in_order o file) (sym is) ∙ e
+in_order_parts : (bytes : List ℕ) (found : Option Order) (order : Order)
+    → found ≡ Some order → fault_in_order found bytes ≡ None → header_fault (header_of order bytes) (length bytes) ≡ None
+in_order_parts bytes found order is e = ap (λ (o : Option Order). fault_in_order o bytes) (sym is) ∙ e
 
 long_enough : (short : Bool) (rest : Option Fault) → cond short (Some TooShort) rest ≡ None → rest ≡ None
 long_enough true rest e = absurd (none-some TooShort (sym e))
 long_enough false rest e = e
 
-pub sound_header : (file : List ℕ) (order : Order)
-    → file_fault file ≡ None → order_of file ≡ Some order → IsSoundHeader (header_of order file) (length file)
-sound_header file order sound is =
-    IsSoundHeader-from_no_fault (header_of order file) (length file)
-    (in_order_parts file (order_of file) order is (long_enough (ltb (length file) header_size) (fault_in_order (order_of file) file) sound))
+pub sound_header : (bytes : List ℕ) (order : Order)
+    → header_bytes_fault bytes ≡ None → order_of bytes ≡ Some order → IsSoundHeader (header_of order bytes) (length bytes)
+sound_header bytes order sound is =
+    IsSoundHeader-from_no_fault (header_of order bytes) (length bytes)
+    (in_order_parts bytes (order_of bytes) order is (long_enough (ltb (length bytes) header_size) (fault_in_order (order_of bytes) bytes) sound))
 
 -- bytes at the front are bytes
-front_fits : (file : List ℕ) (count : ℕ) → ((i : ℕ) → slice_index file i < 256) → (i : ℕ) → slice_index (take count file) i < 256
-front_fits file count bytes i =
+front_fits : (bytes : List ℕ) (count : ℕ) → ((i : ℕ) → slice_index bytes i < 256) → (i : ℕ) → slice_index (take count bytes) i < 256
+front_fits bytes count each i =
     elim (cases_lt i count) [
-      | inl below ↦ rw (get_or-take count file i 0 below) (bytes i)
-      | inr past ↦ rw (get_or_past (take count file) i 0 (omega (arith, length-take count file))) (omega arith)
+      | inl below ↦ rw (get_or-take count bytes i 0 below) (each i)
+      | inr past ↦ rw (get_or_past (take count bytes) i 0 (omega (arith, length-take count bytes))) (omega arith)
     ]
+
+-- and so are those from a place on
+pub rest_fits : (bytes : List ℕ) (count : ℕ) → ((i : ℕ) → slice_index bytes i < 256) → (i : ℕ) → slice_index (drop count bytes) i < 256
+rest_fits bytes count each i = rw (get_or-drop count bytes i 0) (each (count + i))
 
 -- what the numbers of a sound header allow
 pub record HasBounds (words : List ℕ) (base : ℕ) : Type 0 where
@@ -93,30 +98,30 @@ pub record HasBounds (words : List ℕ) (base : ℕ) : Type 0 where
   pub within : base + 4 * length words ≤ 2 ^ 32
   pub aligned : base % 4 ≡ 0
 
-module _ (file header : List ℕ) (order : Order)
-    (sound : file_fault file ≡ None)
-    (begins : order_of file ≡ Some order)
-    (is_header : header ≡ header_of order file) where
-  sound_words : IsSoundHeader header (length file)
-  sound_words = subst (λ (h : List ℕ). IsSoundHeader h (length file)) (sym is_header) (sound_header file order sound begins)
+module _ (bytes header : List ℕ) (order : Order)
+    (sound : header_bytes_fault bytes ≡ None)
+    (begins : order_of bytes ≡ Some order)
+    (is_header : header ≡ header_of order bytes) where
+  sound_words : IsSoundHeader header (length bytes)
+  sound_words = subst (λ (h : List ℕ). IsSoundHeader h (length bytes)) (sym is_header) (sound_header bytes order sound begins)
 
   -- the data are all there
-  pub data_inside : header_size + data_size header ≤ length file
+  pub data_inside : header_size + data_size header ≤ length bytes
   data_inside = sound_words.room
 
   -- the words that the header's number of bytes spell
-  pub data_is : words_of order (take (data_size header) (drop header_size file)) ≡ data_of order file
-  data_is = ap (λ (h : List ℕ). words_of order (take (data_size h) (drop header_size file))) is_header
+  pub data_is : words_of order (take (data_size header) (drop header_size bytes)) ≡ data_of order bytes
+  data_is = ap (λ (h : List ℕ). words_of order (take (data_size h) (drop header_size bytes))) is_header
 
-  pub data_bounds : ((i : ℕ) → slice_index file i < 256) → HasBounds (data_of order file) (base_address header)
-  data_bounds bytes =
+  pub data_bounds : ((i : ℕ) → slice_index bytes i < 256) → HasBounds (data_of order bytes) (base_address header)
+  data_bounds each =
       let fits : data_size header < 2 ^ 32 =
-      rw is_header (words_of-lt order (take header_size file) (front_fits file header_size bytes) 2) in
-      let bytes_of_data = take (data_size header) (drop header_size file) in
+      rw is_header (words_of-lt order (take header_size bytes) (front_fits bytes header_size each) 2) in
+      let bytes_of_data = take (data_size header) (drop header_size bytes) in
       let size : length bytes_of_data ≡ data_size header =
-      length-take (data_size header) (drop header_size file)
-      ∙ omega (arith, length-drop header_size file, data_inside) in
-      let words : length (data_of order file) ≡ data_size header / 4 =
+      length-take (data_size header) (drop header_size bytes)
+      ∙ omega (arith, length-drop header_size bytes, data_inside) in
+      let words : length (data_of order bytes) ≡ data_size header / 4 =
       ap length (sym data_is) ∙ length-words_of order bytes_of_data ∙ ap (λ (n : ℕ). n / 4) size in
       let m = sound_words.multiple in
       let w = sound_words.within in
@@ -126,44 +131,51 @@ module _ (file header : List ℕ) (order : Order)
         aligned = sound_words.aligned;
       }
 
+-- the same of the bytes of a file from its header on
+module _ (file header : List ℕ) (order : Order)
+    (sound : file_fault file ≡ None)
+    (begins : order_of (image_bytes file) ≡ Some order)
+    (is_header : header ≡ header_of order (image_bytes file)) where
   -- the image of a memory of the data
-  module _ (image : SavedImage) (same : image.header ≡ header) where
-    pub HasChunks-memory : IsMemory order (base_address header) (special_address header) (data_of order file) image.memory
+  module _ (image : SavedImage) (same_prefix : image.prefix ≡ prefix_of file) (same : image.header ≡ header) where
+    pub HasChunks-memory : IsMemory order (base_address header) (special_address header) (data_of order (image_bytes file)) image.memory
         → HasChunks file image
     HasChunks-memory is =
         let order_is = is.in_order in
         record {
           sound = sound;
+          prefix = same_prefix;
           order = begins ∙ ap (λ (o : Order). Some o) (sym order_is);
-          header = same ∙ is_header ∙ ap (λ (o : Order). header_of o file) (sym order_is);
+          header = same ∙ is_header ∙ ap (λ (o : Order). header_of o (image_bytes file)) (sym order_is);
           base = is.begins ∙ ap base_address (sym same);
           special = is.special_address ∙ ap special_address (sym same);
           chunks =
               subst (λ (w : List ℕ). IsPartition w image.memory.chunks)
-              (ap (λ (o : Order). data_of o file) (sym order_is)) is.partition;
+              (ap (λ (o : Order). data_of o (image_bytes file)) (sym order_is)) is.partition;
         }
 
-    pub Holds-memory : IsWholeMemory order (base_address header) (special_address header) (data_of order file) image.memory
+    pub Holds-memory : IsWholeMemory order (base_address header) (special_address header) (data_of order (image_bytes file)) image.memory
         → Holds file image
     Holds-memory is = record { parts = HasChunks-memory is.is_memory; special = is.found }
 
   -- why the data are no memory is why the file holds no image
   pub IsUnreadable-memory : (fault : Fault)
-      → IsNoMemory order (base_address header) (special_address header) (data_of order file) fault
+      → IsNoMemory order (base_address header) (special_address header) (data_of order (image_bytes file)) fault
       → IsUnreadable file fault
   IsUnreadable-memory fault (inl unreadable) =
       inr (inl record { sound = sound; order = order; in_order = begins; unreadable = unreadable })
   IsUnreadable-memory fault (inr lacks) =
       inr (inr record {
-        image = record { header = header; memory = lacks.memory };
-        parts = HasChunks-memory (record { header = header; memory = lacks.memory }) refl lacks.is_memory;
+        image = record { prefix = prefix_of file; header = header; memory = lacks.memory };
+        parts =
+            HasChunks-memory (record { prefix = prefix_of file; header = header; memory = lacks.memory }) refl refl lacks.is_memory;
         missing = lacks.missing;
         refused = lacks.refused;
       })
 
   -- the same of a call that may be refused memory, too
   pub refused-memory : (fault : Fault)
-      → (fault ≡ OutOfMemory) ⊎ IsNoMemory order (base_address header) (special_address header) (data_of order file) fault
+      → (fault ≡ OutOfMemory) ⊎ IsNoMemory order (base_address header) (special_address header) (data_of order (image_bytes file)) fault
       → ((fault ≡ OutOfMemory) × (file_fault file ≡ None)) ⊎ IsUnreadable file fault
   refused-memory fault (inl none) = inl (none, sound)
   refused-memory fault (inr missing) = inr (IsUnreadable-memory fault missing)
@@ -180,9 +192,12 @@ header_fault_low header bytes =
     (HasNumber-if IsLow _ BadBase _ (omega arith)
     (HasNumber-if IsLow _ Truncated None (omega arith) (HasNumber-none IsLow))))
 
-in_order_low : (file : List ℕ) (found : Option Order) → HasNumber IsLow (fault_in_order found file)
-in_order_low file None = HasNumber-some IsLow BadVersion (omega arith)
-in_order_low file (Some order) = header_fault_low (header_of order file) (length file)
+in_order_low : (bytes : List ℕ) (found : Option Order) → HasNumber IsLow (fault_in_order found bytes)
+in_order_low bytes None = HasNumber-some IsLow BadVersion (omega arith)
+in_order_low bytes (Some order) = header_fault_low (header_of order bytes) (length bytes)
+
+header_bytes_fault_low : (bytes : List ℕ) → HasNumber IsLow (header_bytes_fault bytes)
+header_bytes_fault_low bytes = HasNumber-if IsLow _ TooShort _ (omega arith) (in_order_low bytes (order_of bytes))
 
 pub file_fault_low : (file : List ℕ) → HasNumber IsLow (file_fault file)
-file_fault_low file = HasNumber-if IsLow _ TooShort _ (omega arith) (in_order_low file (order_of file))
+file_fault_low file = header_bytes_fault_low (image_bytes file)

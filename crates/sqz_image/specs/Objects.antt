@@ -63,11 +63,13 @@ find_in base (object ∷ objects) address =
 abbrev pub find : Memory → ℕ → Option ℕ
 find memory address = find_in memory.base (objects memory) address
 
--- an image: its header words, and its object memory
+-- an image: the bytes before its header, its header words, and its object memory
 pub record SavedImage : Type 0 where
+  pub prefix : List ℕ
   pub header : List ℕ
   pub memory : Memory
 
--- the bytes of the file that an image is saved as: its header words, and the words of its chunks
+-- the bytes of the file that an image is saved as: those before its header, its header words, and the words of its
+-- chunks
 abbrev pub file_bytes : SavedImage → List ℕ
-file_bytes image = spelling_of image.memory.order (image.header ++ concat image.memory.chunks)
+file_bytes image = image.prefix ++ spelling_of image.memory.order (image.header ++ concat image.memory.chunks)

@@ -9,11 +9,11 @@ use Rattle.sqz_image.specs.declared.fault.Fault.{Fault}
 use Rattle.sqz_image.specs.declared.fault.Fault.TheVariants.{TooShort, BadVersion, BadHeaderSize, BadDataSize, BadBase}
 use Rattle.sqz_image.specs.declared.fault.Fault.TheVariants.{Truncated, ZeroSize, HeaderMismatch, Overrun}
 use Rattle.sqz_image.specs.declared.fault.Fault.TheVariants.{BadSpecialObjects}
-use Rattle.sqz_image.specs.File.{header_size, order_of, header_of, stated_header_size, data_size, base_address}
-use Rattle.sqz_image.specs.File.{special_address, data_of}
+use Rattle.sqz_image.specs.File.{header_size, order_of, prefix_of, image_bytes, header_of, stated_header_size}
+use Rattle.sqz_image.specs.File.{data_size, base_address, special_address, data_of}
 use Rattle.sqz_image.specs.Objects.{SavedImage, find}
 
--- the first of the refusals 3 to 6 that applies, by the header words and the number of the file's bytes
+-- the first of the refusals 3 to 6 that applies, by the header words and the number of bytes from the header on
 abbrev pub header_fault : List ℕ → ℕ → Option Fault
 header_fault header bytes =
     if not (stated_header_size header == header_size) then Some BadHeaderSize
@@ -23,22 +23,27 @@ header_fault header bytes =
     else None)))
 
 abbrev pub fault_in_order : Option Order → List ℕ → Option Fault
-fault_in_order None file = Some BadVersion
-fault_in_order (Some order) file = header_fault (header_of order file) (length file)
+fault_in_order None bytes = Some BadVersion
+fault_in_order (Some order) bytes = header_fault (header_of order bytes) (length bytes)
 
--- the first of the refusals 1 to 6 that applies
+-- the first of the refusals 1 to 6 that applies, by the bytes from the header on
+abbrev pub header_bytes_fault : List ℕ → Option Fault
+header_bytes_fault bytes =
+    if nat_lt (length bytes) header_size then Some TooShort else fault_in_order (order_of bytes) bytes
+
+-- the same of a file
 abbrev pub file_fault : List ℕ → Option Fault
-file_fault file =
-    if nat_lt (length file) header_size then Some TooShort else fault_in_order (order_of file) file
+file_fault file = header_bytes_fault (image_bytes file)
 
--- the file's header words, and its data cut into chunks
+-- the bytes before the file's header, its header words, and its data cut into chunks
 pub record HasChunks (file : List ℕ) (image : SavedImage) : Type 0 where
   pub sound : file_fault file ≡ None
-  pub order : order_of file ≡ Some image.memory.order
-  pub header : image.header ≡ header_of image.memory.order file
+  pub prefix : image.prefix ≡ prefix_of file
+  pub order : order_of (image_bytes file) ≡ Some image.memory.order
+  pub header : image.header ≡ header_of image.memory.order (image_bytes file)
   pub base : image.memory.base ≡ base_address image.header
   pub special : image.memory.special ≡ special_address image.header
-  pub chunks : IsPartition (data_of image.memory.order file) image.memory.chunks
+  pub chunks : IsPartition (data_of image.memory.order (image_bytes file)) image.memory.chunks
 
 -- the file holds the image: its special objects array is there
 pub record Holds (file : List ℕ) (image : SavedImage) : Type 0 where
@@ -62,8 +67,8 @@ pub record HasNoPartition (words : List ℕ) (fault : Fault) : Type 0 where
 pub record HasUnreadableChunk (file : List ℕ) (fault : Fault) : Type 0 where
   pub sound : file_fault file ≡ None
   pub order : Order
-  pub in_order : order_of file ≡ Some order
-  pub unreadable : HasNoPartition (data_of order file) fault
+  pub in_order : order_of (image_bytes file) ≡ Some order
+  pub unreadable : HasNoPartition (data_of order (image_bytes file)) fault
 
 -- there is no object at the address of the special objects array
 pub record LacksSpecialObjects (file : List ℕ) (fault : Fault) : Type 0 where

@@ -1,8 +1,8 @@
-//! The header of an image file.
+//! The header of an image file, and where it stands.
 
-ghost use Rattle.std.specs.Prelude.{◌≡◌, ◌≤◌, length, IfOk, IfErr, None, Some};
-ghost use Rattle.sqz_image.specs.File.{order_of, header_of};
-ghost use Rattle.sqz_image.specs.Refusals.{header_fault, file_fault};
+ghost use Rattle.std.specs.Prelude.{◌≡◌, ◌⊎◌, ◌≤◌, length, IfOk, IfErr, None, Some};
+ghost use Rattle.sqz_image.specs.File.{order_of, prefix_size, header_offset, header_of};
+ghost use Rattle.sqz_image.specs.Refusals.{header_fault, header_bytes_fault};
 
 use crate::fault::Fault;
 use crate::words::header_words;
@@ -14,6 +14,9 @@ const VERSION: u32 = 6502;
 /// How many bytes the header has.
 pub(crate) const HEADER_SIZE: usize = 64;
 
+/// How many bytes may stand before the header.
+const PREFIX_SIZE: usize = 512;
+
 /// The header of a file, and the order of its bytes.
 #[derive(Clone, Copy)]
 pub(crate) struct Header {
@@ -21,7 +24,7 @@ pub(crate) struct Header {
     pub words: [u32; 16],
 }
 
-/// The byte order in which the file begins with the version.
+/// The byte order in which the bytes begin with the version.
 fn order_of(bytes: &[u8]) -> Option<Order>
     requires { 4 ≤ length bytes.now }
     ensures { result ≡ order_of bytes.now }
@@ -35,7 +38,23 @@ fn order_of(bytes: &[u8]) -> Option<Order>
     None
 }
 
-/// What is wrong with the header words of a file with so many bytes.
+/// The offset of the header in a file: 512 where the version stands there, in one of the orders, and the file does not
+/// begin with it; else 0.
+pub(crate) fn header_offset(file: &[u8]) -> usize
+    ensures offset { result ≡ header_offset file.now }
+    ensures inside { result ≤ length file.now }
+    ensures one_of { (result ≡ 0) ⊎ (result ≡ prefix_size) }
+{
+    if file.len() < PREFIX_SIZE + 4 || order_of(file).is_some() {
+        return 0;
+    }
+    match order_of(&file[PREFIX_SIZE..]) {
+        Some(_) => PREFIX_SIZE,
+        None => 0,
+    }
+}
+
+/// What is wrong with the header words of an image of so many bytes.
 fn header_fault(words: &[u32; 16], bytes: usize) -> Option<Fault>
     ensures { result ≡ header_fault words.now bytes }
 {
@@ -55,12 +74,12 @@ fn header_fault(words: &[u32; 16], bytes: usize) -> Option<Fault>
     None
 }
 
-/// The header of a file, or the first thing that is wrong with it.
+/// The header that the bytes begin with, or the first thing that is wrong with it.
 pub(crate) fn read_header(bytes: &[u8]) -> Result<Header, Fault>
-    ensures sound { IfOk result (λ header. file_fault bytes.now ≡ None) }
+    ensures sound { IfOk result (λ header. header_bytes_fault bytes.now ≡ None) }
     ensures order { IfOk result (λ header. order_of bytes.now ≡ Some header.order) }
     ensures words { IfOk result (λ header. header.words ≡ header_of header.order bytes.now) }
-    ensures fault { IfErr result (λ fault. file_fault bytes.now ≡ Some fault) }
+    ensures fault { IfErr result (λ fault. header_bytes_fault bytes.now ≡ Some fault) }
 {
     if bytes.len() < HEADER_SIZE {
         return Err(Fault::TooShort);

@@ -1,7 +1,7 @@
-//! An image: its header, and the object memory behind it.
+//! An image: the bytes before its header, its header, and the object memory behind it.
 
-ghost use Rattle.std.specs.Prelude.{◌≡◌, ◌<◌, slice_index};
-ghost use Rattle.sqz_image.specs.File.{renewed};
+ghost use Rattle.std.specs.Prelude.{◌≡◌, ◌⊎◌, ◌<◌, length, slice_index};
+ghost use Rattle.sqz_image.specs.File.{prefix_size, renewed};
 
 use crate::heap::Heap;
 use std::marker::Model;
@@ -9,24 +9,43 @@ use std::marker::Model;
 /// An image as it was saved.
 #[derive(Drop)]
 pub struct Image {
+    prefix: Vec<u8>,
     header: [u32; 16],
     heap: Heap,
 }
 
 impl Model for Image {
+    ghost use Rattle.std.specs.Prelude.{◌≡◌, ◌⊎◌, length};
+    ghost use Rattle.sqz_image.specs.File.{prefix_size};
     ghost use Rattle.sqz_image.specs.Objects.{SavedImage};
 
     ghost Value = { SavedImage };
 
-    ghost view = { λ image. record { header = image.header; memory = image.heap } };
+    ghost view = { λ image. record { prefix = image.prefix.items; header = image.header; memory = image.heap } };
+
+    ghost invariant = { λ image. (length image.prefix.items ≡ 0) ⊎ (length image.prefix.items ≡ prefix_size) };
 }
 
 impl Image {
-    pub(crate) fn new(header: [u32; 16], heap: Heap) -> Self
+    pub(crate) fn new(prefix: Vec<u8>, header: [u32; 16], heap: Heap) -> Self
+        requires { (length prefix.items ≡ 0) ⊎ (length prefix.items ≡ prefix_size) }
+        ensures prefix { result.prefix ≡ prefix.items }
         ensures header { result.header ≡ header }
         ensures heap { result.memory ≡ heap }
     {
-        Image { header, heap }
+        Image {
+            prefix,
+            header,
+            heap,
+        }
+    }
+
+    /// The bytes before the header: none, or 512.
+    pub fn prefix(&self) -> &[u8]
+        ensures prefix { result.now ≡ self.now.prefix }
+        ensures sized { (length result.now ≡ 0) ⊎ (length result.now ≡ prefix_size) }
+    {
+        &self.prefix
     }
 
     /// The header words, with another data size in bytes and another address of the special objects

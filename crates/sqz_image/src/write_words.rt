@@ -1,4 +1,4 @@
-//! Words to a sink, as the bytes that spell them.
+//! The bytes and words of an image to a sink.
 
 ghost use Rattle.std.specs.Prelude.{◌≡◌, ◌*◌, ◌<◌, ◌≤◌, ◌++◌, length, take, map, OnOk, IfErr};
 ghost use Rattle.std.specs.List.{concat};
@@ -16,24 +16,26 @@ const BLOCK_WORDS: usize = 1 << 14;
 /// The bytes of so many words.
 const BLOCK: usize = 4 * BLOCK_WORDS;
 
-/// Writes the header words and then the words of each piece, in this byte order, and then flushes. It
-/// takes no memory.
+/// Writes the bytes of the prefix, then the header words and the words of each piece, in this byte order, and then
+/// flushes. It takes no memory.
 ///
 /// Fails with `WriteFailed` where a write or the flush fails, and where 2^32 writes were made. Bytes
 /// from the front on, perhaps all, were then taken.
 pub(crate) fn write_words<W: Sink>(
     sink: &mut W,
     order: Order,
+    prefix: &[u8],
     header: &[u32],
     pieces: &[Vec<u32>],
 ) -> Result<(), Fault>
     ensures whole { OnOk result (WritesWhole (W.state sink.old) (W.state sink.new)
-        (spelling_of order (header.now ++ concat (map (λ v. v.items) pieces.now)))) }
+        (prefix.now ++ spelling_of order (header.now ++ concat (map (λ v. v.items) pieces.now)))) }
     ensures stopped { IfErr result (λ fault. WriteStops (W.state sink.old) (W.state sink.new)
-        (spelling_of order (header.now ++ concat (map (λ v. v.items) pieces.now))) fault) }
+        (prefix.now ++ spelling_of order (header.now ++ concat (map (λ v. v.items) pieces.now))) fault) }
 {
     let mut block = [0; BLOCK];
     let mut turns = TURNS;
+    send(sink, prefix, &mut turns)?;
     send_words(sink, order, header, &mut block, &mut turns)?;
     for piece in pieces {
         send_words(sink, order, piece, &mut block, &mut turns)?;

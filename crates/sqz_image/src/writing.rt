@@ -10,9 +10,9 @@ use crate::fault::Fault;
 use crate::image::Image;
 use crate::write_words::write_words;
 
-/// Writes the image's header, with the size in bytes of the pieces and the address `special` of the
-/// special objects array in it, and then the pieces, all in the image's byte order; then flushes. It
-/// takes no memory.
+/// Writes the bytes before the image's header, the header, with the size in bytes of the pieces and the address `special`
+/// of the special objects array in it, and then the pieces, all words in the image's byte order; then flushes. It takes
+/// no memory.
 ///
 /// Fails with `WriteFailed` where a write or the flush fails, and where 2^32 writes were made. Bytes
 /// from the front on, perhaps all, were then taken.
@@ -24,12 +24,12 @@ pub fn write_image<W: Sink>(
 ) -> Result<(), Fault>
     requires few { length (concat (map (λ v. v.items) pieces.now)) < 2 ^ 30 }
     ensures whole { OnOk result (WritesWhole (W.state sink.old) (W.state sink.new)
-        (file_with image.now.memory.order image.now.header special (map (λ v. v.items) pieces.now))) }
+        (file_with image.now.memory.order image.now.prefix image.now.header special (map (λ v. v.items) pieces.now))) }
     ensures stopped { IfErr result (λ fault. WriteStops (W.state sink.old) (W.state sink.new)
-        (file_with image.now.memory.order image.now.header special (map (λ v. v.items) pieces.now)) fault) }
+        (file_with image.now.memory.order image.now.prefix image.now.header special (map (λ v. v.items) pieces.now)) fault) }
 {
     let header = image.renewed_header(4 * word_count(pieces), special);
-    write_words(sink, image.heap().order(), &header, pieces)
+    write_words(sink, image.heap().order(), image.prefix(), &header, pieces)
 }
 
 /// How many words the pieces have together.

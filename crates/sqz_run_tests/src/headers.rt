@@ -61,12 +61,3 @@ fn first_fault_of_a_header(rt: HostRuntime) -> Result<(), Fail> {
     }
     Ok(())
 }
-
-#[test]
-fn behind_512_bytes(rt: HostRuntime) -> Result<(), Fail> {
-    let mut file = Vec::new(rt.alloc());
-    file.resize(512, 0x23)?;
-    put_words(&mut file, Order::Little, &SOUND)?;
-    put_words(&mut file, Order::Little, &REST)?;
-    assert_refused(&rt, Weak::Keep, file, Fault::BadVersion)
-}

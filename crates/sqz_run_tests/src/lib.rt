@@ -14,6 +14,8 @@ mod headers;
 #[cfg(test)]
 mod plans;
 #[cfg(test)]
+mod prefixes;
+#[cfg(test)]
 mod runs;
 #[cfg(test)]
 mod unreadable;

@@ -44,7 +44,7 @@ module _ (image : SavedImage) (weak : Weak) (marks : List Bool) (pieces : List (
   -- the pieces are what the definition writes
   pub bytes_are : (special special_object : ℕ) → IsReachability image.memory weak marks
       → find image.memory image.memory.special ≡ Some special_object → special ≡ place image.memory marks special_object
-      → file_with image.memory.order image.header special pieces ≡ file_bytes (compacted image weak marks)
+      → file_with image.memory.order image.prefix image.header special pieces ≡ file_bytes (compacted image weak marks)
   bytes_are special special_object reachable found special_is =
       let order = image.memory.order in
       let address : special ≡ new_special image.memory marks =
@@ -54,8 +54,8 @@ module _ (image : SavedImage) (weak : Weak) (marks : List Bool) (pieces : List (
       ap (λ (n : ℕ). renewed image.header (4 * n) special) length-pieces
       ∙ ap (renewed image.header (4 * live_words image.memory marks)) address
       in
-      ap (λ (h : List ℕ). spelling_of order (h ++ concat pieces)) header
-      ∙ ap (λ (d : List ℕ). spelling_of order (compacted_header image marks ++ d)) words
+      ap (λ (h : List ℕ). image.prefix ++ spelling_of order (h ++ concat pieces)) header
+      ∙ ap (λ (d : List ℕ). image.prefix ++ spelling_of order (compacted_header image marks ++ d)) words
 
   -- the pieces have few words
   pub few_words : live_words image.memory marks < 2 ^ 30 → length (concat pieces) < 2 ^ 30

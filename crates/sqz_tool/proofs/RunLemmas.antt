@@ -119,7 +119,7 @@ module _ (weak : Weak) (census : Bool) (from to : SourceState) (old new : Sinks)
 
   -- what is to be written
   abbrev bytes : List ℕ
-  bytes = file_with image.memory.order image.header special pieces
+  bytes = file_with image.memory.order image.prefix image.header special pieces
 
   -- and not wholly written
   pub refuses_writing : (fault : Fault) → new.census ≡ old.census → WriteStops old.image new.image bytes fault

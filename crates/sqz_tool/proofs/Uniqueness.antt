@@ -7,7 +7,7 @@ use Rattle.sqz_object.specs.declared.chunk.ChunkFault.{ChunkFault}
 use Rattle.sqz_object.proofs.PartitionLemmas.{IsStuck-unique, IsStuck-no_partition}
 use Rattle.sqz_image.specs.declared.fault.Fault.{Fault}
 use Rattle.sqz_image.specs.Objects.{SavedImage, find}
-use Rattle.sqz_image.specs.File.{data_of}
+use Rattle.sqz_image.specs.File.{image_bytes, data_of}
 use Rattle.sqz_image.specs.Refusals.{file_fault, refusal_of, HasChunks, Holds, HasNoPartition, HasUnreadableChunk}
 use Rattle.sqz_image.specs.Refusals.{LacksSpecialObjects, IsUnreadable}
 use Rattle.sqz_image.proofs.HoldsLemmas.{HasChunks-unique, Holds-unique}
@@ -37,8 +37,9 @@ module _ (file : List ℕ) where
   readable : (image : SavedImage) (fault : Fault) → HasChunks file image → HasUnreadableChunk file fault → ⊥
   readable image fault chunks unreadable =
       let same : unreadable.order ≡ image.memory.order = same_Some _ _ (sym unreadable.in_order ∙ chunks.order) in
-      let missing = subst (λ (o : Order). HasNoPartition (data_of o file) fault) same unreadable.unreadable in
-      IsStuck-no_partition (data_of image.memory.order file) missing.word missing.reason image.memory.chunks chunks.chunks missing.stuck
+      let bytes = image_bytes file in
+      let missing = subst (λ (o : Order). HasNoPartition (data_of o bytes) fault) same unreadable.unreadable in
+      IsStuck-no_partition (data_of image.memory.order bytes) missing.word missing.reason image.memory.chunks chunks.chunks missing.stuck
 
   -- its special objects array is there
   has_special : (image : SavedImage) (fault : Fault) → Holds file image → LacksSpecialObjects file fault → ⊥
@@ -63,10 +64,11 @@ module _ (file : List ℕ) where
   HasUnreadableChunk-unique one other p q =
       let same : q.order ≡ p.order = same_Some _ _ (sym q.in_order ∙ p.in_order) in
       let first = p.unreadable in
-      let second = subst (λ (o : Order). HasNoPartition (data_of o file) other) same q.unreadable in
+      let bytes = image_bytes file in
+      let second = subst (λ (o : Order). HasNoPartition (data_of o bytes) other) same q.unreadable in
       first.refused
       ∙ same_refusal first.word second.word first.reason second.reason
-      (IsStuck-unique (data_of p.order file) first.word second.word first.reason second.reason
+      (IsStuck-unique (data_of p.order bytes) first.word second.word first.reason second.reason
       first.stuck second.stuck)
       ∙ sym second.refused
 

@@ -1,4 +1,5 @@
--- The compacted image: the header with two words renewed, and the live objects in their new places.
+-- The compacted image: the bytes before the header as they were, the header with two words renewed, and the live objects
+-- in their new places.
 use Rattle.std.specs.Prelude.{ℕ, ◌*◌, Bool, List}
 use Rattle.sqz_image.specs.Objects.{Memory, SavedImage, find}
 use Rattle.sqz_image.specs.File.{renewed}
@@ -28,4 +29,8 @@ compacted_header image marks =
 -- the image that is left of an image, with marks that are reachability
 abbrev pub compacted : SavedImage → Weak → List Bool → SavedImage
 compacted image weak marks =
-    record { header = compacted_header image marks; memory = compacted_memory image.memory weak marks }
+    record {
+      prefix = image.prefix;
+      header = compacted_header image marks;
+      memory = compacted_memory image.memory weak marks;
+    }

@@ -43,7 +43,7 @@ pub record IsCompaction (weak : Weak) (census : Bool) (image : SavedImage) (spec
   pub has_nil : lacks_nil image.memory weak ≡ false
   pub reachable : IsReachability image.memory weak marks
   pub sound : first_defect image.memory weak marks ≡ None
-  pub bytes : file_with image.memory.order image.header special pieces ≡ file_bytes (compacted image weak marks)
+  pub bytes : file_with image.memory.order image.prefix image.header special pieces ≡ file_bytes (compacted image weak marks)
   pub few : length (concat pieces) < 2 ^ 30
   pub counted : summary ≡ summary_of image marks
   pub reported : census ≡ true → IsReport image.memory weak marks text

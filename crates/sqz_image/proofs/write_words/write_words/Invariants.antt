@@ -9,6 +9,7 @@ abbrev pub invariant-loop-piece : goal.invariant-loop-piece
 invariant-loop-piece g l =
     record {
       room : length l.block ≡ 65536;
-      sending : IsSending (g.W.Sink.state l.fn.sink) (g.W.Sink.state l.sink) (spelling_of l.order (l.header ++ words_in l.pieces))
+      sending : IsSending (g.W.Sink.state l.fn.sink) (g.W.Sink.state l.sink)
+          (l.prefix ++ spelling_of l.order (l.header ++ words_in l.pieces))
           (spelling_of l.order (words_in (drop l.piece-index l.pieces))) turn_limit l.turns;
     }

@@ -1,7 +1,9 @@
 use Rattle.std.proofs.Common.{refl}
 use Rattle.std.proofs.lemmas.Result.{err_from_is_err_and}
-use Rattle.sqz_tool.proofs.RunLemmas.{refuses_file, refuses_image, refuses_report}
+use Rattle.sqz_tool.proofs.RunLemmas.{refuses_file, refuses_image, refuses_writing, refuses_report, compacts_alone}
+use Rattle.sqz_tool.proofs.RunLemmas.{compacts_and_reports}
 use Rattle.sqz_tool.proofs.running.run.Goals as goal
+use Rattle.sqz_tool.proofs.running.run.Goals.{then-plan+in_ok-write_all, else-plan}
 
 pub returns-in_err-image-clause-refuses : goal.returns-in_err-image-clause-refuses
 returns-in_err-image-clause-refuses g c =
@@ -24,3 +26,25 @@ returns-in_err-write_all-clause-refuses g c =
     let stops = rw c.deref-then-plan.ensures.value at c.in_err-write_all.ensures.stopped in
     rw (p.1, p.2) (refuses_report _ _ _ _ _ _ c.in_ok-bytes.bytes.items c.in_ok-image.image _ _ _ _ c.in_ok-bytes.ensures.whole holds
     c.in_ok-compaction.ensures.compaction written _ c.if-plan.true stops)
+
+pub returns-in_err-write_image-clause-refuses : goal.returns-in_err-write_image-clause-refuses
+returns-in_err-write_image-clause-refuses g c =
+    let p = err_from_is_err_and c.from_residual-in_err-write_image.result c.from_residual-in_err-write_image.ensures.1 in
+    let holds = rw c.deref.ensures.value at c.in_ok-image.ensures.image in
+    let stops = rw c.as_slice-pieces.ensures at c.in_err-write_image.ensures.stopped in
+    rw (p.1, p.2) (refuses_writing _ _ _ _ _ _ c.in_ok-bytes.bytes.items c.in_ok-image.image _ _ _ _ c.in_ok-bytes.ensures.whole holds
+    c.in_ok-compaction.ensures.compaction _ refl stops)
+
+pub returns-clause-compacts : goal.returns-clause-compacts
+returns-clause-compacts g c =
+    let holds = rw c.deref.ensures.value at c.in_ok-image.ensures.image in
+    let written = rw c.as_slice-pieces.ensures at c.in_ok-write_image.ensures.whole in
+    elim c.if-plan.branch [
+      | then-plan+in_ok-write_all w ↦
+          let whole = rw w.deref-then-plan.ensures.value at w.in_ok-write_all.ensures.whole in
+          rw w.report-is (compacts_and_reports _ _ _ _ _ _ c.in_ok-bytes.bytes.items c.in_ok-image.image _ _ _ _
+          c.in_ok-bytes.ensures.whole holds c.in_ok-compaction.ensures.compaction written w.if-plan.true whole)
+      | else-plan w ↦
+          rw w.report-is (compacts_alone _ _ _ _ _ _ c.in_ok-bytes.bytes.items c.in_ok-image.image _ _ _ _
+          c.in_ok-bytes.ensures.whole holds c.in_ok-compaction.ensures.compaction written w.if-plan.false refl)
+    ]

@@ -1,0 +1,12 @@
+use Rattle.std.proofs.Common.{[], ◌∷◌, Some, None, refl}
+use Rattle.sqz_object.specs.declared.order.Order.TheVariants.{Little}
+use Rattle.sqz_trace.specs.declared.weak.Weak.TheVariants.{Keep}
+use Rattle.sqz_examples.proofs.WorkedImages.{CompactsTo-computed}
+use Rattle.sqz_examples.proofs.prefixes.behind_512_bytes.Goals as goal
+
+pub returns : goal.returns
+returns c =
+    CompactsTo-computed _ Little
+    ((0x1007 ∷ []) ∷ (0x320F ∷ 1 ∷ 1 ∷ []) ∷ (0x320B ∷ 0x1000 ∷ []) ∷ []) Keep
+    ((Some (0 ∷ [])) ∷ None ∷ (Some []) ∷ [])
+    _ refl refl refl refl refl refl
