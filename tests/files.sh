@@ -419,9 +419,11 @@ if ! "$root/sqzcompact" --help >printed; then
   exit 1
 fi
 
+# What was written is compacted to itself, here and where weak slots are cleared, by whatever plan.
 for answer in "$images"/*.compacted.image; do
   name=$(basename "$answer" .compacted.image)
   case_of "compacts $name" compacts "$images/$name.image" "$answer"
+  case_of "compacts $name twice" compacts "$answer" "$answer" --workers 1 --region-words 3
 done
 for census in "$images"/*.census; do
   name=$(basename "$census" .census)
@@ -452,6 +454,7 @@ for image in "$images"/*.image; do
   fi
   if [ -e "$answer" ]; then
     case_of "compacts $name with weak slots cleared" compacts "$image" "$answer" --clear-weak
+    case_of "compacts $name twice with weak slots cleared" compacts "$answer" "$answer" --clear-weak --workers 1
   elif [ -e "$fault" ]; then
     case_of "refuses $name with weak slots cleared" refuses "$image" "$fault" --clear-weak
   fi

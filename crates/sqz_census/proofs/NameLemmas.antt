@@ -1,25 +1,14 @@
 -- The first bytes that spell words.
-use Rattle.std.proofs.Common.{◌≡◌, ℕ, ◌-◌, ◌*◌, ◌<◌, ◌≤◌, min, List, [], ◌∷◌, length, map, take, drop, Some, refl}
+use Rattle.std.proofs.Common.{◌≡◌, ℕ, ◌-◌, ◌*◌, ◌<◌, ◌≤◌, min, List, length, map, take, drop, Some, refl}
 use Rattle.std.proofs.Common.{sym, ap, ◌∙◌, arith, inl, inr}
-use Rattle.std.proofs.lemmas.List.{length-append, length-take, take-append-le, take-append-drop, take-take, take_all}
+use Rattle.std.proofs.lemmas.List.{length-take, take-append-le, take-append-drop, take-take, take_all}
 use Rattle.std.proofs.lemmas.Bool.{cases_lt, le-leb, lt-ltb}
 use Rattle.sqz_object.specs.declared.order.Order.{Order}
-use Rattle.sqz_object.specs.declared.order.Order.TheVariants.{Little, Big}
-use Rattle.sqz_object.specs.Bytes.{bytes_of, spelling_of}
+use Rattle.sqz_object.specs.Bytes.{spelling_of}
 use Rattle.sqz_object.specs.Chunk.{format, fields}
+use Rattle.sqz_object.proofs.WordLemmas.{length-spelling_of}
 use Rattle.sqz_image.proofs.Spelling.{spelling_of-append}
 use Rattle.sqz_census.specs.Names.{shown_byte, text_in}
-
-length-bytes_of : (order : Order) (word : ℕ) → length (bytes_of order word) ≡ 4
-length-bytes_of Little word = refl
-length-bytes_of Big word = refl
-
--- four bytes spell a word
-pub length-spelling_of : (order : Order) (words : List ℕ) → length (spelling_of order words) ≡ 4 * length words
-length-spelling_of order [] = refl
-length-spelling_of order (word ∷ words) =
-    let both = length-append (bytes_of order word) (spelling_of order words) in
-    omega (arith, both, length-bytes_of order word, length-spelling_of order words)
 
 -- the first bytes are among those of the first words
 pub take-spelling_of : (order : Order) (words : List ℕ) (count most : ℕ) → count ≤ 4 * length words → count ≤ 4 * most

@@ -12,3 +12,6 @@ pub mod Spelling
 pub mod Pieces
 pub mod HoldsLemmas
 pub mod Parts
+pub mod SavedLemmas
+pub mod FoundLemmas
+pub mod RenewedLemmas

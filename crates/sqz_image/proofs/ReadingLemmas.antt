@@ -81,7 +81,7 @@ sound_header bytes order sound is =
     (in_order_parts bytes (order_of bytes) order is (long_enough (ltb (length bytes) header_size) (fault_in_order (order_of bytes) bytes) sound))
 
 -- bytes at the front are bytes
-front_fits : (bytes : List ℕ) (count : ℕ) → ((i : ℕ) → slice_index bytes i < 256) → (i : ℕ) → slice_index (take count bytes) i < 256
+pub front_fits : (bytes : List ℕ) (count : ℕ) → ((i : ℕ) → slice_index bytes i < 256) → (i : ℕ) → slice_index (take count bytes) i < 256
 front_fits bytes count each i =
     elim (cases_lt i count) [
       | inl below ↦ rw (get_or-take count bytes i 0 below) (each i)

@@ -1,11 +1,15 @@
 -- An image file: sixteen header words, and the data directly after them. The header stands at the front, or behind a
 -- prefix.
-use Rattle.std.specs.Prelude.{ℕ, ◌+◌, ◌*◌, ◌==◌, ◌&&◌, nat_le, if◌then◌else◌, Bool, List, ◌++◌, length, take, drop}
+use Rattle.std.specs.Prelude.{ℕ, ◌+◌, ◌*◌, ◌<◌, ◌==◌, ◌&&◌, nat_le, if◌then◌else◌, Bool, List, ◌++◌, length, take, drop}
 use Rattle.std.specs.Prelude.{slice_index, slice_set, Option, Some, None, is_some}
 use Rattle.std.specs.List.{concat}
 use Rattle.sqz_object.specs.declared.order.Order.{Order}
 use Rattle.sqz_object.specs.declared.order.Order.TheVariants.{Little, Big}
 use Rattle.sqz_object.specs.Bytes.{number_of, words_of, spelling_of}
+
+-- what a file is made of: numbers below 256
+abbrev pub AreBytes : List ℕ → Type 0
+AreBytes file = (i : ℕ) → slice_index file i < 256
 
 -- the version of the image format: the first header word
 abbrev pub version : ℕ

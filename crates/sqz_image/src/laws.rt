@@ -1,8 +1,9 @@
-//! Laws about the definitions, each the contract of a function that does nothing.
+//! Laws about the definitions and the types, each the contract of a function that does nothing.
 
 ghost use Rattle.std.specs.Prelude.{◌≡◌, ◌⊎◌, ℕ, List};
 ghost use Rattle.sqz_object.specs.declared.chunk.ChunkFault.{ChunkFault};
 ghost use Rattle.sqz_object.specs.Partition.{IsPartition, IsStuck};
+ghost use Rattle.sqz_image.specs.File.{AreBytes};
 
 pub use crate::heap::heap_bounds;
 
@@ -15,4 +16,9 @@ pub fn partition()
     ensures one_place { (words : List ℕ) (p q : ℕ) (f g : ChunkFault) → IsStuck words p f → IsStuck words q g → (p ≡ q) × (f ≡ g) }
     ensures not_both { (words : List ℕ) (place : ℕ) (fault : ChunkFault) (chunks : List (List ℕ))
         → IsPartition words chunks → IsStuck words place fault → ⊥ }
+{}
+
+/// What a slice of bytes holds are numbers below 256. A law of every such slice: the call does nothing.
+pub fn byte_bounds(file: &[u8])
+    ensures { AreBytes file.now }
 {}

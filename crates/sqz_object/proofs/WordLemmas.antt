@@ -1,8 +1,8 @@
 -- The words that bytes spell, one by one, and the bytes that words are spelled by.
 use Rattle.std.proofs.Common.{◌≡◌, ℕ, zero, suc, ◌+◌, ◌*◌, ◌/◌, ◌^◌, ◌<◌, ◌≤◌, List, [], ◌∷◌, ◌++◌, length}
 use Rattle.std.proofs.Common.{take, drop, slice_index, refl, sym, ap, ◌∙◌, arith}
-use Rattle.std.proofs.lemmas.List.{append_assoc}
-use Rattle.byteorder.specs.Numbers.{little_from-lt, big_from-lt}
+use Rattle.std.proofs.lemmas.List.{append_assoc, length-append}
+use Rattle.byteorder.specs.Numbers.{little_from-lt, big_from-lt, little_number-reads_back, big_number-reads_back}
 use Rattle.sqz_object.specs.declared.order.Order.{Order}
 use Rattle.sqz_object.specs.declared.order.Order.TheVariants.{Little, Big}
 use Rattle.sqz_object.specs.Bytes.{number_of, bytes_of, words_of, spelling_of}
@@ -58,3 +58,37 @@ words_of-lt order [] fits k = omega arith
 words_of-lt order (a ∷ []) fits k = omega arith
 words_of-lt order (a ∷ b ∷ []) fits k = omega arith
 words_of-lt order (a ∷ b ∷ c ∷ []) fits k = omega arith
+
+-- ---- what spells words spells these
+
+-- there are four bytes in a word
+pub length-bytes_of : (order : Order) (word : ℕ) → length (bytes_of order word) ≡ 4
+length-bytes_of Little word = refl
+length-bytes_of Big word = refl
+
+-- four bytes spell each word
+pub length-spelling_of : (order : Order) (words : List ℕ) → length (spelling_of order words) ≡ 4 * length words
+length-spelling_of order [] = refl
+length-spelling_of order (word ∷ words) =
+    omega (
+      arith,
+      length-append (bytes_of order word) (spelling_of order words),
+      length-bytes_of order word,
+      length-spelling_of order words,
+    )
+
+-- the bytes of a word in front spell it
+pub words_of-bytes_of : (order : Order) (word : ℕ) (rest : List ℕ)
+    → word < 2 ^ 32 → words_of order (bytes_of order word ++ rest) ≡ word ∷ words_of order rest
+words_of-bytes_of Little word rest lt =
+    ap (λ (w : ℕ). w ∷ words_of Little rest) (little_number-reads_back 4 word [] lt)
+words_of-bytes_of Big word rest lt =
+    ap (λ (w : ℕ). w ∷ words_of Big rest) (big_number-reads_back 4 word [] lt)
+
+-- bytes that spell words spell these
+pub words_of-spelling_of : (order : Order) (words : List ℕ) → ((i : ℕ) → slice_index words i < 2 ^ 32)
+    → words_of order (spelling_of order words) ≡ words
+words_of-spelling_of order [] fits = refl
+words_of-spelling_of order (word ∷ words) fits =
+    words_of-bytes_of order word (spelling_of order words) (fits 0)
+    ∙ ap (λ (ws : List ℕ). word ∷ ws) (words_of-spelling_of order words (λ i. fits (suc i)))

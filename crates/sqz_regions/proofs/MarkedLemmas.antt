@@ -67,3 +67,59 @@ length-marked_count (true ∷ marks) (x ∷ xs) sized =
     omega (arith, length-marked_count marks xs (omega arith), sum_by-cons counted true marks)
 length-marked_count (false ∷ marks) (x ∷ xs) sized =
     omega (arith, length-marked_count marks xs (omega arith), sum_by-cons counted false marks)
+
+-- ---- where a marked one stands among all marked ones
+
+-- a marked one stands behind those marked before it
+pub marked-at : {X : Type 0} (marks : List Bool) (xs : List X) (i : ℕ) (d : X) → i < length xs → get_or marks i false ≡ true
+    → get_or (marked marks xs) (length (marked (take i marks) (take i xs))) d ≡ get_or xs i d
+marked-at [] xs i d lt e = absurd cc
+marked-at (mark ∷ marks) [] i d lt e = absurd (omega arith)
+marked-at (true ∷ marks) (x ∷ xs) zero d lt e = refl
+marked-at (false ∷ marks) (x ∷ xs) zero d lt e = absurd cc
+marked-at (true ∷ marks) (x ∷ xs) (suc i) d lt e = marked-at marks xs i d (omega arith) e
+marked-at (false ∷ marks) (x ∷ xs) (suc i) d lt e = marked-at marks xs i d (omega arith) e
+
+-- and inside of them
+pub marked-inside : {X : Type 0} (marks : List Bool) (xs : List X) (i : ℕ) → i < length xs → get_or marks i false ≡ true
+    → length (marked (take i marks) (take i xs)) < length (marked marks xs)
+marked-inside [] xs i lt e = absurd cc
+marked-inside (mark ∷ marks) [] i lt e = absurd (omega arith)
+marked-inside (true ∷ marks) (x ∷ xs) zero lt e = omega arith
+marked-inside (false ∷ marks) (x ∷ xs) zero lt e = absurd cc
+marked-inside (true ∷ marks) (x ∷ xs) (suc i) lt e = omega (arith, marked-inside marks xs i (omega arith) e)
+marked-inside (false ∷ marks) (x ∷ xs) (suc i) lt e = marked-inside marks xs i (omega arith) e
+
+-- those marked before it are the first of all marked ones
+pub marked-before : {X : Type 0} (marks : List Bool) (xs : List X) (i : ℕ)
+    → take (length (marked (take i marks) (take i xs))) (marked marks xs) ≡ marked (take i marks) (take i xs)
+marked-before [] xs zero = refl
+marked-before [] xs (suc i) = refl
+marked-before (mark ∷ marks) [] zero = refl
+marked-before (true ∷ marks) [] (suc i) = refl
+marked-before (false ∷ marks) [] (suc i) = refl
+marked-before (true ∷ marks) (x ∷ xs) zero = refl
+marked-before (false ∷ marks) (x ∷ xs) zero = refl
+marked-before {X = X} (true ∷ marks) (x ∷ xs) (suc i) = ap (λ (ys : List X). x ∷ ys) (marked-before marks xs i)
+marked-before (false ∷ marks) (x ∷ xs) (suc i) = marked-before marks xs i
+
+-- each place among the marked ones is that of one
+pub record IsMarkedAt {X : Type 0} (marks : List Bool) (xs : List X) (place : ℕ) : Type 0 where
+  pub index : ℕ
+  pub inside : index < length xs
+  pub set : get_or marks index false ≡ true
+  pub same : length (marked (take index marks) (take index xs)) ≡ place
+
+pub marked-onto : {X : Type 0} (marks : List Bool) (xs : List X) (j : ℕ) → j < length (marked marks xs) → IsMarkedAt marks xs j
+marked-onto [] xs j lt = absurd (omega arith)
+marked-onto (true ∷ marks) [] j lt = absurd (omega arith)
+marked-onto (false ∷ marks) [] j lt = absurd (omega arith)
+marked-onto (true ∷ marks) (x ∷ xs) zero lt = record { index = 0; inside = omega arith; set = refl; same = refl }
+marked-onto (true ∷ marks) (x ∷ xs) (suc j) lt =
+    let found = marked-onto marks xs j (omega arith) in
+    let inside : found.index < length xs = found.inside in
+    record { index = suc found.index; inside = omega arith; set = found.set; same = ap suc found.same }
+marked-onto (false ∷ marks) (x ∷ xs) j lt =
+    let found = marked-onto marks xs j lt in
+    let inside : found.index < length xs = found.inside in
+    record { index = suc found.index; inside = omega arith; set = found.set; same = found.same }

@@ -18,6 +18,8 @@ mod prefixes;
 #[cfg(test)]
 mod runs;
 #[cfg(test)]
+mod twice;
+#[cfg(test)]
 mod unreadable;
 #[cfg(test)]
 mod weak_censuses;

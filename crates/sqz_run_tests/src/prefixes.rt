@@ -1,6 +1,8 @@
 //! Files with bytes before the header: where it is looked for, and what becomes of those bytes.
 
-use super::runs::{Data, SOUND, assert_refused, assert_writes, data_of, file_with, plan_of, run_over};
+use super::runs::{
+    Data, SOUND, assert_refused, assert_writes, data_of, file_with, plan_of, run_over,
+};
 use super::weak_censuses::{CLEARED_CLASS, WEAK_CLASS, WEAK_CLASS_CENSUS};
 use sqz_image::{Fault, MemorySink, read_image, write_image};
 use sqz_object::Order;
@@ -26,7 +28,7 @@ const LEFT: Data<'static> = Data {
 };
 
 /// So many bytes, and the bytes of a file behind them.
-fn behind(alloc: Global, count: usize, file: &[u8]) -> Result<Vec<u8>, AllocError> {
+pub(crate) fn behind(alloc: Global, count: usize, file: &[u8]) -> Result<Vec<u8>, AllocError> {
     let mut bytes = Vec::new(alloc);
     bytes.resize(count, 0x23)?;
     bytes.extend_from_slice(file)?;
@@ -156,7 +158,10 @@ fn bytes_of_an_image(rt: HostRuntime) -> Result<(), Fail> {
         let mut sink = MemorySink::new(rt.alloc(), 4096, None)?;
         write_image(&image, 0x1004, &[], &mut sink)?;
         let empty = file_with(&rt, Order::Little, data_of(&[], 0x1004))?;
-        assert_eq!(rt; sink.contents(), behind(rt.alloc(), count, &empty)?.as_slice());
+        assert_eq!(rt;
+            sink.contents(),
+            behind(rt.alloc(), count, &empty)?.as_slice()
+        );
     }
     Ok(())
 }

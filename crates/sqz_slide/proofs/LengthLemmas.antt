@@ -18,7 +18,7 @@ abbrev size : Object → ℕ
 size object = length object.chunk
 
 -- what holds of each holds of the marked ones
-All-marked : {X : Type 0} (P : X → Type 0) (marks : List Bool) (xs : List X) → AllByRecursion P xs → AllByRecursion P (marked marks xs)
+pub All-marked : {X : Type 0} (P : X → Type 0) (marks : List Bool) (xs : List X) → AllByRecursion P xs → AllByRecursion P (marked marks xs)
 All-marked P [] xs h = tt
 All-marked P (true ∷ marks) [] h = tt
 All-marked P (false ∷ marks) [] h = tt
@@ -57,11 +57,11 @@ module _ (memory : Memory) (weak : Weak) (marks : List Bool) where
       let whole = length-append (moved_header memory marks (chunk_kind chunk) chunk) (moved_fields memory weak marks chunk) in
       omega (arith, whole, length-moved_fields chunk, length-drop (before chunk + 1) chunk)
 
-  abbrev words_after : Object → List ℕ
+  abbrev pub words_after : Object → List ℕ
   words_after object = moved memory weak marks object.chunk
 
   -- objects have as many words together
-  length-all : (live : List Object) → AllByRecursion (λ object. IsChunk object.chunk) live
+  pub length-all : (live : List Object) → AllByRecursion (λ object. IsChunk object.chunk) live
       → length (concat (map words_after live)) ≡ words_in live
   length-all [] h = refl
   length-all (object ∷ live) h =

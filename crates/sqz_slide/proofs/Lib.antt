@@ -5,3 +5,8 @@ pub mod MovedLemmas
 pub mod PieceLemmas
 pub mod ShareLemmas
 pub mod SizeLemmas
+pub mod SettledLemmas
+pub mod MovedShapeLemmas
+pub mod CompactedLemmas
+pub mod CopiedLemmas
+pub mod WordLemmas

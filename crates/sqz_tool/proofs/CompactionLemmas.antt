@@ -27,7 +27,7 @@ module _ (memory : Memory) (weak : Weak) (marks : List Bool) (special_object : �
       subst (λ (i : ℕ). is_marked marks i ≡ true) same reached
 
   -- so its new address is its place
-  new_special-place : new_special memory marks ≡ place memory marks special_object
+  pub new_special-place : new_special memory marks ≡ place memory marks special_object
   new_special-place = ap (new_address memory marks memory.special) found ∙ rw special_is_marked refl
 
   -- and that is what a list of places has for it

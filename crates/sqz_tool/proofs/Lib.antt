@@ -2,3 +2,4 @@ pub mod CompactionLemmas
 pub mod RunLemmas
 pub mod Uniqueness
 mod EndingLemmas
+pub mod SettledLemmas

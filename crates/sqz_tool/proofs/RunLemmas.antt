@@ -1,14 +1,14 @@
 -- From what a run did, and what stopped it, to the run's contract.
-use Rattle.std.proofs.Common.{◌≡◌, ◌≢◌, ℕ, ◌≤◌, ◌⊎◌, Bool, true, false, List, None, refl, sym, subst, arith, inl, inr}
+use Rattle.std.proofs.Common.{◌≡◌, ◌≢◌, ℕ, ◌≤◌, ◌⊎◌, Bool, true, false, List, Option, None, refl, sym, subst, arith, inl, inr}
 use Rattle.sqz_object.specs.declared.chunk.ChunkFault.{ChunkFault}
 use Rattle.sqz_object.specs.declared.chunk.ChunkFault.TheVariants.{ZeroSize, HeaderMismatch, Overrun}
 use Rattle.sqz_image.specs.declared.fault.Fault.{Fault}
 use Rattle.sqz_image.specs.declared.fault.Fault.TheVariants.{OutOfMemory, ReadFailed, WriteFailed, BadWorkers, BadCut}
-use Rattle.sqz_image.specs.File.{file_with}
+use Rattle.sqz_image.specs.File.{AreBytes, file_with}
 use Rattle.sqz_image.specs.Objects.{SavedImage, file_bytes}
 use Rattle.sqz_image.specs.Numbers.{number_of_fault}
 use Rattle.sqz_image.specs.Refusals.{file_fault, Holds, IsUnreadable, refusal_of}
-use Rattle.sqz_image.specs.Devices.{SourceState, ReadsWhole, ReadStops, WritesWhole, WriteStops}
+use Rattle.sqz_image.specs.Devices.{SourceState, SinkState, new_source, ReadsWhole, ReadStops, WritesWhole, WriteStops}
 use Rattle.sqz_image.proofs.ReadingLemmas.{file_fault_low}
 use Rattle.sqz_trace.specs.declared.weak.Weak.{Weak}
 use Rattle.sqz_trace.proofs.DefectLemmas.{IsOfImage, first_defect-number}
@@ -16,7 +16,10 @@ use Rattle.sqz_tool.specs.declared.summary.Summary.{Summary}
 use Rattle.sqz_tool.specs.Compacted.{compacted}
 use Rattle.sqz_tool.specs.Verdict.{IsAccepted, IsRefused}
 use Rattle.sqz_command.specs.Exits.{exit_of}
-use Rattle.sqz_tool.specs.Headline.{IsCompaction, LacksNilIn, HasDefectIn, Sinks, Reports, Compacts, RefusesFile, Refuses}
+use Rattle.sqz_tool.specs.Headline.{IsCompaction, LacksNilIn, HasDefectIn, Sinks, sinks, Reports, Compacts, RefusesFile, Refuses}
+use Rattle.sqz_tool.proofs.SettledLemmas.{IsSettled-accepted}
+use Rattle.sqz_tool.specs.FileRuns.{CompactsFiles}
+use Rattle.sqz_command.specs.OutputFiles.{new_output}
 
 -- ---- the refusals of a file
 
@@ -156,27 +159,47 @@ module _ (weak : Weak) (census : Bool) (from to : SourceState) (old new : Sinks)
           stops = inr (asked, record { written = moved_written; text = text; report = is.reported asked; stops = named });
         })
 
-    -- and written, with what there is to report
-    pub compacts : Reports weak census image.memory is.marks old.census new.census → Compacts weak census from to old new summary
-    compacts reported =
-        record {
-          file = file;
-          read = read;
-          image = image;
-          marks = is.marks;
-          accepted = accepted;
-          written = moved_written;
-          reported = reported;
-          counted = is.counted;
-        }
+    module _ (are_bytes : AreBytes file) where
+      -- and written, with what there is to report
+      compacts : Reports weak census image.memory is.marks old.census new.census → Compacts weak census from to old new summary
+      compacts reported =
+          record {
+            file = file;
+            read = read;
+            image = image;
+            marks = is.marks;
+            accepted = accepted;
+            written = moved_written;
+            reported = reported;
+            counted = is.counted;
+            settled = IsSettled-accepted weak file image is.marks are_bytes accepted;
+          }
 
-    -- no census is asked for
-    pub compacts_alone : census ≡ false → new.census ≡ old.census → Compacts weak census from to old new summary
-    compacts_alone unasked untouched =
-        compacts (subst (λ (c : Bool). Reports weak c image.memory is.marks old.census new.census) (sym unasked) untouched)
+      -- no census is asked for
+      pub compacts_alone : census ≡ false → new.census ≡ old.census → Compacts weak census from to old new summary
+      compacts_alone unasked untouched =
+          compacts (subst (λ (c : Bool). Reports weak c image.memory is.marks old.census new.census) (sym unasked) untouched)
 
-    -- one is, and its text was written
-    pub compacts_and_reports : census ≡ true → WritesWhole old.census new.census text → Compacts weak census from to old new summary
-    compacts_and_reports asked whole =
-        compacts (subst (λ (c : Bool). Reports weak c image.memory is.marks old.census new.census) (sym asked)
-        (text, is.reported asked, whole))
+      -- one is, and its text was written
+      pub compacts_and_reports : census ≡ true → WritesWhole old.census new.census text
+          → Compacts weak census from to old new summary
+      compacts_and_reports asked whole =
+          compacts (subst (λ (c : Bool). Reports weak c image.memory is.marks old.census new.census) (sym asked)
+          (text, is.reported asked, whole))
+
+-- ---- a run from one file to another
+
+-- what a run did by a plan with this policy and this wish for a census, to a file that was not made yet
+pub CompactsFiles-from : (weak policy : Weak) (census asked : Bool) (left : Option (List ℕ)) (made output old new : SinkState)
+    (summary : Summary) → weak ≡ policy → census ≡ asked → made ≡ new_output
+    → ((to : SourceState) × Compacts weak census (new_source left) to (sinks made old) (sinks output new) summary)
+    → CompactsFiles policy asked old new summary
+CompactsFiles-from weak policy census asked left made output old new summary p q r (to, compacts) =
+    let not_made = subst (λ (m : SinkState). Compacts weak census (new_source left) to (sinks m old) (sinks output new) summary) r compacts in
+    let wished = subst (λ (c : Bool). Compacts weak c (new_source left) to (sinks new_output old) (sinks output new) summary) q not_made in
+    record {
+      left = left;
+      to = to;
+      output = output;
+      compacts = subst (λ (w : Weak). Compacts w asked (new_source left) to (sinks new_output old) (sinks output new) summary) p wished;
+    }

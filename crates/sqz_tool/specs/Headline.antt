@@ -18,6 +18,7 @@ use Rattle.sqz_census.specs.Text.{census_text}
 use Rattle.sqz_tool.specs.declared.summary.Summary.{Summary}
 use Rattle.sqz_tool.specs.Compacted.{compacted}
 use Rattle.sqz_tool.specs.Verdict.{IsAccepted, IsRefused}
+use Rattle.sqz_tool.specs.Settled.{IsSettled}
 
 -- what a run did, in numbers
 abbrev pub summary_of : SavedImage → List Bool → Summary
@@ -73,8 +74,8 @@ abbrev pub Reports : Weak → Bool → Memory → List Bool → SinkState → Si
 Reports weak true memory marks old new = (text : List ℕ) × IsReport memory weak marks text × WritesWhole old new text
 Reports weak false memory marks old new = new ≡ old
 
--- the source gave a file that is accepted, the sink of the image took its compaction and nothing else, and these are
--- the numbers
+-- the source gave a file that is accepted, the sink of the image took its compaction and nothing else, these are the
+-- numbers, and the compaction is accepted itself, with all its objects reachable, and is its own compaction
 pub record Compacts (weak : Weak) (census : Bool) (from to : SourceState) (old new : Sinks) (summary : Summary) : Type 0 where
   pub file : List ℕ
   pub read : ReadsWhole from to file
@@ -84,6 +85,7 @@ pub record Compacts (weak : Weak) (census : Bool) (from to : SourceState) (old n
   pub written : WritesWhole old.image new.image (file_bytes (compacted image weak marks))
   pub reported : Reports weak census image.memory marks old.census new.census
   pub counted : summary ≡ summary_of image marks
+  pub settled : IsSettled weak (file_bytes (compacted image weak marks))
 
 -- the source gave a file that is refused for this reason, and the sinks are as they were
 pub record RefusesFile (weak : Weak) (fault : Fault) (from to : SourceState) (old new : Sinks) : Type 0 where

@@ -2,9 +2,12 @@
 
 ghost use Rattle.std.specs.Prelude.{◌≡◌, ℕ, List, Bool};
 ghost use Rattle.sqz_image.specs.declared.fault.Fault.{Fault};
-ghost use Rattle.sqz_image.specs.Objects.{SavedImage};
+ghost use Rattle.sqz_image.specs.File.{AreBytes};
+ghost use Rattle.sqz_image.specs.Objects.{SavedImage, file_bytes};
 ghost use Rattle.sqz_trace.specs.declared.weak.Weak.{Weak};
+ghost use Rattle.sqz_tool.specs.Compacted.{compacted};
 ghost use Rattle.sqz_tool.specs.Verdict.{IsAccepted, IsRefused};
+ghost use Rattle.sqz_tool.specs.Settled.{IsSettled};
 
 pub use sqz_command::laws::worked_options;
 
@@ -19,4 +22,11 @@ pub fn one_refusal()
     ensures one { (weak : Weak) (file : List ℕ) (one other : Fault) → IsRefused weak file one → IsRefused weak file other → one ≡ other }
     ensures not_accepted { (weak : Weak) (file : List ℕ) (fault : Fault) (image : SavedImage) (marks : List Bool)
         → IsRefused weak file fault → IsAccepted weak file image marks → ⊥ }
+{}
+
+/// The compaction of a file of bytes is accepted, all its objects are reachable, and compacting it again gives the same
+/// bytes.
+pub fn compacts_once()
+    ensures { (weak : Weak) (file : List ℕ) (image : SavedImage) (marks : List Bool) → AreBytes file
+        → IsAccepted weak file image marks → IsSettled weak (file_bytes (compacted image weak marks)) }
 {}

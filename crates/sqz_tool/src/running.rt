@@ -6,6 +6,7 @@ ghost use Rattle.sqz_tool.specs.Headline.{Compacts, Refuses, sinks};
 use crate::compaction::compaction_of;
 use crate::plan::Plan;
 use crate::summary::Summary;
+use sqz_image::laws::byte_bounds;
 use sqz_image::{Fault, Sink, Source, read_all, read_image, write_all, write_image};
 use sqz_workers::Gate;
 use std::alloc::Global;
@@ -37,6 +38,7 @@ pub fn run<T: Threads + Sync, R: Source, W: Sink, C: Sink, G: Gate>(
 {
     let bytes = read_all(alloc, source)?;
     let image = read_image(alloc, &bytes)?;
+    byte_bounds(&bytes);
     drop(bytes);
     let compaction = compaction_of(rt, alloc, plan, &image, gate)?;
     let pieces = compaction.pieces.as_slice();

@@ -12,3 +12,6 @@ pub mod TurnLemmas
 pub mod TargetLemmas
 pub mod GreyingLemmas
 pub mod LawLemmas
+pub mod ShapeLemmas
+pub mod SoundLemmas
+pub mod CopyLemmas

@@ -39,12 +39,13 @@ pub returns-clause-compacts : goal.returns-clause-compacts
 returns-clause-compacts g c =
     let holds = rw c.deref.ensures.value at c.in_ok-image.ensures.image in
     let written = rw c.as_slice-pieces.ensures at c.in_ok-write_image.ensures.whole in
+    let are = rw c.deref-2.ensures.value at c.byte_bounds.ensures in
     elim c.if-plan.branch [
       | then-plan+in_ok-write_all w ↦
           let whole = rw w.deref-then-plan.ensures.value at w.in_ok-write_all.ensures.whole in
           rw w.report-is (compacts_and_reports _ _ _ _ _ _ c.in_ok-bytes.bytes.items c.in_ok-image.image _ _ _ _
-          c.in_ok-bytes.ensures.whole holds c.in_ok-compaction.ensures.compaction written w.if-plan.true whole)
+          c.in_ok-bytes.ensures.whole holds c.in_ok-compaction.ensures.compaction written are w.if-plan.true whole)
       | else-plan w ↦
           rw w.report-is (compacts_alone _ _ _ _ _ _ c.in_ok-bytes.bytes.items c.in_ok-image.image _ _ _ _
-          c.in_ok-bytes.ensures.whole holds c.in_ok-compaction.ensures.compaction written w.if-plan.false refl)
+          c.in_ok-bytes.ensures.whole holds c.in_ok-compaction.ensures.compaction written are w.if-plan.false refl)
     ]
