@@ -468,6 +468,8 @@ image=$images/dead_array.image
 answer=$images/dead_array.compacted.image
 census=$images/dead_array.census
 case_of 'compacts in place' compacts_in_place "$image" "$answer"
+case_of 'compacts in place behind 512 bytes' compacts_in_place "$images/behind_512_bytes.image" \
+  "$images/behind_512_bytes.compacted.image"
 case_of 'empties an old file' empties_old_file "$image" "$answer"
 case_of 'reports a missing input' reports_missing_input
 case_of 'reports a folder as input' reports_folder_as_input
