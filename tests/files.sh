@@ -517,6 +517,14 @@ if make_refuser; then
     case_of "bears each refusal of memory with the census of $name and workers $workers" bears_each_refusal \
       "$images/$name.image" "$images/$name.compacted.image" "$images/$name.census" --workers "$workers" --census
   done
+  name=weak_array_behind_512_bytes
+  for workers in 1 2; do
+    case_of "bears each refusal of memory with weak slots and workers $workers" bears_each_refusal "$images/$name.image" \
+      "$images/$name.compacted.image" "$images/$name.census" --workers "$workers" --census --region-words 8
+    case_of "bears each refusal of memory with weak slots cleared and workers $workers" bears_each_refusal \
+      "$images/$name.image" "$images/cleared/$name.image" "$images/cleared/$name.census" --workers "$workers" --census \
+      --region-words 8 --clear-weak
+  done
 else
   echo 'left out: refusals of memory, which want a C compiler'
 fi
