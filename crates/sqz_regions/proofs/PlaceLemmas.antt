@@ -1,5 +1,5 @@
 -- The words of the marked objects below an object.
-use Rattle.std.proofs.Common.{◌≡◌, ℕ, ◌+◌, ◌<◌, ◌≤◌, Bool, true, false, List, [], ◌∷◌}
+use Rattle.std.proofs.Common.{◌≡◌, ℕ, zero, suc, ◌+◌, ◌<◌, ◌≤◌, Bool, true, false, List, [], ◌∷◌}
 use Rattle.std.proofs.Common.{map, length, get_or, take, refl, ap, ◌∙◌, arith}
 use Rattle.std.specs.List.{count_by}
 use Rattle.std.proofs.lemmas.List.{length-take}
@@ -40,6 +40,18 @@ words_in-marked (true ∷ marks) (object ∷ objects) =
     omega (arith, kept, words_in-cons object objects, words_in-marked marks objects)
 words_in-marked (false ∷ marks) (object ∷ objects) =
     omega (arith, words_in-cons object objects, words_in-marked marks objects)
+
+-- the marked ones among the first objects have no more words than all marked ones
+pub words_in-marked_take : (marks : List Bool) (objects : List Object) (index : ℕ)
+    → words_in (marked (take index marks) (take index objects)) ≤ words_in (marked marks objects)
+words_in-marked_take marks objects zero = omega arith
+words_in-marked_take [] objects (suc index) = omega arith
+words_in-marked_take (true ∷ marks) [] (suc index) = omega arith
+words_in-marked_take (false ∷ marks) [] (suc index) = omega arith
+words_in-marked_take (true ∷ marks) (object ∷ objects) (suc index) =
+    let first = words_in-cons object (marked (take index marks) (take index objects)) in
+    omega (arith, first, words_in-cons object (marked marks objects), words_in-marked_take marks objects index)
+words_in-marked_take (false ∷ marks) (object ∷ objects) (suc index) = words_in-marked_take marks objects index
 
 -- ---- the live objects below an index
 

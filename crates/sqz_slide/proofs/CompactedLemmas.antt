@@ -1,7 +1,8 @@
--- The live objects in their new places are a copy of them: each is found at its place, and its slots name the copies of what they named.
-use Rattle.std.proofs.Common.{◌≡◌, ℕ, zero, suc, ◌+◌, ◌*◌, ◌%◌, ◌<◌, Bool, true, false, List, [], ◌∷◌, ◌++◌, length, map, take, cond}
+-- The live objects in their new places: each is an object of the compacted memory, and is found at its place.
+use Rattle.std.proofs.Common.{◌≡◌, ℕ, ◌+◌, ◌*◌, ◌%◌, ◌<◌, Bool, true, false, List, [], ◌∷◌, length, map, take, cond}
 use Rattle.std.proofs.Common.{slice_index_or, Some, refl, ap, subst, ◌∙◌, arith}
 use Rattle.std.specs.List.{concat, AllByRecursion}
+use Rattle.std.proofs.ByRecursion.{All-append, All-map, All-take, All-weaker}
 use Rattle.std.proofs.lemmas.List.{get_or-map, take-map, length-map}
 use Rattle.sqz_object.specs.Chunk.{IsChunk, before, is_object}
 use Rattle.sqz_image.specs.Objects.{Memory, Object, moved_on, objects_of, objects, object_count, object_at, chunk_words, address_of, find}
@@ -22,37 +23,17 @@ no_object = record { first = 0; chunk = [] }
 
 -- ---- what holds of all
 
--- what holds of each holds of each after a map
-All-mapped : {X Y : Type 0} (P : Y → Type 0) (f : X → Y) (xs : List X) → AllByRecursion (λ x. P (f x)) xs → AllByRecursion P (map f xs)
-All-mapped P f [] h = tt
-All-mapped P f (x ∷ xs) h = (h.0, All-mapped P f xs h.1)
-
--- and of the first ones
-All-take : {X : Type 0} (P : X → Type 0) (count : ℕ) (xs : List X) → AllByRecursion P xs → AllByRecursion P (take count xs)
-All-take P zero xs h = tt
-All-take P (suc count) [] h = tt
-All-take P (suc count) (x ∷ xs) h = (h.0, All-take P count xs h.1)
-
 -- both hold of each
-All-both : {X : Type 0} (P Q : X → Type 0) (xs : List X) → AllByRecursion P xs → AllByRecursion Q xs → AllByRecursion (λ x. P x × Q x) xs
+pub All-both : {X : Type 0} (P Q : X → Type 0) (xs : List X) → AllByRecursion P xs → AllByRecursion Q xs → AllByRecursion (λ x. P x × Q x) xs
 All-both P Q [] p q = tt
 All-both P Q (x ∷ xs) p q = ((p.0, q.0), All-both P Q xs p.1 q.1)
-
--- one follows from another
-All-implied : {X : Type 0} (P Q : X → Type 0) (xs : List X) → ((x : X) → P x → Q x) → AllByRecursion P xs → AllByRecursion Q xs
-All-implied P Q [] f h = tt
-All-implied P Q (x ∷ xs) f h = (f x h.0, All-implied P Q xs f h.1)
-
-All-append : {X : Type 0} (P : X → Type 0) (xs ys : List X) → AllByRecursion P xs → AllByRecursion P ys → AllByRecursion P (xs ++ ys)
-All-append P [] ys p q = q
-All-append P (x ∷ xs) ys p q = (p.0, All-append P xs ys p.1 q)
 
 -- each object is one
 objects_are : (chunks : List (List ℕ)) → AllByRecursion (λ object. is_object object.chunk ≡ true) (objects_of chunks)
 objects_are [] = tt
 objects_are (chunk ∷ chunks) =
     All-append IsObject (own (is_object chunk)) _ (by_test (is_object chunk) refl)
-    (All-mapped IsObject (moved_on (length chunk)) (objects_of chunks) (objects_are chunks))
+    (All-map IsObject (moved_on (length chunk)) (objects_of chunks) (objects_are chunks))
   where
     IsObject : Object → Type 0
     IsObject object = is_object object.chunk ≡ true
@@ -94,16 +75,16 @@ module _ (memory : Memory) (weak : Weak) (marks : List Bool) (aligned : memory.b
   -- they are chunks
   pub copied_chunks : AllByRecursion IsChunk (moved_objects memory weak marks)
   copied_chunks =
-      All-mapped IsChunk (words_after memory weak marks) (live memory marks)
-      (All-implied IsWhole (λ object. IsChunk (words_after memory weak marks object)) (live memory marks)
-      (λ object is. moved-chunk memory weak marks aligned object.chunk is.0) live_whole)
+      All-map IsChunk (words_after memory weak marks) (live memory marks)
+      (All-weaker IsWhole (λ object. IsChunk (words_after memory weak marks object))
+      (λ object is. moved-chunk memory weak marks aligned object.chunk is.0) (live memory marks) live_whole)
 
   -- and none is free
   pub copied_objects : AllByRecursion (λ chunk. is_object chunk ≡ true) (moved_objects memory weak marks)
   copied_objects =
-      All-mapped (λ chunk. is_object chunk ≡ true) (words_after memory weak marks) (live memory marks)
-      (All-implied IsWhole (λ object. is_object (words_after memory weak marks object) ≡ true) (live memory marks)
-      (λ object is. moved-object memory weak marks aligned object.chunk is.0 ∙ is.1) live_whole)
+      All-map (λ chunk. is_object chunk ≡ true) (words_after memory weak marks) (live memory marks)
+      (All-weaker IsWhole (λ object. is_object (words_after memory weak marks object) ≡ true)
+      (λ object is. moved-object memory weak marks aligned object.chunk is.0 ∙ is.1) (live memory marks) live_whole)
 
   -- there is one for each live object
   count-copied : (special : ℕ) → object_count (compacted_with special) ≡ length (live memory marks)
@@ -133,7 +114,7 @@ module _ (memory : Memory) (weak : Weak) (marks : List Bool) (aligned : memory.b
         ∙ length-all memory weak marks (live_below i)
         (subst (AllByRecursion (λ object. IsChunk object.chunk)) (marked-before marks (objects memory) i)
         (All-take (λ object. IsChunk object.chunk) (new_index i) (live memory marks)
-        (All-implied IsWhole (λ object. IsChunk object.chunk) (live memory marks) (λ object is. is.0) live_whole)))
+        (All-weaker IsWhole (λ object. IsChunk object.chunk) (λ object is. is.0) (live memory marks) live_whole)))
 
     -- the words of its copy
     words_of_copy : slice_index_or (moved_objects memory weak marks) (new_index i) [] ≡ moved memory weak marks (chunk_words memory i)

@@ -14,7 +14,7 @@ use Rattle.sqz_object.specs.Chunk.{IsChunk, IsChunkOf, chunk_kind, words_before,
 use Rattle.sqz_object.proofs.ChunkLemmas.{chunk_kind_is}
 use Rattle.sqz_image.specs.declared.fault.Slot.{Slot}
 use Rattle.sqz_image.specs.declared.fault.Slot.TheVariants.{ClassWord, Field}
-use Rattle.sqz_image.specs.Objects.{Memory, Object, objects, object_count, chunk_words}
+use Rattle.sqz_image.specs.Objects.{Memory, objects, object_count, chunk_words}
 use Rattle.sqz_image.proofs.ObjectLemmas.{objects_keep, All_at, before-chunk}
 use Rattle.sqz_trace.specs.declared.weak.Weak.{Weak}
 use Rattle.sqz_trace.specs.Slots.{traced, class_address, class_word, word_among, slot_word}
@@ -22,13 +22,12 @@ use Rattle.sqz_trace.specs.Targets.{named_by}
 use Rattle.sqz_trace.specs.Strong.{is_weak, fixed_by, unless_above, class_of, strong}
 use Rattle.sqz_trace.specs.Edges.{nil}
 use Rattle.sqz_trace.specs.Graph.{is_marked}
-use Rattle.sqz_trace.specs.Live.{marked}
 use Rattle.sqz_trace.proofs.ShapeLemmas.{IsAlike, IsShapedAs, traced-shaped}
 use Rattle.sqz_trace.proofs.SlotLemmas.{traced_inside}
 use Rattle.sqz_trace.proofs.StrongLemmas.{strong_inside}
-use Rattle.sqz_regions.specs.Places.{words_in, live_words_below, live_words, place}
+use Rattle.sqz_regions.specs.Places.{live_words_below, live_words, place}
 use Rattle.sqz_regions.specs.Bases.{place_if_marked}
-use Rattle.sqz_regions.proofs.PlaceLemmas.{words_in-cons, live_words_more_yes, no_object}
+use Rattle.sqz_regions.proofs.PlaceLemmas.{words_in-marked_take, live_words_more_yes, no_object}
 use Rattle.sqz_slide.specs.Moved.{new_address, moved_field, nil_place, address_or, moved_weak, moved_class, moved_header}
 use Rattle.sqz_slide.specs.Moved.{moved_others, moved_fields, moved}
 use Rattle.sqz_slide.proofs.HeaderLemmas.{length-moved_header}
@@ -115,18 +114,6 @@ is_object-kind Two (class ∷ base ∷ fields) h = rw h.0 refl
 is_object-kind Free (free ∷ rest) h = rw h.0 refl
 is_object-kind Short (base ∷ fields) h = rw h.0 refl
 is_object-kind _ _ h = absurd h
-
--- the marked ones among the first objects have no more words than all marked ones
-words_in-marked_take : (marks : List Bool) (objects : List Object) (index : ℕ)
-    → words_in (marked (take index marks) (take index objects)) ≤ words_in (marked marks objects)
-words_in-marked_take marks objects zero = omega arith
-words_in-marked_take [] objects (suc index) = omega arith
-words_in-marked_take (true ∷ marks) [] (suc index) = omega arith
-words_in-marked_take (false ∷ marks) [] (suc index) = omega arith
-words_in-marked_take (true ∷ marks) (object ∷ objects) (suc index) =
-    let first = words_in-cons object (marked (take index marks) (take index objects)) in
-    omega (arith, first, words_in-cons object (marked marks objects), words_in-marked_take marks objects index)
-words_in-marked_take (false ∷ marks) (object ∷ objects) (suc index) = words_in-marked_take marks objects index
 
 module _ (memory : Memory) (weak : Weak) (marks : List Bool) (aligned : memory.base % 4 ≡ 0) where
   -- a place is an address

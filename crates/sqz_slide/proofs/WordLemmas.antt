@@ -2,16 +2,18 @@
 use Rattle.std.proofs.Common.{◌≡◌, ℕ, zero, suc, ◌+◌, ◌*◌, ◌%◌, ◌^◌, ◌<◌, ◌≤◌, Bool, List, [], ◌∷◌, ◌++◌, length, map, take, drop}
 use Rattle.std.proofs.Common.{slice_index, subst, arith, inl, inr}
 use Rattle.std.specs.List.{concat, AllByRecursion}
+use Rattle.std.proofs.ByRecursion.{All-weaker}
 use Rattle.std.proofs.lemmas.Bool.{cases_lt}
 use Rattle.std.proofs.lemmas.List.{get_or-take, get_or-drop, get_or_past, length-take}
 use Rattle.sqz_object.specs.Chunk.{IsChunk}
 use Rattle.sqz_image.specs.Objects.{Memory, objects, object_count}
-use Rattle.sqz_image.proofs.ObjectLemmas.{objects_keep, objects_stand}
+use Rattle.sqz_image.proofs.ObjectLemmas.{StandsIn, objects_keep, objects_stand}
 use Rattle.sqz_trace.specs.declared.weak.Weak.{Weak}
 use Rattle.sqz_trace.specs.Live.{live}
 use Rattle.sqz_regions.specs.Places.{live_words}
 use Rattle.sqz_slide.specs.Moved.{moved_objects}
 use Rattle.sqz_slide.proofs.LengthLemmas.{All-marked, words_after}
+use Rattle.sqz_slide.proofs.CompactedLemmas.{All-both}
 use Rattle.sqz_slide.proofs.MovedShapeLemmas.{moved-lt}
 
 -- all words are of 32 bits
@@ -36,12 +38,6 @@ AreWords-part words first count h k =
       | inr past ↦ rw (get_or_past (take count (drop first words)) k 0 (omega (arith, length-take count (drop first words)))) (omega arith)
     ]
 
--- what holds of each under two conditions
-All-with : {X : Type 0} (P Q R : X → Type 0) (xs : List X) → ((x : X) → P x → Q x → R x) → AllByRecursion P xs → AllByRecursion Q xs
-    → AllByRecursion R xs
-All-with P Q R [] f p q = tt
-All-with P Q R (x ∷ xs) f p q = (f x p.0 q.0, All-with P Q R xs f p.1 q.1)
-
 -- the words of the moved objects, where all live objects have room
 pub moved_objects-lt : (memory : Memory) (weak : Weak) (marks : List Bool) → memory.base % 4 ≡ 0 → AllByRecursion IsChunk memory.chunks
     → length marks ≡ object_count memory → memory.base + 4 * live_words memory marks ≤ 2 ^ 32
@@ -50,8 +46,11 @@ pub moved_objects-lt : (memory : Memory) (weak : Weak) (marks : List Bool) → m
 moved_objects-lt memory weak marks aligned chunks sized within each =
     AreWords-concat (words_after memory weak marks) (live memory marks)
     (All-marked (λ object. AreWords (words_after memory weak marks object)) marks (objects memory)
-    (All-with (λ object. IsChunk object.chunk) _ (λ object. AreWords (words_after memory weak marks object)) (objects memory)
-    (λ object is stands.
-    moved-lt memory weak marks aligned object.chunk is sized chunks within
-    (subst AreWords stands.there (AreWords-part (concat memory.chunks) object.first (length object.chunk) each)))
-    (objects_keep IsChunk memory.chunks chunks) (objects_stand memory.chunks)))
+    (All-weaker (λ object. IsChunk object.chunk × StandsIn (concat memory.chunks) object)
+    (λ object. AreWords (words_after memory weak marks object))
+    (λ object is.
+    moved-lt memory weak marks aligned object.chunk is.0 sized chunks within
+    (subst AreWords is.1.there (AreWords-part (concat memory.chunks) object.first (length object.chunk) each)))
+    (objects memory)
+    (All-both (λ object. IsChunk object.chunk) (StandsIn (concat memory.chunks)) (objects memory)
+    (objects_keep IsChunk memory.chunks chunks) (objects_stand memory.chunks))))
