@@ -117,9 +117,11 @@ counts_in_place() {
 }
 
 compacts_in_place() {
-  cp "$1" both
-  run both both
-  wrote both "$2"
+  local image=$1 answer=$2
+  shift 2
+  cp "$image" both
+  run "$@" both both
+  wrote both "$answer"
 }
 
 # The answer is the same by the plan that is taken where none is asked for, by one worker, and by many workers with as
@@ -299,45 +301,6 @@ compacts_in_four_times_its_size() {
   compacts_in_memory "$1" "$1"
 }
 
-# Makes the library that refuses requests for memory, by a C compiler if there is one.
-make_refuser() {
-  cc -shared -fPIC -o refuse_memory.so "$root/tests/refuse_memory.c" 2>/dev/null
-}
-
-# Runs the built program itself with these words, and refuses its request for memory with this number. Where there was
-# one there is a file `refused` then.
-run_with_refusal() {
-  local number=$1
-  shift
-  rm -f refused
-  REFUSED_REQUEST=$number timeout 30 env LD_PRELOAD=./refuse_memory.so "$program" "$@" >printed 2>said
-  status=$?
-}
-
-# Whether the last run ended for want of memory, before it printed or wrote anything.
-wanted_memory() {
-  faulted 4 'fault 15: out of memory' && has_old_output
-}
-
-# Each request for memory is refused in turn, until a run has no more of them. Mostly that is want of memory. A thread
-# that is not started, a list of objects that does not grow, and room for more words of the command line than the next
-# are done without; then all is written.
-bears_each_refusal() {
-  local image=$1 answer=$2 census=$3 number wants=0
-  shift 3
-  for ((number = 1; number < 1000; number++)); do
-    put_old_output
-    run_with_refusal "$number" "$@" "$image" out
-    if [ -e refused ] && wanted_memory; then
-      wants=$((wants + 1))
-    else
-      counted out "$answer" "$census" || return
-    fi
-    [ -e refused ] || break
-  done
-  [ ! -e refused ] && [ "$wants" -gt $((number / 2)) ]
-}
-
 # The bytes come through a pipe, a few thousand at a time.
 compacts_from_pipe() {
   local writer
@@ -467,7 +430,9 @@ done
 image=$images/dead_array.image
 answer=$images/dead_array.compacted.image
 census=$images/dead_array.census
-case_of 'compacts in place' compacts_in_place "$image" "$answer"
+for workers in 1 2 64; do
+  case_of "compacts in place by workers $workers" compacts_in_place "$image" "$answer" --workers "$workers"
+done
 case_of 'compacts in place behind 512 bytes' compacts_in_place "$images/behind_512_bytes.image" \
   "$images/behind_512_bytes.compacted.image"
 case_of 'empties an old file' empties_old_file "$image" "$answer"
@@ -505,28 +470,6 @@ case_of 'compacts from a pipe' compacts_from_pipe "$image" "$answer"
 if [ "$(id -u)" -ne 0 ]; then
   case_of 'reports an input without the right to read it' reports_input_without_right "$image"
   case_of 'reports an output without the right to write it' reports_output_without_right "$image"
-fi
-
-if make_refuser; then
-  for workers in 1 2; do
-    case_of "bears each refusal of memory with workers $workers" bears_each_refusal "$images/dead_cycle.image" \
-      "$images/dead_cycle.compacted.image" /dev/null --workers "$workers"
-  done
-  for row in '1 dead_cycle' '2 dead_cycle' '1 dozen_classes' '2 big_endian_class_names'; do
-    read -r workers name <<<"$row"
-    case_of "bears each refusal of memory with the census of $name and workers $workers" bears_each_refusal \
-      "$images/$name.image" "$images/$name.compacted.image" "$images/$name.census" --workers "$workers" --census
-  done
-  name=weak_array_behind_512_bytes
-  for workers in 1 2; do
-    case_of "bears each refusal of memory with weak slots and workers $workers" bears_each_refusal "$images/$name.image" \
-      "$images/$name.compacted.image" "$images/$name.census" --workers "$workers" --census --region-words 8
-    case_of "bears each refusal of memory with weak slots cleared and workers $workers" bears_each_refusal \
-      "$images/$name.image" "$images/cleared/$name.image" "$images/cleared/$name.census" --workers "$workers" --census \
-      --region-words 8 --clear-weak
-  done
-else
-  echo 'left out: refusals of memory, which want a C compiler'
 fi
 
 # Of the first the data are one block of 64 KiB, so that the limit cuts the last write short. Where no object is dead an

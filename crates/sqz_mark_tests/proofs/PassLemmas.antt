@@ -1,10 +1,5 @@
 -- What a pass knows after calls, one after the other.
 use Rattle.std.proofs.Common.{◌≡◌, ◌≢◌, ◌⊎◌, ℕ, ◌<◌, List, ◌∷◌, ◌++◌, [], length, Option, Some, None, refl, sym, ap, subst, ◌∙◌, arith, inl, inr}
-use Rattle.std.specs.Prelude.{slice_index_or}
-use Rattle.std.proofs.lemmas.List.Elements.{All-push}
-use Rattle.std.proofs.lemmas.List.{length-append}
-use Rattle.std.proofs.Math.ListN.{get_or-append}
-use Rattle.std.proofs.Math.Seq.{get_or-append_seam}
 use Rattle.sqz_image.specs.declared.fault.Slot.{Slot}
 use Rattle.sqz_image.specs.Objects.{Memory, object_count}
 use Rattle.sqz_trace.specs.declared.shades.Shade.{Shade}
@@ -18,7 +13,7 @@ use Rattle.sqz_marks.specs.Core.{times, HasWon, HasSeen, first_view, looked, see
 use Rattle.sqz_marks.specs.Table.{HeldPass, HasCountedAll, knowing}
 use Rattle.sqz_marks.specs.Claims.{IsClaim}
 use Rattle.sqz_marks.proofs.TimesLemmas.{times-same, times-more, times-either, times-append, times-in_two}
-use Rattle.sqz_mark_tests.specs.Passes.{IsLater, Knows, AreSeen, ClaimsTargets}
+use Rattle.sqz_mark_tests.specs.Passes.{IsLater, Knows, ClaimsTargets}
 
 -- ---- one pass after the other
 
@@ -34,25 +29,6 @@ IsLater-then first second third old new =
       keeps = λ object seen. new.keeps object (old.keeps object seen);
       counts = λ all. new.counts (old.counts all);
     }
-
--- a list of objects that were seen, later
-pub AreSeen-later : (memory : Memory) (old new : HeldPass) (list : List ℕ) → IsLater old new → AreSeen memory old.view list
-    → AreSeen memory new.view list
-AreSeen-later memory old new list later seen k d lt =
-    let item = seen k d lt in (item.0, later.keeps (slice_index_or list k d) item.1)
-
--- the last of a list, and those before it
-pub AreSeen-last : (memory : Memory) (view : View) (list : List ℕ) (object : ℕ) → AreSeen memory view (list ++ object ∷ [])
-    → (object < object_count memory) × HasSeen view object
-AreSeen-last memory view list object seen =
-    let long : length list < length (list ++ object ∷ []) = omega (arith, length-append list (object ∷ [])) in
-    subst (λ (o : ℕ). (o < object_count memory) × HasSeen view o) (get_or-append_seam list object [] 0) (seen (length list) 0 long)
-
-pub AreSeen-front : (memory : Memory) (view : View) (list : List ℕ) (object : ℕ) → AreSeen memory view (list ++ object ∷ [])
-    → AreSeen memory view list
-AreSeen-front memory view list object seen k d lt =
-    let long : k < length (list ++ object ∷ []) = omega (arith, lt, length-append list (object ∷ [])) in
-    subst (λ (o : ℕ). (o < object_count memory) × HasSeen view o) (get_or-append list (object ∷ []) d k lt) (seen k d long)
 
 -- ---- looks and claims
 
@@ -168,73 +144,65 @@ HasCountedAll-rejoined whole first second third fourth both weight all kept part
 
 -- ---- targets that were claimed
 
-module _ (memory : Memory) where
-  module _ (old new : HeldPass) (parent : Parent) (slot : Slot) where
-    abbrev IsNamed : ℕ → Type 0
-    IsNamed object = strong_named memory parent slot ≡ Some object
+module _ (memory : Memory) (old new : HeldPass) (parent : Parent) (slot : Slot) where
+  abbrev IsNamed : ℕ → Type 0
+  IsNamed object = strong_named memory parent slot ≡ Some object
 
-    -- what was won is an object
-    pub IsClaim-inside : (found : ℕ) → IsClaim (strong_named memory parent slot) old new (Won found) → found < object_count memory
-    IsClaim-inside found claim =
-        let names = (IsClaim-won old new (strong_named memory parent slot) found claim).0 in
-        named_among-lt memory parent.strong parent.words slot found names
+  -- what was won is an object
+  pub IsClaim-inside : (found : ℕ) → IsClaim (strong_named memory parent slot) old new (Won found) → found < object_count memory
+  IsClaim-inside found claim =
+      let names = (IsClaim-won old new (strong_named memory parent slot) found claim).0 in
+      named_among-lt memory parent.strong parent.words slot found names
 
-    module _ (list : List ℕ) (listed : AreSeen memory old.view list) where
-      -- what a slot names was claimed, and the list is as it was
-      pub ClaimsTargets-slot : (answer : Claim) → ((found : ℕ) → answer ≢ Won found)
-          → IsClaim (strong_named memory parent slot) old new answer → ClaimsTargets memory IsNamed old new list
-      ClaimsTargets-slot answer not_won claim =
-          let later = IsClaim-later old new answer not_won (strong_named memory parent slot) claim in
-          record {
-            later = later;
-            targets = λ object names.
-                IsClaim-sees old new answer not_won object (subst (λ (n : Option ℕ). IsClaim n old new answer) names claim);
-            listed = AreSeen-later memory old new list later listed;
-          }
-
-      -- what was won and counted is at its end
-      pub ClaimsTargets-won : (found : ℕ) (third : HeldPass) → IsClaim (strong_named memory parent slot) old new (Won found)
-          → third ≡ knowing new (counted found new.view) → ClaimsTargets memory IsNamed old third (list ++ found ∷ [])
-      ClaimsTargets-won found third claim step =
-          let names = (IsClaim-won old new (strong_named memory parent slot) found claim).0 in
-          let both = IsClaim-counted old new (strong_named memory parent slot) found third claim step in
-          record {
-            later = both.1;
-            targets = λ object named. let same : Some found ≡ Some object = sym names ∙ named in
-                let e : found ≡ object = cc in subst (HasSeen third.view) e both.0;
-            listed = All-push (λ object. (object < object_count memory) × HasSeen third.view object) list found
-                (AreSeen-later memory old third list both.1 listed) (IsClaim-inside found claim, both.0);
-          }
-
-  -- targets that were claimed, and then more of them
-  pub ClaimsTargets-then : (First Second Both : ℕ → Type 0) (first second third : HeldPass) (list longer : List ℕ)
-      → ((object : ℕ) → Both object → First object ⊎ Second object) → ClaimsTargets memory First first second list
-      → ClaimsTargets memory Second second third longer → ClaimsTargets memory Both first third longer
-  ClaimsTargets-then First Second Both first second third list longer either some more =
+  -- what a slot names was claimed, and was not won
+  pub ClaimsTargets-slot : (answer : Claim) → ((found : ℕ) → answer ≢ Won found)
+      → IsClaim (strong_named memory parent slot) old new answer → ClaimsTargets IsNamed old new
+  ClaimsTargets-slot answer not_won claim =
       record {
-        later = IsLater-then first second third some.later more.later;
-        targets = λ object is. sees object (either object is);
-        listed = more.listed;
+        later = IsClaim-later old new answer not_won (strong_named memory parent slot) claim;
+        targets = λ object names.
+            IsClaim-sees old new answer not_won object (subst (λ (n : Option ℕ). IsClaim n old new answer) names claim);
       }
-    where
-      sees : (object : ℕ) → First object ⊎ Second object → HasSeen third.view object
-      sees object (inl one) = more.later.keeps object (some.targets object one)
-      sees object (inr one) = more.targets object one
 
-  -- targets by other words
-  pub ClaimsTargets-of : (These Those : ℕ → Type 0) (old new : HeldPass) (list : List ℕ) → ((object : ℕ) → Those object → These object)
-      → ClaimsTargets memory These old new list → ClaimsTargets memory Those old new list
-  ClaimsTargets-of These Those old new list are some =
-      record { later = some.later; targets = λ object is. some.targets object (are object is); listed = some.listed }
+  -- what was won is counted
+  pub ClaimsTargets-won : (found : ℕ) (third : HeldPass) → IsClaim (strong_named memory parent slot) old new (Won found)
+      → third ≡ knowing new (counted found new.view) → ClaimsTargets IsNamed old third
+  ClaimsTargets-won found third claim step =
+      let names = (IsClaim-won old new (strong_named memory parent slot) found claim).0 in
+      let both = IsClaim-counted old new (strong_named memory parent slot) found third claim step in
+      record {
+        later = both.1;
+        targets = λ object named. let same : Some found ≡ Some object = sym names ∙ named in
+            let e : found ≡ object = cc in subst (HasSeen third.view) e both.0;
+      }
 
-  -- the object is made black
-  pub ClaimsTargets-blackened : (IsTarget : ℕ → Type 0) (object : ℕ) (first second third : HeldPass) (list : List ℕ)
-      → third ≡ knowing second (blackened object second.view) → ClaimsTargets memory IsTarget first second list
-      → ClaimsTargets memory IsTarget first third list
-  ClaimsTargets-blackened IsTarget object first second third list step some =
-      subst (λ (p : HeldPass). ClaimsTargets memory IsTarget first p list) (sym step)
-      (record {
-        later = record { table = some.later.table; workers = some.later.workers; weight = some.later.weight; keeps = some.later.keeps; counts = some.later.counts };
-        targets = some.targets;
-        listed = some.listed;
-      })
+-- targets that were claimed, and then more of them
+pub ClaimsTargets-then : (First Second Both : ℕ → Type 0) (first second third : HeldPass)
+    → ((object : ℕ) → Both object → First object ⊎ Second object) → ClaimsTargets First first second
+    → ClaimsTargets Second second third → ClaimsTargets Both first third
+ClaimsTargets-then First Second Both first second third either some more =
+    record {
+      later = IsLater-then first second third some.later more.later;
+      targets = λ object is. sees object (either object is);
+    }
+  where
+    sees : (object : ℕ) → First object ⊎ Second object → HasSeen third.view object
+    sees object (inl one) = more.later.keeps object (some.targets object one)
+    sees object (inr one) = more.targets object one
+
+-- targets by other words
+pub ClaimsTargets-of : (These Those : ℕ → Type 0) (old new : HeldPass) → ((object : ℕ) → Those object → These object)
+    → ClaimsTargets These old new → ClaimsTargets Those old new
+ClaimsTargets-of These Those old new are some =
+    record { later = some.later; targets = λ object is. some.targets object (are object is) }
+
+-- the object is made black
+pub ClaimsTargets-blackened : (IsTarget : ℕ → Type 0) (object : ℕ) (first second third : HeldPass)
+    → third ≡ knowing second (blackened object second.view) → ClaimsTargets IsTarget first second
+    → ClaimsTargets IsTarget first third
+ClaimsTargets-blackened IsTarget object first second third step some =
+    subst (λ (p : HeldPass). ClaimsTargets IsTarget first p) (sym step)
+    (record {
+      later = record { table = some.later.table; workers = some.later.workers; weight = some.later.weight; keeps = some.later.keeps; counts = some.later.counts };
+      targets = some.targets;
+    })

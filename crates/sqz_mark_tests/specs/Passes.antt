@@ -1,7 +1,5 @@
 -- What calls leave of a pass, and what it has seen of what they claimed.
-use Rattle.std.specs.Prelude.{◌≡◌, ◌<◌, ℕ, List}
-use Rattle.std.specs.List.{All}
-use Rattle.sqz_image.specs.Objects.{Memory, object_count}
+use Rattle.std.specs.Prelude.{◌≡◌, ℕ}
 use Rattle.sqz_marks.specs.declared.view.View.{View}
 use Rattle.sqz_marks.specs.declared.claim.Claim.{Claim}
 use Rattle.sqz_marks.specs.declared.claim.Claim.TheVariants.{Won, Seen, Nothing}
@@ -22,12 +20,7 @@ Knows view (Won object) = HasSeen view object
 Knows view (Seen object) = HasSeen view object
 Knows view Nothing = Unit {0}
 
--- it has seen each object of a list
-abbrev pub AreSeen : Memory → View → List ℕ → Type 0
-AreSeen memory view list = All (λ object. (object < object_count memory) × HasSeen view object) list
-
--- all targets were claimed, and the list has objects that the pass has seen
-pub record ClaimsTargets (memory : Memory) (IsTarget : ℕ → Type 0) (old new : HeldPass) (list : List ℕ) : Type 0 where
+-- all targets were claimed
+pub record ClaimsTargets (IsTarget : ℕ → Type 0) (old new : HeldPass) : Type 0 where
   pub later : IsLater old new
   pub targets : (object : ℕ) → IsTarget object → HasSeen new.view object
-  pub listed : AreSeen memory new.view list

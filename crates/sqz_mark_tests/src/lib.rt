@@ -1,8 +1,8 @@
-//! Tests of the mark table: its calls one by one, two threads that claim one object, and a marker that is made of it.
+//! Tests of the mark table: its calls one by one, and two threads that claim one object.
 #![tactic(auto)]
 
 #[cfg(test)]
-mod alone;
+mod targets;
 #[cfg(test)]
 mod passes;
 #[cfg(test)]

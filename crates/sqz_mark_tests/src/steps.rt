@@ -7,7 +7,7 @@ ghost use Rattle.sqz_marks.specs.Core.{HasSeen};
 ghost use Rattle.sqz_marks.specs.Table.{IsPassOf, HasCountedAll, start_of};
 ghost use Rattle.sqz_mark_tests.specs.Passes.{IsLater, Knows};
 
-use super::alone::mark_targets;
+use super::targets::mark_targets;
 use sqz_image::{Fault, Heap, Slot};
 use sqz_marks::{Claim, Closed, MarkTable, Pass, Workers};
 use sqz_regions::{Cut, Regions};

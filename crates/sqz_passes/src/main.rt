@@ -1,14 +1,13 @@
-//! The program `sqz_passes`: prints how long each pass of a run over an image takes, in milliseconds. It is for those
-//! who work on the product, and promises nothing.
+//! The program `sqz_passes`: takes the words that `sqzcompact` takes, and prints how long each pass of three such runs takes, in
+//! milliseconds. It is for those who work on the product, and promises nothing.
 #![tactic(auto)]
 
-mod arguments;
 mod passes;
 mod stopwatch;
 
 use anyhow::Result;
-use arguments::{Arguments, read_arguments};
 use passes::{Work, print_passes};
+use sqz_command::{Arguments, read_arguments};
 use sqz_marks::Workers;
 use sqz_regions::Cut;
 use sqz_trace::Weak;
@@ -22,7 +21,7 @@ use std::time::Clock;
 /// The words of the command line are at fault, or there is no memory for them.
 const BAD_ARGUMENTS: u8 = 2;
 
-/// The runs that a command line asks for.
+/// The runs that a command line asks for, each with a census.
 fn run<R: Files + Threads + Sync + Clock + Print>(
     rt: &R,
     alloc: Global,
@@ -30,6 +29,7 @@ fn run<R: Files + Threads + Sync + Clock + Print>(
 ) -> Result<()> {
     let work = Work {
         input: arguments.input,
+        output: arguments.output,
         workers: Workers::new(arguments.workers)?,
         cut: Cut::every(arguments.region_words)?,
         weak: if arguments.clear_weak {
@@ -38,7 +38,7 @@ fn run<R: Files + Threads + Sync + Clock + Print>(
             Weak::Keep
         },
     };
-    print_passes(rt, alloc, &work, arguments.runs)
+    print_passes(rt, alloc, &work)
 }
 
 fn main(rt: HostRuntime) -> Result<ExitCode> {

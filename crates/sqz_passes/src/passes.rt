@@ -19,14 +19,16 @@ use std::rt::Files;
 use std::thread::Threads;
 use std::time::Clock;
 
-/// The device that the image is written to: it takes all bytes and keeps none.
-const NOWHERE: &str = "/dev/null";
+/// How often the passes are run.
+const RUNS: u32 = 3;
 
 /// What is run.
 #[derive(Drop)]
 pub(crate) struct Work<'a> {
     /// The path of the image.
     pub input: &'a str,
+    /// The path of the image that is written.
+    pub output: &'a str,
     pub workers: Workers,
     pub cut: Cut,
     /// What becomes of weak slots.
@@ -38,7 +40,6 @@ pub(crate) fn print_passes<R: Files + Threads + Sync + Clock + Print>(
     rt: &R,
     alloc: Global,
     work: &Work<'_>,
-    runs: u32,
 ) -> Result<()> {
     let names = [
         "read", "heap", "regions", "plain", "mark", "defects", "bases", "places", "slide",
@@ -48,7 +49,7 @@ pub(crate) fn print_passes<R: Files + Threads + Sync + Clock + Print>(
         print!(rt; "{name:>9}")?;
     }
     println!(rt)?;
-    for _ in 0..runs {
+    for _ in 0..RUNS {
         print_run(rt, alloc, work)?;
         println!(rt)?;
     }
@@ -119,7 +120,7 @@ fn print_compaction<R: Files + Threads + Sync + Clock + Print>(
     watch.lap(rt)?;
     let _text = print(alloc, &rows)?;
     watch.lap(rt)?;
-    let mut sink = WriteSink::new(File::create(rt, NOWHERE)?);
+    let mut sink = WriteSink::new(File::create(rt, work.output)?);
     write_image(image, heap.special(), pieces.as_slice(), &mut sink)?;
     watch.lap(rt)?;
     Ok(())

@@ -9,6 +9,21 @@ use std::sync::Wait;
 use std::test::Fail;
 use std::thread::Threads;
 
+/// The census of nil and a special objects array that names it.
+pub(crate) const NIL_CENSUS: &str = concat!(
+    "         1            8 -------- compact 3\n",
+    "         1            4 -------- compact 1\n",
+    "         2           12 total\n",
+);
+
+/// The census of the image with a class.
+pub(crate) const CLASS_CENSUS: &str = concat!(
+    "         2          128 -------- compact 3\n",
+    "         2           36 00001004 Object\n",
+    "         1           12 -------- compact 2\n",
+    "         5          176 total\n",
+);
+
 /// Asserts that the census of an image has this text.
 pub(crate) fn assert_census<R: Threads + Wait + Sync + Abort + AllocGlobal>(
     rt: &R,
@@ -27,35 +42,24 @@ pub(crate) fn assert_census<R: Threads + Wait + Sync + Abort + AllocGlobal>(
 #[test]
 fn objects_without_a_class(rt: HostRuntime) -> Result<(), Fail> {
     let words = [0x1007, 0x320F, 1, 1, 0x320B, 0x1000];
-    let text = concat!(
-        "         1            8 -------- compact 3\n",
-        "         1            4 -------- compact 1\n",
-        "         2           12 total\n",
-    );
     assert_census(
         &rt,
         Weak::Keep,
         Order::Little,
         data_of(&words, 0x1010),
-        text,
+        NIL_CENSUS,
     )
 }
 
 #[test]
 fn class_with_a_name(rt: HostRuntime) -> Result<(), Fail> {
     let words = class_words(rt.alloc(), NAME)?;
-    let text = concat!(
-        "         2          128 -------- compact 3\n",
-        "         2           36 00001004 Object\n",
-        "         1           12 -------- compact 2\n",
-        "         5          176 total\n",
-    );
     assert_census(
         &rt,
         Weak::Keep,
         Order::Little,
         data_of(&words, 0x1038),
-        text,
+        CLASS_CENSUS,
     )?;
     let text = concat!(
         "         2          128 -------- compact 3\n",

@@ -1,70 +1,259 @@
-//! Devices that fail in the midst of a run.
+//! Devices that fail in the midst of a run: at each call in turn, and at each number of bytes.
 
-use super::runs::{Devices, SOUND, data_of, file_with, plan_of, run_over};
+use super::censuses::{CLASS_CENSUS, NIL_CENSUS};
+use super::prefixes::{LEFT, WORDS, behind};
+use super::runs::{
+    Devices, Outcome, SOUND, assert_writes_both, data_of, file_with, plan_by, run_over,
+};
 use sqz_image::Fault;
 use sqz_object::Order;
+use sqz_test_images::{NAME, class_words};
+use sqz_tool::Plan;
 use sqz_trace::Weak;
 use std::process::Abort;
 use std::sync::Wait;
 use std::test::Fail;
 use std::thread::Threads;
 
-/// Asserts that a run with these devices is refused with this fault, and that fronts of so many bytes of the image and
-/// of its census were written.
-fn assert_fails<R: Threads + Wait + Sync + Abort + AllocGlobal>(
+/// More calls than a run makes of a sink that takes these images.
+const MOST_CALLS: u64 = 20;
+
+/// The bytes of a file, and what a run over it is to write: the image, and the text of the census.
+#[derive(Drop)]
+struct Case {
+    file: Vec<u8>,
+    image: Vec<u8>,
+    text: &'static str,
+}
+
+/// A dead array, the same behind 512 bytes, and an image that is compacted to itself.
+fn cases<R: Abort + AllocGlobal>(rt: &R) -> Result<Vec<Case>, Fail> {
+    let mut cases = Vec::new(rt.alloc());
+    for count in [0, 512] {
+        cases.push(Case {
+            file: behind(rt.alloc(), count, &file_with(rt, Order::Little, WORDS)?)?,
+            image: behind(rt.alloc(), count, &file_with(rt, Order::Little, LEFT)?)?,
+            text: NIL_CENSUS,
+        })?;
+    }
+    let words = class_words(rt.alloc(), NAME)?;
+    cases.push(Case {
+        file: file_with(rt, Order::Little, data_of(&words, 0x1038))?,
+        image: file_with(rt, Order::Little, data_of(&words, 0x1038))?,
+        text: CLASS_CENSUS,
+    })?;
+    Ok(cases)
+}
+
+/// A plan by one worker, and one by two. In regions of one word each object is written by a call of its own.
+fn two_plans() -> Result<[Plan; 2], Fault> {
+    Ok([plan_by(1, 1, Weak::Keep)?, plan_by(2, 65_536, Weak::Keep)?])
+}
+
+/// A sink of a run.
+#[derive(Clone, Copy)]
+enum Output {
+    Image,
+    Census,
+}
+
+/// Devices of which this sink fails at a call.
+fn failing_at(output: Output, call: u64) -> Devices {
+    match output {
+        Output::Image => Devices {
+            image_fails: Some(call),
+            ..SOUND
+        },
+        Output::Census => Devices {
+            census_fails: Some(call),
+            ..SOUND
+        },
+    }
+}
+
+/// Devices of which this sink has room for so many bytes.
+fn with_room(output: Output, room: u32) -> Devices {
+    match output {
+        Output::Image => Devices {
+            image_room: room,
+            ..SOUND
+        },
+        Output::Census => Devices {
+            census_room: room,
+            ..SOUND
+        },
+    }
+}
+
+/// What a run over a case's file does.
+fn run_case<R: Threads + Wait + Sync + AllocGlobal>(
     rt: &R,
+    plan: &Plan,
     devices: &Devices,
-    fault: Fault,
-    image: usize,
-    census: usize,
+    case: &Case,
+) -> Result<Outcome, Fail> {
+    let file = Vec::from_slice(rt.alloc(), &case.file)?;
+    run_over(rt, rt.alloc(), plan, file, devices)
+}
+
+/// Asserts that a run with these devices writes all.
+fn assert_whole<R: Threads + Wait + Sync + Abort + AllocGlobal>(
+    rt: &R,
+    plan: &Plan,
+    devices: &Devices,
+    case: &Case,
 ) -> Result<(), Fail> {
-    let words = [0x1007, 0x320F, 1, 1, 0x320B, 0x1000];
-    let file = file_with(rt, Order::Little, data_of(&words, 0x1010))?;
-    let answer = [0x1007, 0x320B, 0x1000];
-    let mut wanted = file_with(rt, Order::Little, data_of(&answer, 0x1004))?;
-    wanted.truncate(image);
-    let mut text = Vec::from_slice(rt.alloc(), b"         1            8")?;
-    text.truncate(census);
-    let outcome = run_over(rt, rt.alloc(), &plan_of(Weak::Keep, true)?, file, devices)?;
-    assert_eq!(rt; outcome.answer, Err(fault));
-    assert_eq!(rt; outcome.image, wanted);
+    let file = Vec::from_slice(rt.alloc(), &case.file)?;
+    assert_writes_both(rt, plan, devices, file, &case.image, case.text)
+}
+
+/// Asserts that a run could not write this sink, and that so many bytes went there: no byte of the census before the whole image.
+fn assert_stopped<R: Abort + AllocGlobal>(
+    rt: &R,
+    case: &Case,
+    outcome: &Outcome,
+    output: Output,
+    count: usize,
+) -> Result<(), Fail> {
+    assert_eq!(rt; outcome.answer, Err(Fault::WriteFailed));
+    let mut image = Vec::from_slice(rt.alloc(), &case.image)?;
+    let mut text = Vec::from_slice(rt.alloc(), case.text.as_bytes())?;
+    match output {
+        Output::Image => {
+            image.truncate(count);
+            text.clear();
+        }
+        Output::Census => text.truncate(count),
+    }
+    assert_eq!(rt; outcome.image, image);
     assert_eq!(rt; outcome.census, text);
     Ok(())
 }
 
-#[test]
-fn source_fails(rt: HostRuntime) -> Result<(), Fail> {
-    let devices = Devices {
-        source_fails: Some(1),
-        ..SOUND
-    };
-    assert_fails(&rt, &devices, Fault::ReadFailed, 0, 0)
+/// How many bytes went to this sink.
+fn count_written(outcome: &Outcome, output: Output) -> usize {
+    match output {
+        Output::Image => outcome.image.len(),
+        Output::Census => outcome.census.len(),
+    }
+}
+
+/// How many bytes this sink takes in a run that nothing stops.
+fn count_wanted(case: &Case, output: Output) -> usize {
+    match output {
+        Output::Image => case.image.len(),
+        Output::Census => case.text.len(),
+    }
+}
+
+/// Asserts that a run is stopped at each call of this sink, and writes all where no call fails. At least one call comes
+/// before the flush, which is the last and fails with all written.
+fn assert_each_call<R: Threads + Wait + Sync + Abort + AllocGlobal>(
+    rt: &R,
+    plan: &Plan,
+    case: &Case,
+    output: Output,
+) -> Result<(), Fail> {
+    let mut calls = 0;
+    let mut written = 0;
+    for call in 0..MOST_CALLS {
+        let devices = failing_at(output, call);
+        let outcome = run_case(rt, plan, &devices, case)?;
+        if outcome.answer.is_ok() {
+            assert_whole(rt, plan, &devices, case)?;
+            continue;
+        }
+        assert_eq!(rt; calls, call);
+        calls = call + 1;
+        written = count_written(&outcome, output);
+        assert_stopped(rt, case, &outcome, output, written)?;
+    }
+    assert!(rt; 2 <= calls && calls < MOST_CALLS);
+    assert_eq!(rt; written, count_wanted(case, output));
+    Ok(())
+}
+
+/// Asserts that a run is stopped where this sink has room for fewer bytes than it is to take, and fills it.
+fn assert_each_room<R: Threads + Wait + Sync + Abort + AllocGlobal>(
+    rt: &R,
+    plan: &Plan,
+    case: &Case,
+    output: Output,
+) -> Result<(), Fail> {
+    let wanted = count_wanted(case, output);
+    assert!(rt; wanted <= 4096);
+    for room in 0..wanted as u32 {
+        let outcome = run_case(rt, plan, &with_room(output, room), case)?;
+        assert_stopped(rt, case, &outcome, output, room as usize)?;
+    }
+    assert_whole(rt, plan, &with_room(output, wanted as u32), case)
 }
 
 #[test]
-fn image_is_not_written(rt: HostRuntime) -> Result<(), Fail> {
-    let flush_fails = Devices {
-        image_fails: Some(2),
-        ..SOUND
-    };
-    assert_fails(&rt, &flush_fails, Fault::WriteFailed, 76, 0)?;
-    let is_full = Devices {
-        image_room: 70,
-        ..SOUND
-    };
-    assert_fails(&rt, &is_full, Fault::WriteFailed, 70, 0)
+fn each_call_of_a_sink(rt: HostRuntime) -> Result<(), Fail> {
+    for case in &cases(&rt)? {
+        for plan in &two_plans()? {
+            assert_each_call(&rt, plan, case, Output::Image)?;
+            assert_each_call(&rt, plan, case, Output::Census)?;
+        }
+    }
+    Ok(())
 }
 
 #[test]
-fn census_is_not_written(rt: HostRuntime) -> Result<(), Fail> {
-    let write_fails = Devices {
-        census_fails: Some(0),
-        ..SOUND
-    };
-    assert_fails(&rt, &write_fails, Fault::WriteFailed, 76, 0)?;
-    let is_full = Devices {
-        census_room: 10,
-        ..SOUND
-    };
-    assert_fails(&rt, &is_full, Fault::WriteFailed, 76, 10)
+fn each_room_of_a_sink(rt: HostRuntime) -> Result<(), Fail> {
+    for case in &cases(&rt)? {
+        for plan in &two_plans()? {
+            assert_each_room(&rt, plan, case, Output::Image)?;
+            assert_each_room(&rt, plan, case, Output::Census)?;
+        }
+    }
+    Ok(())
+}
+
+/// How many reads a run makes of a file in pieces of so many bytes: one for each piece, and one that gives none.
+fn count_reads<R: Abort>(rt: &R, file: &[u8], piece: u32) -> u64 {
+    assert!(rt; 0 < piece && file.len() <= 4096);
+    file.len().div_ceil(piece as usize) as u64 + 1
+}
+
+/// Asserts that a run is refused at each read that fails, and writes all where none does.
+fn assert_each_read<R: Threads + Wait + Sync + Abort + AllocGlobal>(
+    rt: &R,
+    plan: &Plan,
+    case: &Case,
+    piece: u32,
+) -> Result<(), Fail> {
+    let reads = count_reads(rt, &case.file, piece);
+    for read in 0..reads {
+        let devices = Devices {
+            piece,
+            source_fails: Some(read),
+            ..SOUND
+        };
+        let outcome = run_case(rt, plan, &devices, case)?;
+        assert_eq!(rt; outcome.answer, Err(Fault::ReadFailed), "at read {read}");
+        assert!(rt; outcome.image.is_empty() && outcome.census.is_empty());
+    }
+    for source_fails in [Some(reads), Some(u64::MAX), None] {
+        let devices = Devices {
+            piece,
+            source_fails,
+            ..SOUND
+        };
+        assert_whole(rt, plan, &devices, case)?;
+    }
+    Ok(())
+}
+
+#[test]
+fn each_read_of_a_source(rt: HostRuntime) -> Result<(), Fail> {
+    for case in &cases(&rt)? {
+        for plan in &two_plans()? {
+            for piece in [1, 40] {
+                assert_each_read(&rt, plan, case, piece)?;
+            }
+        }
+    }
+    Ok(())
 }

@@ -10,6 +10,8 @@ mod defects;
 #[cfg(test)]
 mod devices;
 #[cfg(test)]
+mod extremes;
+#[cfg(test)]
 mod headers;
 #[cfg(test)]
 mod plans;
@@ -17,6 +19,8 @@ mod plans;
 mod prefixes;
 #[cfg(test)]
 mod runs;
+#[cfg(test)]
+mod truncated;
 #[cfg(test)]
 mod twice;
 #[cfg(test)]

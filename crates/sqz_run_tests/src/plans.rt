@@ -1,6 +1,6 @@
 //! One image by several plans: the answer is the same.
 
-use super::runs::{Data, SOUND, data_of, file_with, run_over};
+use super::runs::{Data, SOUND, assert_writes_both, data_of, file_with, nine_plans};
 use super::weak_censuses::{CLEARED_CLASS, WEAK_CLASS, WEAK_CLASS_CENSUS};
 use sqz_marks::Workers;
 use sqz_object::Order;
@@ -15,10 +15,10 @@ use std::thread::Threads;
 
 /// An image, and what a run over it writes: the answer, and the text of the census.
 #[derive(Clone, Copy)]
-struct Case<'a> {
-    data: Data<'a>,
-    answer: Data<'a>,
-    text: &'a str,
+pub(crate) struct Case<'a> {
+    pub data: Data<'a>,
+    pub answer: Data<'a>,
+    pub text: &'a str,
 }
 
 /// Asserts what a run by a plan writes.
@@ -27,36 +27,19 @@ fn assert_answer<R: Threads + Wait + Sync + Abort + AllocGlobal>(
     plan: &Plan,
     case: Case<'_>,
 ) -> Result<(), Fail> {
-    let workers = plan.workers.number();
     let file = file_with(rt, Order::Little, case.data)?;
-    let outcome = run_over(rt, rt.alloc(), plan, file, &SOUND)?;
-    assert!(rt; outcome.answer.is_ok(), "with {workers} workers");
     let wanted = file_with(rt, Order::Little, case.answer)?;
-    assert_eq!(rt; outcome.image, wanted, "with {workers} workers");
-    assert_eq!(rt;
-        outcome.census.as_slice(),
-        case.text.as_bytes(),
-        "with {workers} workers"
-    );
-    Ok(())
+    assert_writes_both(rt, plan, &SOUND, file, &wanted, case.text)
 }
 
 /// Asserts it of 1, 2 and 64 workers, and of regions of one word, of 65536 words and of all words.
-fn assert_answers<R: Threads + Wait + Sync + Abort + AllocGlobal>(
+pub(crate) fn assert_answers<R: Threads + Wait + Sync + Abort + AllocGlobal>(
     rt: &R,
     weak: Weak,
     case: Case<'_>,
 ) -> Result<(), Fail> {
-    for workers in [1, 2, 64] {
-        for words in [1, 65_536, 1 << 30] {
-            let plan = Plan {
-                workers: Workers::new(workers)?,
-                cut: Cut::every(words)?,
-                weak,
-                census: true,
-            };
-            assert_answer(rt, &plan, case)?;
-        }
+    for plan in &nine_plans(rt.alloc(), weak)? {
+        assert_answer(rt, plan, case)?;
     }
     Ok(())
 }

@@ -14,14 +14,14 @@ use std::process::Abort;
 use std::test::Fail;
 
 /// A dead array between nil and the special objects array.
-const WORDS: Data<'static> = Data {
+pub(crate) const WORDS: Data<'static> = Data {
     base: 0x1000,
     words: &[0x1007, 0x320F, 1, 1, 0x320B, 0x1000],
     special: 0x1010,
 };
 
 /// What is left of it.
-const LEFT: Data<'static> = Data {
+pub(crate) const LEFT: Data<'static> = Data {
     base: 0x1000,
     words: &[0x1007, 0x320B, 0x1000],
     special: 0x1004,

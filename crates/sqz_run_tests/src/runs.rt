@@ -16,10 +16,11 @@ use std::sync::Wait;
 use std::test::Fail;
 use std::thread::Threads;
 
-/// How the devices of a run behave: at which call each fails, if at all, and how many bytes those take that are
-/// written to.
+/// How the devices of a run behave: how many bytes the source gives at once, which are at least one, at which call each
+/// device fails, if at all, and how many bytes those take that are written to.
 #[derive(Clone, Copy)]
 pub(crate) struct Devices {
+    pub piece: u32,
     pub source_fails: Option<u64>,
     pub image_fails: Option<u64>,
     pub image_room: u32,
@@ -29,6 +30,7 @@ pub(crate) struct Devices {
 
 /// Devices that do not fail.
 pub(crate) const SOUND: Devices = Devices {
+    piece: 40,
     source_fails: None,
     image_fails: None,
     image_room: 4096,
@@ -54,6 +56,27 @@ pub(crate) fn plan_of(weak: Weak, census: bool) -> Result<Plan, Fault> {
     })
 }
 
+/// A plan with so many workers, regions of so many words, and a census.
+pub(crate) fn plan_by(workers: u32, words: u32, weak: Weak) -> Result<Plan, Fault> {
+    Ok(Plan {
+        workers: Workers::new(workers)?,
+        cut: Cut::every(words)?,
+        weak,
+        census: true,
+    })
+}
+
+/// The plans by 1, 2 and 64 workers, in regions of one word, of 65536 words and of all words, with a census.
+pub(crate) fn nine_plans(alloc: Global, weak: Weak) -> Result<Vec<Plan>, Fault> {
+    let mut plans = Vec::new(alloc);
+    for workers in [1, 2, 64] {
+        for words in [1, 65_536, 1 << 30] {
+            plans.push(plan_by(workers, words, weak)?)?;
+        }
+    }
+    Ok(plans)
+}
+
 /// A run over a file.
 pub(crate) fn run_over<R: Threads + Wait + Sync>(
     rt: &R,
@@ -62,7 +85,7 @@ pub(crate) fn run_over<R: Threads + Wait + Sync>(
     file: Vec<u8>,
     devices: &Devices,
 ) -> Result<Outcome, Fail> {
-    let mut source = MemorySource::new(file, 40, devices.source_fails);
+    let mut source = MemorySource::new(file, devices.piece.max(1), devices.source_fails);
     let mut sink = MemorySink::new(alloc, devices.image_room, devices.image_fails)?;
     let mut report = MemorySink::new(alloc, devices.census_room, devices.census_fails)?;
     let answer = run(
@@ -94,6 +117,27 @@ pub(crate) fn assert_writes<R: Threads + Wait + Sync + Abort + AllocGlobal>(
     Ok(outcome.answer?)
 }
 
+/// Asserts that a run by a plan, with these devices, writes this image and this census.
+pub(crate) fn assert_writes_both<R: Threads + Wait + Sync + Abort + AllocGlobal>(
+    rt: &R,
+    plan: &Plan,
+    devices: &Devices,
+    file: Vec<u8>,
+    image: &[u8],
+    census: &str,
+) -> Result<(), Fail> {
+    let workers = plan.workers.number();
+    let outcome = run_over(rt, rt.alloc(), plan, file, devices)?;
+    assert!(rt; outcome.answer.is_ok(), "with {workers} workers");
+    assert_eq!(rt; outcome.image.as_slice(), image, "with {workers} workers");
+    assert_eq!(rt;
+        outcome.census.as_slice(),
+        census.as_bytes(),
+        "with {workers} workers"
+    );
+    Ok(())
+}
+
 /// Asserts that a run over a file is refused with this fault, and writes nothing.
 pub(crate) fn assert_refused<R: Threads + Wait + Sync + Abort + AllocGlobal>(
     rt: &R,
@@ -101,7 +145,17 @@ pub(crate) fn assert_refused<R: Threads + Wait + Sync + Abort + AllocGlobal>(
     file: Vec<u8>,
     fault: Fault,
 ) -> Result<(), Fail> {
-    let outcome = run_over(rt, rt.alloc(), &plan_of(weak, true)?, file, &SOUND)?;
+    assert_refused_by(rt, &plan_of(weak, true)?, file, fault)
+}
+
+/// Asserts that a run by a plan is refused with this fault, and writes nothing.
+pub(crate) fn assert_refused_by<R: Threads + Wait + Sync + Abort + AllocGlobal>(
+    rt: &R,
+    plan: &Plan,
+    file: Vec<u8>,
+    fault: Fault,
+) -> Result<(), Fail> {
+    let outcome = run_over(rt, rt.alloc(), plan, file, &SOUND)?;
     assert_eq!(rt; outcome.answer, Err(fault));
     assert!(rt; outcome.image.is_empty() && outcome.census.is_empty());
     Ok(())

@@ -1,6 +1,6 @@
 use Rattle.sqz_trace.specs.Edges.{strong_named}
 use Rattle.sqz_mark_tests.proofs.PassLemmas.{IsClaim-inside, IsClaim-wins, ClaimsTargets-slot, ClaimsTargets-won}
-use Rattle.sqz_mark_tests.proofs.alone.claim_target.Goals as goal
+use Rattle.sqz_mark_tests.proofs.targets.claim_target.Goals as goal
 
 pub count-requires-clause-inside : goal.count-requires-clause-inside
 count-requires-clause-inside c =
@@ -14,11 +14,10 @@ count-requires-clause-won c =
 
 pub returns-in_ok-push : goal.returns-in_ok-push
 returns-in_ok-push c =
-    rw c.in_ok-push.ensures.items
-    (ClaimsTargets-won c.args.table.now.heap.memory c.args.pass.now c.claim_of.new.pass c.args.parent.now c.args.slot
-    c.args.won.now.items c.requires.listed c.in-Won.found c.count.new.pass c.in-Won.ensures.claim c.count.ensures.step)
+    ClaimsTargets-won c.args.table.now.heap.memory c.args.pass.now c.claim_of.new.pass c.args.parent.now c.args.slot
+    c.in-Won.found c.count.new.pass c.in-Won.ensures.claim c.count.ensures.step
 
 pub returns-in_default : goal.returns-in_default
 returns-in_default c =
     ClaimsTargets-slot c.args.table.now.heap.memory c.args.pass.now c.claim_of.new.pass c.args.parent.now c.args.slot
-    c.args.won.now.items c.requires.listed c.claim_of.result c.in_default.not-Won c.claim_of.ensures.claim
+    c.claim_of.result c.in_default.not-Won c.claim_of.ensures.claim

@@ -1,0 +1,50 @@
+//! Reading a file and its image, and a sink, where memory is refused.
+
+use super::again::again;
+use super::dead_cycle::{FILE, assert_six_objects, image_in, new_sink};
+use sqz_image::{Fault, Image, ReadSource, Sink, read_all};
+use std::process::Abort;
+use std::test::Fail;
+
+/// The address of each object of the dead cycle's image, and its words.
+const OBJECTS: [(u32, &[u32]); 6] = [
+    (0x1000, &[0x1007]),
+    (0x1004, &[0x110B, 0x1014]),
+    (0x100C, &[0x110B, 0x101C]),
+    (0x1014, &[0x110B, 0x1004]),
+    (0x101C, &[0x110B, 0x100C]),
+    (0x1024, &[0x320F, 0x1000, 0x1004]),
+];
+
+/// The bytes of the file, from a source that gives all of them.
+fn file_read<R: Print + AllocGlobal>(rt: &R) -> Result<Vec<u8>, Fail> {
+    again!(
+        rt,
+        "read_all",
+        read_all(rt.alloc(), &mut ReadSource::new(FILE.as_slice()))
+    )
+}
+
+/// Asserts what the image is.
+fn assert_image<R: Abort>(rt: &R, image: &Image) {
+    assert!(rt; image.prefix().is_empty());
+    assert_eq!(rt; (image.header(0), image.header(2)), (6502, 48));
+    let heap = image.heap();
+    assert_six_objects(rt, heap);
+    for (object, (address, words)) in OBJECTS.iter().enumerate() {
+        let object = object as u32;
+        assert_eq!(rt; heap.address(object), *address, "object {object}");
+        assert_eq!(rt; heap.object(object).words(), *words, "object {object}");
+    }
+}
+
+#[test]
+fn reading_serves_again(rt: HostRuntime) -> Result<(), Fail> {
+    let file = file_read(&rt)?;
+    assert_eq!(rt; file.as_slice(), FILE.as_slice());
+    assert_image(&rt, &image_in(&rt, &file)?);
+    let mut sink = new_sink(&rt)?;
+    assert_eq!(rt; sink.write(&file), Ok(112));
+    assert_eq!(rt; sink.contents(), FILE.as_slice());
+    Ok(())
+}

@@ -1,0 +1,264 @@
+#!/usr/bin/env python3
+"""Runs the built program where memory is refused to it, and where its reads and writes fail.
+
+Usage: tests/faults.py
+
+Two libraries for LD_PRELOAD, which a C compiler makes of refuse_memory.c and fail_calls.c beside this file, refuse one
+request for memory of a run, or fail one of its reads or writes. Over each image below one request or call after the
+other is tried, until a run has no more of them. No answer may change in place of an error: the run ends with the
+fault and has written nothing, or a front of the answer where a write failed; or, where it can do without the memory,
+it does all that it is to do.
+
+The tests of crates/sqz_refusal_tests are then run in the same way: each public call that is refused memory is made again
+there, and prints its name. So is the test of crates/sqz_mark_tests that closes a table on which an image was marked.
+
+The last line is 'N passed, M failed'. Without a C compiler nothing is run, and a line says so.
+"""
+
+import array
+import collections
+import errno
+import itertools
+import os
+import re
+import subprocess
+import sys
+import tempfile
+
+ROOT = os.path.dirname(os.path.dirname(os.path.realpath(__file__)))
+IMAGES = os.path.join(ROOT, "images")
+PROGRAM = os.path.join(ROOT, "crates", "sqzcompact", "out", "sqzcompact")
+OLD = b"as it was\n"
+# What a run may take, in seconds. None that ends as it must takes a twentieth of that.
+SECONDS = 20
+# The exits of refused memory and of failed devices, and their lines.
+NO_MEMORY = (4, b"fault 15: out of memory\n")
+NOT_READ = (3, b"fault 16: cannot read the image\n")
+NOT_WRITTEN = (3, b"fault 17: cannot write the output\n")
+# The images: a dead array, dead objects that name each other, names of classes in both byte orders, and weak objects in a file
+# whose image stands behind 512 bytes.
+NAMES = ("dead_array", "dead_cycle", "class_names", "big_endian_class_names", "weak_array_behind_512_bytes")
+# How many objects the long chain has: so many that to go over all of them for each of them takes minutes.
+CHAIN = 300_000
+
+# The tests that make calls again, and all calls that can want memory but the program's own.
+CALLS_AGAIN = os.path.join(ROOT, "crates", "sqz_refusal_tests", "out", "sqz_refusal_tests_tests")
+TESTS_AGAIN = ("reading::reading_serves_again", "passes::passes_serve_again", "tables::mark_table_serves_again", "runs::run_serves_again")
+CALLS = {
+    "read_all", "MemorySink::new", "read_image", "mark_plain", "Regions::of", "live_words", "bases", "Forward::build", "mark_locked",
+    "mark", "slide", "census", "print", "MarkTable::new", "MarkTable::close", "run",
+}
+# The test that closes a table again, and what it ends with where another of its calls is refused memory.
+CLOSES_AGAIN = os.path.join(ROOT, "crates", "sqz_mark_tests", "out", "sqz_mark_tests_tests")
+TEST_OF_CLOSING = "steps::one_pass"
+WANTS_MEMORY = (b"error: OutOfMemory\n", b"error: AllocError\n")
+
+# A run: its options, the bytes of the image, and what it is to write and to print.
+Run = collections.namedtuple("Run", "options image answer census")
+# How a run ended, what it wrote, and whether something was refused to it.
+Outcome = collections.namedtuple("Outcome", "status said printed written was_refused")
+
+
+def read(path):
+    with open(path, "rb") as file:
+        return file.read()
+
+
+def write(path, data):
+    with open(path, "wb") as file:
+        file.write(data)
+
+
+def outcome_of(run, library, variables):
+    """What becomes of a run over files of the folder that this process is in, with a library and what it is told."""
+    write("in", run.image)
+    write("out", OLD)
+    if os.path.exists("refused"):
+        os.remove("refused")
+    environment = {**os.environ, "LD_PRELOAD": library, **variables}
+    words = [PROGRAM, *run.options, "in", "out"]
+    try:
+        ended = subprocess.run(words, capture_output=True, timeout=SECONDS, env=environment, check=False)
+    except subprocess.TimeoutExpired:
+        return Outcome(None, b"", b"", b"", True)
+    return Outcome(ended.returncode, ended.stderr, ended.stdout, read("out"), os.path.exists("refused"))
+
+
+def is_whole(outcome, run):
+    """Whether all was done."""
+    return outcome[:4] == (0, b"", run.census, run.answer)
+
+
+def is_undone(outcome, fault):
+    """Whether the run ended with this fault, and neither wrote nor printed anything."""
+    return outcome[:4] == (*fault, b"", OLD)
+
+
+def is_cut(outcome, run):
+    """Whether a write failed: a front of the answer was written, and a front of the census printed, if the answer was whole."""
+    fronts = run.answer.startswith(outcome.written) and run.census.startswith(outcome.printed)
+    return outcome[:2] == NOT_WRITTEN and fronts and (not outcome.printed or outcome.written == run.answer)
+
+
+def without_memory(outcome, run):
+    return is_undone(outcome, NO_MEMORY) or is_whole(outcome, run)
+
+
+def without_read(outcome, _run):
+    return is_undone(outcome, NOT_READ)
+
+
+def without_write(outcome, run):
+    return is_cut(outcome, run)
+
+
+def bears_each(run, library, variable, judge, others):
+    """Whether each run is as it must be in which one thing is refused; and how many of these end with a fault."""
+    faults = 0
+    for number in itertools.count(1):
+        outcome = outcome_of(run, library, {variable: str(number), **others})
+        if not (judge if outcome.was_refused else is_whole)(outcome, run):
+            print(f"{variable} {number}: exit {outcome.status}, {outcome.said!r}")
+            return False, faults
+        if not outcome.was_refused:
+            return True, faults
+        faults += outcome.status != 0
+
+
+def runs_over(name):
+    """The runs over an image: by one worker and by two, in regions of 8 words, with a census, by each policy on weak slots."""
+    image = read(os.path.join(IMAGES, f"{name}.image"))
+    for weak, workers in itertools.product(((), ("--clear-weak",)), ("1", "2")):
+        cleared = os.path.join(IMAGES, "cleared", name)
+        plain = os.path.join(IMAGES, f"{name}.compacted")
+        differs = weak and os.path.exists(f"{cleared}.image")
+        answer = read(f"{cleared if differs else plain}.image")
+        counted = os.path.exists(f"{cleared}.census") if weak else False
+        census = read(f"{cleared}.census" if counted else os.path.join(IMAGES, f"{name}.census"))
+        yield Run((*weak, "--workers", workers, "--region-words", "8", "--census"), image, answer, census)
+
+
+def words_of(*words):
+    return array.array("I", words).tobytes()
+
+
+def chain_run(workers):
+    """The run over a chain that goes up and down between both ends in turn. The special objects array names nil before it, so
+    that a worker's list of objects has to grow for the chain's first object, and is left with none where it does not."""
+    def address(place):
+        return 0x1004 + 8 * (place // 2 if place % 2 == 0 else CHAIN - 1 - place // 2)
+
+    data = array.array("I", [0x1007]) + array.array("I", bytes(8 * CHAIN)) + array.array("I", [0x320F, 0x1000, address(0)])
+    for place in range(CHAIN):
+        at = (address(place) - 0x1000) // 4
+        data[at] = 0x110B
+        data[at + 1] = address(place + 1) if place + 1 < CHAIN else 1
+    header = words_of(6502, 64, 4 * len(data), 0x1000, 0x1000 + 4 * (len(data) - 3), *[0] * 11)
+    image = header + data.tobytes()
+    return Run(("--workers", workers), image, image, b"")
+
+
+class Tests:
+    """What passed and what failed."""
+
+    def __init__(self):
+        self.passed = self.failed = self.faults = 0
+
+    def add(self, name, passed):
+        self.passed += passed
+        self.failed += not passed
+        if not passed:
+            print(f"failed: {name}")
+
+    def add_each(self, name, least, *words):
+        """Tries a run with one thing after the other refused, of which so many at least are to end with a fault."""
+        bears, faults = bears_each(*words)
+        self.faults += faults
+        self.add(name, bears and faults >= least)
+
+
+def compiled(name):
+    """The library that is made of a C file beside this one; None where there is no compiler."""
+    library = os.path.realpath(f"{name}.so")
+    words = ["cc", "-shared", "-fPIC", "-o", library, os.path.join(ROOT, "tests", f"{name}.c")]
+    try:
+        subprocess.run(words, check=True, stderr=subprocess.DEVNULL)
+    except (OSError, subprocess.CalledProcessError):
+        return None
+    return library
+
+
+def try_memory(tests, library):
+    for name in NAMES:
+        for run in runs_over(name):
+            tests.add_each(f"memory of {name} {run.options}", 20, run, library, "REFUSED_REQUEST", without_memory, {})
+    for workers in ("1", "2"):
+        run = chain_run(workers)
+        tests.add_each(f"memory of a chain, {workers}", 20, run, library, "REFUSED_REQUEST", without_memory, {})
+
+
+def try_calls(tests, library, name, run, way):
+    """Fails each read and each write of a run. Where calls move one byte, there is one at least for each byte."""
+    one_byte = "ONE_BYTE" in way
+    least = len(run.image) if one_byte else 2
+    tests.add_each(f"reads of {name} {run.options} {way}", least, run, library, "FAILED_READ", without_read, way)
+    least = len(run.answer + run.census) if one_byte else 2
+    tests.add_each(f"writes of {name} {run.options} {way}", least, run, library, "FAILED_WRITE", without_write, way)
+
+
+def try_devices(tests, library):
+    """Fails reads and writes for good and by a signal, and in the first run over each image such of one byte."""
+    failed, interrupted = ({"FAILED_ERROR": str(error)} for error in (errno.EIO, errno.EINTR))
+    for name in NAMES:
+        for run in runs_over(name):
+            try_calls(tests, library, name, run, failed)
+            try_calls(tests, library, name, run, interrupted)
+        try_calls(tests, library, name, next(runs_over(name)), {**failed, "ONE_BYTE": "1"})
+
+
+def ends_of(library, words):
+    """How a test ends in which one request for memory after the other is refused, as long as there is one."""
+    for number in itertools.count(1):
+        if os.path.exists("refused"):
+            os.remove("refused")
+        environment = {**os.environ, "LD_PRELOAD": library, "REFUSED_REQUEST": str(number)}
+        ended = subprocess.run(words, capture_output=True, timeout=SECONDS, env=environment, check=False)
+        if not os.path.exists("refused"):
+            return
+        yield ended
+
+
+def try_calls_again(tests, library):
+    """Each call serves that is made again, and each is refused at least once."""
+    refused = set()
+    for test in TESTS_AGAIN:
+        ends = list(ends_of(library, (CALLS_AGAIN, test)))
+        for ended in ends:
+            refused.update(re.findall("^refused: (.*)$", ended.stdout.decode(), re.MULTILINE))
+        tests.add(f"calls made again in {test}", ends and all(ended.returncode == 0 for ended in ends))
+    tests.add(f"calls that are refused: {sorted(refused)}", refused == CALLS)
+    ends = list(ends_of(library, (CLOSES_AGAIN, TEST_OF_CLOSING)))
+    closed = sum(ended.returncode == 0 for ended in ends)
+    others = sum(ended.returncode != 0 and ended.stderr.startswith(WANTS_MEMORY) for ended in ends)
+    tests.add("a table that is closed again", closed > 0 and closed + others == len(ends))
+
+
+def main():
+    tests = Tests()
+    with tempfile.TemporaryDirectory() as folder:
+        os.chdir(folder)
+        memory, calls = compiled("refuse_memory"), compiled("fail_calls")
+        if memory is None or calls is None:
+            print("left out: refused memory and failed calls, which want a C compiler", file=sys.stderr)
+        else:
+            try_memory(tests, memory)
+            try_devices(tests, calls)
+            try_calls_again(tests, memory)
+        os.chdir(ROOT)
+    print(f"{tests.faults} runs ended with a fault", file=sys.stderr)
+    print(f"{tests.passed} passed, {tests.failed} failed")
+    return 1 if tests.failed else 0
+
+
+if __name__ == "__main__":
+    sys.exit(main())
