@@ -38,8 +38,8 @@ NOT_WRITTEN = (3, b"fault 17: cannot write the output\n")
 # The images: a dead array, dead objects that name each other, names of classes in both byte orders, and weak objects in a file
 # whose image stands behind 512 bytes.
 NAMES = ("dead_array", "dead_cycle", "class_names", "big_endian_class_names", "weak_array_behind_512_bytes")
-# How many objects the long chain has: so many that to go over all of them for each of them takes minutes.
-CHAIN = 300_000
+# How many objects the long chain has: so many that to go over all of them for each of them takes longer than a run may.
+CHAIN = 500_000
 
 # The tests that make calls again, and all calls that can want memory but the program's own.
 CALLS_AGAIN = os.path.join(ROOT, "crates", "sqz_refusal_tests", "out", "sqz_refusal_tests_tests")
