@@ -2,8 +2,8 @@
 #![tactic(auto)]
 
 #[cfg(test)]
-mod targets;
-#[cfg(test)]
 mod passes;
 #[cfg(test)]
 mod steps;
+#[cfg(test)]
+mod targets;
