@@ -1,4 +1,4 @@
-use Rattle.std.proofs.Common.{◌≡◌, ◌<◌, ◌+◌, ℕ, sym, subst, arith, Some}
+use Rattle.std.proofs.Common.{◌≡◌, ◌<◌, ◌+◌, ℕ, subst, arith, Some}
 use Rattle.sqz_image.specs.declared.fault.Slot.TheVariants.{ClassWord}
 use Rattle.sqz_trace.specs.Edges.{HasEdge}
 use Rattle.sqz_trace.specs.Targets.{named_in, IsTargetBelow}
