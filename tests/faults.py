@@ -230,6 +230,10 @@ def ends_of(library, words):
 
 def try_calls_again(tests, library):
     """Each call serves that is made again, and each is refused at least once."""
+    unbuilt = [path for path in (CALLS_AGAIN, CLOSES_AGAIN) if not os.path.exists(path)]
+    if unbuilt:
+        tests.add(f"{unbuilt[0]} is not built, which `rt test` in its crate does", False)
+        return
     refused = set()
     for test in TESTS_AGAIN:
         ends = list(ends_of(library, (CALLS_AGAIN, test)))
