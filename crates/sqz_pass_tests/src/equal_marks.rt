@@ -68,16 +68,19 @@ fn assert_equal_under_both<R: Threads + Wait + Sync + Abort + AllocGlobal>(
 
 #[test]
 fn of_all_images(rt: HostRuntime) -> Result<(), Fail> {
-    for Words {
-        order,
-        base,
-        words,
-        special,
-    } in IMAGES {
-        assert!(rt; words.len() < 1000);
-        let file = file_of(rt.alloc(), order, base, words, special)?;
-        let image = read_image(rt.alloc(), &file)?;
-        assert_equal_under_both(&rt, &image, words)?;
+    for images in IMAGES {
+        for image in images {
+            let Words {
+                order,
+                base,
+                words,
+                special,
+            } = *image;
+            assert!(rt; words.len() < 1000);
+            let file = file_of(rt.alloc(), order, base, words, special)?;
+            let image = read_image(rt.alloc(), &file)?;
+            assert_equal_under_both(&rt, &image, words)?;
+        }
     }
     Ok(())
 }

@@ -51,21 +51,24 @@ fn count_settled<R: Threads + Wait + Sync + Abort + AllocGlobal>(
     bytes_before: usize,
 ) -> Result<u32, Fail> {
     let mut count = 0;
-    for Words {
-        order,
-        base,
-        words,
-        special,
-    } in IMAGES {
-        let data = Data {
-            base,
-            words,
-            special,
-        };
-        let file = behind(rt.alloc(), bytes_before, &file_with(rt, order, data)?)?;
-        if settles(rt, weak, file)? {
-            assert!(rt; count < 1000);
-            count += 1;
+    for images in IMAGES {
+        for image in images {
+            let Words {
+                order,
+                base,
+                words,
+                special,
+            } = *image;
+            let data = Data {
+                base,
+                words,
+                special,
+            };
+            let file = behind(rt.alloc(), bytes_before, &file_with(rt, order, data)?)?;
+            if settles(rt, weak, file)? {
+                assert!(rt; count < 1000);
+                count += 1;
+            }
         }
     }
     Ok(count)
