@@ -2,7 +2,7 @@
 use Rattle.std.proofs.Common.{◌≡◌, ◌≢◌, ℕ, ◌+◌, ◌-◌, ◌*◌, ◌%◌, ◌^◌, ◌<◌, ◌≤◌, List, [], map, length, get_or, take}
 use Rattle.std.proofs.Common.{drop, slice_index, Option, Some, None, refl, sym, ap, subst, ◌∙◌, arith}
 use Rattle.std.specs.List.{concat}
-use Rattle.sqz_image.specs.Ranks.{IsPlaceOf, IsRising, IsRanked, IsTable}
+use Rattle.sqz_image.specs.Ranks.{IsPlaceOf, IsRanked, IsTable}
 use Rattle.sqz_image.specs.declared.ranks.Block.{Block}
 use Rattle.std.proofs.lemmas.Simd.{map-map}
 use Rattle.std.proofs.lemmas.List.{length-map, get_or-map, get_or-take, get_or-drop, length-drop}
@@ -21,7 +21,7 @@ use Rattle.std.specs.Prelude.{is_some}
 use Rattle.sqz_image.specs.Index.{IsIndex}
 use Rattle.sqz_image.proofs.CutLemmas.{cut-partition}
 use Rattle.sqz_image.proofs.ObjectLemmas.{StandsIn, objects_stand, objects_keep, All_at, before-chunk}
-use Rattle.sqz_image.proofs.ObjectLemmas.{Rises, addresses_rise, Rises_order, find_in_at, find_in_none}
+use Rattle.sqz_image.proofs.ObjectLemmas.{Rises, addresses_rise, find_in_at, find_in_none}
 use Rattle.sqz_image.proofs.ObjectLemmas.{find_in-lt, length-objects_of}
 
 abbrev no_object : Object
@@ -124,18 +124,6 @@ module _ {memory : Memory} {words firsts : List ℕ} (heap : IsListed memory wor
   pub few_headers : length (base_headers memory) < 2 ^ 30
   few_headers = omega (arith, length_headers memory, few_objects)
 
-  pub headers_rise : IsRising (base_headers memory)
-  headers_rise i j lt in_range =
-      let inside : j < length (objects memory) = omega (arith, length_headers memory) in
-      let earlier = get_or-map header_index (objects memory) i no_object 0 (omega arith) in
-      let later = get_or-map header_index (objects memory) j no_object 0 inside in
-      let first = get_or-map (address_in memory.base) (objects memory) i no_object 0 (omega arith) in
-      let second = get_or-map (address_in memory.base) (objects memory) j no_object 0 inside in
-      let many = length-map (objects memory) (address_in memory.base) in
-      let order =
-      Rises_order memory.base (addresses memory) i j addresses_rising lt (omega (arith, many)) in
-      omega (arith, earlier, later, first, second, order)
-
   -- what a search of the addresses says of the objects
   pub find_by_search : (address : ℕ) (r : Option ℕ) → IsPlaceOf (addresses memory) address r
       → r ≡ find memory address
@@ -145,8 +133,8 @@ module _ {memory : Memory} {words firsts : List ℕ} (heap : IsListed memory wor
 
   -- the same of a look into a table of the base headers
   pub find_in_table : {blocks : List Block} (address : ℕ) (r : Option ℕ)
-      → IsRanked (base_headers memory) (length (base_headers memory)) blocks
-      → ((indexes : List ℕ) → IsRanked indexes (length indexes) blocks
+      → IsRanked (base_headers memory) blocks
+      → ((indexes : List ℕ) → IsRanked indexes blocks
       → IsPlaceOf (addresses_from memory.base indexes) address r)
       → r ≡ find memory address
   find_in_table address r ranked looked =
@@ -154,7 +142,7 @@ module _ {memory : Memory} {words firsts : List ℕ} (heap : IsListed memory wor
       (subst (λ (xs : List ℕ). IsPlaceOf xs address r) (addresses_of_headers memory)
       (looked (base_headers memory) ranked))
 
-  pub table_of : {blocks : List Block} → IsRanked (base_headers memory) (length (base_headers memory)) blocks
+  pub table_of : {blocks : List Block} → IsRanked (base_headers memory) blocks
       → IsTable blocks
   table_of ranked = record { numbers = base_headers memory; few = few_headers; ranked = ranked }
 
@@ -196,7 +184,8 @@ module _ {words : List ℕ} {object : Object} (here : HasObject words object) wh
 
 -- ---- the heap of an index
 
-module _ (order : Order) (base special : ℕ) {words firsts headers : List ℕ} (index : IsIndex words firsts headers) where
+module _ (order : Order) (base special : ℕ) {words firsts : List ℕ} {headers : List Block}
+    (index : IsIndex words firsts headers) where
   abbrev memory_read : Memory
   memory_read = memory_of order base special words
 
@@ -219,10 +208,11 @@ module _ (order : Order) (base special : ℕ) {words firsts headers : List ℕ} 
         aligned = aligned;
       }
 
-  -- an index has the base headers of the memory
-  pub headers_of : headers ≡ base_headers memory_read
+  -- its table has the base headers of the memory
+  pub headers_of : IsRanked (base_headers memory_read) headers
   headers_of =
-      index.base_headers ∙ ap (λ (cs : List (List ℕ)). map header_index (objects_of cs)) (sym same_chunks)
+      subst (λ (cs : List (List ℕ)). IsRanked (map header_index (objects_of cs)) headers) (sym same_chunks)
+      index.base_headers
 
   -- it is a memory of these words
   memory_of_index : IsMemory order base special words memory_read

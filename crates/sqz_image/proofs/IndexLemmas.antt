@@ -3,7 +3,7 @@ use Rattle.std.proofs.Common.{◌≡◌, ℕ, ◌+◌, ◌<◌, ◌≤◌, true,
 use Rattle.std.proofs.Common.{refl, sym, ap, subst, ◌∙◌, arith, zero-add, add-zero, add_assoc}
 use Rattle.std.specs.List.{concat}
 use Rattle.std.proofs.lemmas.List.{length-append, append_assoc, append-nil, map-append, take_all, length-drop}
-use Rattle.std.proofs.lemmas.List.{length-take-le}
+use Rattle.std.proofs.lemmas.List.{length-take-le, length-map}
 use Rattle.sqz_object.specs.declared.chunk.Chunk.{Chunk}
 use Rattle.sqz_object.specs.declared.chunk.Kind.{Kind}
 use Rattle.sqz_object.specs.declared.chunk.Kind.TheVariants.{Three, Two, Free, Short}
@@ -14,16 +14,25 @@ use Rattle.sqz_object.specs.Chunk.{IsChunkOf, is_object, before, words_before}
 use Rattle.sqz_object.proofs.ChunkLemmas.{chunk_kind_is}
 use Rattle.sqz_object.proofs.PartitionLemmas.{IsPartition-push}
 use Rattle.sqz_image.specs.Objects.{Object, objects_of, moved_on, header_index}
+use Rattle.sqz_image.specs.declared.ranks.Block.{Block}
 use Rattle.sqz_image.specs.Index.{IsIndex}
+use Rattle.sqz_image.specs.Ranks.{IsAbove, IsFilled}
 use Rattle.sqz_image.specs.Refusals.{HasNoPartition, refusal_of}
+use Rattle.sqz_image.proofs.ObjectLemmas.{before-chunk, length-objects_of}
+use Rattle.sqz_image.proofs.RankLemmas.{IsAbove-push, IsFilled-empty}
+
+-- the indexes of the base headers of the objects among chunks
+abbrev pub headers_in : List (List ℕ) → List ℕ
+headers_in chunks = map header_index (objects_of chunks)
 
 -- chunks reach up to a place, and these are the objects among them
-pub record IsIndexedUpTo (words : List ℕ) (place : ℕ) (firsts headers : List ℕ) : Type 0 where
+pub record IsIndexedUpTo (words : List ℕ) (place : ℕ) (firsts : List ℕ) (headers : List Block) : Type 0 where
   pub inside : place ≤ length words
   pub chunks : List (List ℕ)
   pub partition : IsPartition (take place words) chunks
   pub first_words : firsts ≡ map (λ object. object.first) (objects_of chunks)
-  pub base_headers : headers ≡ map header_index (objects_of chunks)
+  pub base_headers : IsFilled (headers_in chunks) headers
+  below : IsAbove (headers_in chunks) place
 
 -- ---- one chunk more
 
@@ -84,7 +93,30 @@ other_is_object Short (base ∷ fields) h used = rw h.0 refl
 other_is_object Free chunk h used = absurd (used refl)
 other_is_object _ _ h used = absurd h
 
-module _ {words : List ℕ} {place : ℕ} {firsts headers : List ℕ} (so_far : IsIndexedUpTo words place firsts headers) where
+module _ {words : List ℕ} {place : ℕ} {firsts : List ℕ} {headers : List Block}
+    (so_far : IsIndexedUpTo words place firsts headers) where
+  -- there is an index for each object, and no more objects than words
+  pub as_many : length (headers_in so_far.chunks) ≡ length firsts
+  as_many =
+      length-map (objects_of so_far.chunks) header_index
+      ∙ sym (length-map (objects_of so_far.chunks) (λ (o : Object). o.first))
+      ∙ ap length (sym so_far.first_words)
+
+  pub few_firsts : length firsts ≤ place
+  few_firsts =
+      omega (
+        arith,
+        as_many,
+        length-map (objects_of so_far.chunks) header_index,
+        length-objects_of so_far.chunks so_far.partition.each,
+        ap length so_far.partition.whole,
+        length-take-le place words so_far.inside,
+      )
+
+  -- a header from the place on is behind all others
+  pub is_above : (header : ℕ) → place ≤ header → IsAbove (headers_in so_far.chunks) header
+  is_above header le i lt = omega (arith, le, so_far.below i lt)
+
   -- no chunk begins at the place
   pub HasNoPartition-at : (reason : ChunkFault)
       → place < length words → HasNoChunk (drop place words) reason → HasNoPartition words (refusal_of reason place)
@@ -121,13 +153,18 @@ module _ {words : List ℕ} {place : ℕ} {firsts headers : List ℕ} (so_far : 
           chunks = so_far.chunks ++ here ∷ [];
           partition = partition_more;
           first_words = so_far.first_words ∙ ap (λ (os : List Object). map (λ o. o.first) os) (sym same);
-          base_headers = so_far.base_headers ∙ ap (λ (os : List Object). map header_index os) (sym same);
+          base_headers =
+              subst (λ (os : List Object). IsFilled (map header_index os) headers) (sym same) so_far.base_headers;
+          below =
+              subst (λ (os : List Object). IsAbove (map header_index os) (place + chunk.length)) (sym same)
+              (is_above (place + chunk.length) (omega arith));
         }
 
-    -- an object more
-    pub step_object : (chunk.kind ≡ Free → ⊥)
-        → IsIndexedUpTo words (place + chunk.length) (firsts ++ place ∷ []) (headers ++ (place + chunk.before) ∷ [])
-    step_object used =
+    -- an object more, with its header in the table
+    pub step_object : {more : List Block} → (chunk.kind ≡ Free → ⊥)
+        → IsFilled (headers_in so_far.chunks ++ (place + chunk.before) ∷ []) more
+        → IsIndexedUpTo words (place + chunk.length) (firsts ++ place ∷ []) more
+    step_object {more = more} used filled =
         let before_it = objects_of so_far.chunks in
         let same = objects_of-push so_far.chunks here (other_is_object chunk.kind here begins.is_chunk used) in
         let before_header : chunk.before ≡ before here =
@@ -136,6 +173,18 @@ module _ {words : List ℕ} {place : ℕ} {firsts headers : List ℕ} (so_far : 
         ap length so_far.partition.whole ∙ length-take-le place words so_far.inside in
         let object : Object = record { first = length (concat so_far.chunks); chunk = here } in
         let header : header_index object ≡ place + chunk.before = omega (arith, before_header, at) in
+        let headers_more : headers_in so_far.chunks ++ (place + chunk.before) ∷ []
+        ≡ headers_in (so_far.chunks ++ here ∷ []) =
+        ap (λ (n : ℕ). headers_in so_far.chunks ++ n ∷ []) (sym header)
+        ∙ sym (map-append header_index before_it (object ∷ []))
+        ∙ ap (λ (os : List Object). map header_index os) (sym same) in
+        let inside_chunk : place + chunk.before < place + chunk.length =
+        omega (
+          arith,
+          before_header,
+          before-chunk here (chunk.kind, begins.is_chunk),
+          length-take-le chunk.length (drop place words) begins.inside,
+        ) in
         record {
           inside = inside_more;
           chunks = so_far.chunks ++ here ∷ [];
@@ -145,11 +194,11 @@ module _ {words : List ℕ} {place : ℕ} {firsts headers : List ℕ} (so_far : 
               ∙ ap (λ (n : ℕ). map (λ (o : Object). o.first) before_it ++ n ∷ []) (sym at)
               ∙ sym (map-append (λ (o : Object). o.first) before_it (object ∷ []))
               ∙ ap (λ (os : List Object). map (λ o. o.first) os) (sym same);
-          base_headers =
-              ap (λ (xs : List ℕ). xs ++ (place + chunk.before) ∷ []) so_far.base_headers
-              ∙ ap (λ (n : ℕ). map header_index before_it ++ n ∷ []) (sym header)
-              ∙ sym (map-append header_index before_it (object ∷ []))
-              ∙ ap (λ (os : List Object). map header_index os) (sym same);
+          base_headers = subst (λ (xs : List ℕ). IsFilled xs more) headers_more filled;
+          below =
+              subst (λ (xs : List ℕ). IsAbove xs (place + chunk.length)) headers_more
+              (IsAbove-push (headers_in so_far.chunks) (place + chunk.before) (place + chunk.length)
+              (is_above (place + chunk.length) (omega arith)) inside_chunk);
         }
 
   -- the chunks reach up to the end
@@ -159,7 +208,7 @@ module _ {words : List ℕ} {place : ℕ} {firsts headers : List ℕ} (so_far : 
         chunks = so_far.chunks;
         partition = subst (λ (w : List ℕ). IsPartition w so_far.chunks) (take_all place words le) so_far.partition;
         first_words = so_far.first_words;
-        base_headers = so_far.base_headers;
+        base_headers = so_far.base_headers.ranked;
       }
 
 -- ---- where it starts
@@ -171,5 +220,6 @@ start words =
       chunks = [];
       partition = record { each = tt; whole = refl };
       first_words = refl;
-      base_headers = refl;
+      base_headers = IsFilled-empty;
+      below = λ i lt. absurd (omega (arith, lt));
     }

@@ -1,7 +1,7 @@
 -- The table of ranks, as far as it was filled, and what a look into it says.
-use Rattle.std.proofs.Common.{◌≡◌, ◌≢◌, ℕ, suc, ◌+◌, ◌-◌, ◌*◌, ◌/◌, ◌%◌, ◌^◌, ◌<◌, ◌≤◌, List, [], ◌++◌, length}
+use Rattle.std.proofs.Common.{◌≡◌, ◌≢◌, ℕ, suc, ◌+◌, ◌-◌, ◌*◌, ◌/◌, ◌%◌, ◌^◌, ◌<◌, ◌≤◌, List, [], ◌∷◌, ◌++◌, length}
 use Rattle.std.proofs.Common.{take, set, replicate, slice_index, count_ones, bit_and, bit_or, Some, None, refl}
-use Rattle.std.proofs.Common.{sym, ap, ◌∙◌, arith, inl, inr, below_more}
+use Rattle.std.proofs.Common.{sym, ap, ◌∙◌, arith, inl, inr}
 use Rattle.std.specs.Int.{bit_at}
 use Rattle.std.proofs.lemmas.Bool.{cases_eq, cases_lt, cases_order}
 use Rattle.std.proofs.lemmas.List.{take_all, length-append, length-replicate, length-set, get_or-set_same}
@@ -13,7 +13,7 @@ use Rattle.std.proofs.lemmas.Nat.Bits.{and_pow, bit_at-lt, bit_at-zero, bit_at_a
 use Rattle.std.proofs.Math.Nat.{mul-add-mod_self_right, two-pow-succ}
 use Rattle.std.proofs.Math.Pow.{pow_mono, pow_pos}
 use Rattle.sqz_image.specs.declared.ranks.Block.{Block}
-use Rattle.sqz_image.specs.Ranks.{IsPlaceOf, IsMember, IsRanked, block_of, rank}
+use Rattle.sqz_image.specs.Ranks.{IsPlaceOf, IsMember, IsRanked, IsAbove, IsReady, IsFilled, block_of, rank}
 
 -- ---- one bit more, above the others
 
@@ -62,29 +62,13 @@ member_inside blocks x is =
 
 -- ---- the numbers so far
 
--- the number is above them
-abbrev pub IsAbove : List ℕ → ℕ → ℕ → Type 0
-IsAbove numbers count x = (i : ℕ) → i < count → slice_index numbers i < x
-
--- the row of the next number has the last block, and in this all members so far are counted
-pub record IsReady (blocks : List Block) (count next : ℕ) : Type 0 where
-  pub last : length blocks ≡ next / 32 + 1
-  above : (block_of blocks next).members < 2 ^ (next % 32)
-  counted : (block_of blocks next).below + count_ones (block_of blocks next).members ≡ count
-
--- the table of the numbers so far, to which any number above them can be added
-pub record IsFilled (numbers : List ℕ) (count : ℕ) (blocks : List Block) : Type 0 where
-  pub ranked : IsRanked numbers count blocks
-  reach : (x : ℕ) → IsAbove numbers count x → length blocks ≤ x / 32 + 1
-  ready : (x : ℕ) → IsAbove numbers count x → x / 32 < length blocks → IsReady blocks count x
-
 -- the table of the numbers so far, with a block for the next one
-pub record IsAwaiting (numbers : List ℕ) (count : ℕ) (blocks : List Block) : Type 0 where
-  pub ranked : IsRanked numbers count blocks
-  pub ready : IsReady blocks count (slice_index numbers count)
+pub record IsAwaiting (numbers : List ℕ) (next : ℕ) (blocks : List Block) : Type 0 where
+  pub ranked : IsRanked numbers blocks
+  pub ready : IsReady blocks (length numbers) next
 
-pub IsFilled-empty : (numbers : List ℕ) → IsFilled numbers 0 []
-IsFilled-empty numbers =
+pub IsFilled-empty : IsFilled [] []
+IsFilled-empty =
     record {
       ranked = record {
         member = λ i lt. absurd (omega (arith, lt));
@@ -97,11 +81,45 @@ IsFilled-empty numbers =
 
 -- ---- the next number
 
-module _ (numbers : List ℕ) (count : ℕ) (blocks : List Block)
-    (ranked : IsRanked numbers count blocks)
-    (rising : IsAbove numbers count (slice_index numbers count)) where
-  abbrev next : ℕ
-  next = slice_index numbers count
+pub IsAbove-push : (numbers : List ℕ) (next x : ℕ) → IsAbove numbers x → next < x → IsAbove (numbers ++ next ∷ []) x
+IsAbove-push numbers next x above later i lt =
+    elim (cases_lt i (length numbers)) [
+      | inl early ↦ rw (get_or_append_left numbers (next ∷ []) 0 i early) (above i early)
+      | inr late ↦
+          let is : i - length numbers ≡ 0 = omega (arith, lt, late, length-append numbers (next ∷ [])) in
+          rw (get_or-append_right numbers (next ∷ []) (length numbers) i 0 refl late, is) later
+    ]
+
+module _ (numbers : List ℕ) (next : ℕ) (blocks : List Block)
+    (ranked : IsRanked numbers blocks)
+    (rising : IsAbove numbers next) where
+  abbrev count : ℕ
+  count = length numbers
+
+  abbrev with_next : List ℕ
+  with_next = numbers ++ next ∷ []
+
+  one_more : length with_next ≡ count + 1
+  one_more = length-append numbers (next ∷ [])
+
+  at_before : (i : ℕ) → i < count → slice_index with_next i ≡ slice_index numbers i
+  at_before i lt = get_or_append_left numbers (next ∷ []) 0 i lt
+
+  at_next : slice_index with_next count ≡ next
+  at_next =
+      let none : count - count ≡ 0 = omega arith in
+      get_or-append_right numbers (next ∷ []) count count 0 refl (omega arith) ∙ rw none refl
+
+  -- what holds of each number and of the next one holds of all
+  of_all : (P : ℕ → ℕ → Type 0) → ((i : ℕ) → i < count → P (slice_index numbers i) i) → P next count
+      → (i : ℕ) → i < length with_next → P (slice_index with_next i) i
+  of_all P before last i lt =
+      elim (cases_lt i count) [
+        | inl early ↦ rw (at_before i early) (before i early)
+        | inr late ↦
+            let is : i ≡ count = omega (arith, lt, late, one_more) in
+            rw (is, at_next) last
+      ]
 
   -- ---- its bit is set in the last block
 
@@ -157,10 +175,12 @@ module _ (numbers : List ℕ) (count : ℕ) (blocks : List Block)
         (ap (λ (n : ℕ). old.below + count_ones n) (mod_low 1 bit old.members ready.above) ∙ ready.counted)
 
     abbrev IsPlaced : ℕ → Type 0
-    IsPlaced x = (i : ℕ) × (i < count + 1) × (slice_index numbers i ≡ x)
+    IsPlaced x = (i : ℕ) × (i < length with_next) × (slice_index with_next i ≡ x)
 
     one_of_more : (x : ℕ) → IsMember blocks x → IsPlaced x
-    one_of_more x is = let found = ranked.only x is in (found.0, omega (arith, found.1), found.2)
+    one_of_more x is =
+        let found = ranked.only x is in
+        (found.0, omega (arith, found.1, one_more), at_before found.0 found.1 ∙ found.2)
 
     only_more : (x : ℕ) → IsMember more x → IsPlaced x
     only_more x is =
@@ -168,7 +188,7 @@ module _ (numbers : List ℕ) (count : ℕ) (blocks : List Block)
           | inl same ↦
               let marked : bit_at (with_bit bit old.members) (x % 32) ≡ 1 = rw (here x same) at is in
               elim (cases_order (x % 32) bit) [
-                | inl equal ↦ (count, omega arith, omega (arith, same, equal))
+                | inl equal ↦ (count, omega (arith, one_more), at_next ∙ omega (arith, same, equal))
                 | inr (inl lower) ↦
                     let before = sym (bit_at_cat_low 1 bit old.members (x % 32) lower) ∙ marked in
                     one_of_more x (rw (as_before x same) before)
@@ -179,42 +199,43 @@ module _ (numbers : List ℕ) (count : ℕ) (blocks : List Block)
           | inr other ↦ one_of_more x (rw (elsewhere x other) at is)
         ]
 
-    ready_more : (x : ℕ) → IsAbove numbers (count + 1) x → x / 32 < length more → IsReady more (count + 1) x
+    below_later : (x : ℕ) → IsAbove with_next x → next < x
+    below_later x above = rw at_next at (above count (omega (arith, one_more)))
+
+    ready_more : (x : ℕ) → IsAbove with_next x → x / 32 < length more → IsReady more (length with_next) x
     ready_more x above lt =
-        let later : next < x = above count (omega arith) in
+        let later = below_later x above in
         let size : length more ≡ next / 32 + 1 = length-set blocks (next / 32) new ∙ ready.last in
         let same : x / 32 ≡ next / 32 = omega (arith, lt, later, size) in
         record {
           last = omega (arith, size, same);
           above = rw (here x same) (with_bit_below bit old.members (x % 32) ready.above (omega (arith, later, same)));
-          counted = rw (here x same) (omega (arith, ones-with_bit bit old.members ready.above, ready.counted));
+          counted = rw (here x same) (omega (arith, ones-with_bit bit old.members ready.above, ready.counted, one_more));
         }
 
-    IsFilled-set : IsFilled numbers (count + 1) more
+    IsFilled-set : IsFilled with_next more
     IsFilled-set =
         record {
           ranked = record {
             member =
-                below_more (λ i. IsMember more (slice_index numbers i)) count
+                of_all (λ x i. IsMember more x)
                 (λ i lt. member_before (slice_index numbers i) (rising i lt) (ranked.member i lt)) member_next;
             place =
-                below_more (λ i. rank more (slice_index numbers i) ≡ i) count
+                of_all (λ x i. rank more x ≡ i)
                 (λ i lt. rank_before (slice_index numbers i) (rising i lt) ∙ ranked.place i lt) rank_next;
             only = only_more;
           };
           reach = λ x above.
-              let later : next < x = above count (omega arith) in
-              omega (arith, later, length-set blocks (next / 32) new, ready.last);
+              omega (arith, below_later x above, length-set blocks (next / 32) new, ready.last);
           ready = ready_more;
         }
 
     -- as the code writes the block
-    abbrev with_next : Block → Block
-    with_next block =
+    abbrev with_its_bit : Block → Block
+    with_its_bit block =
         record { members = bit_or block.members (1 * 2 ^ (next % 32) % 2 ^ 32); below = block.below }
 
-    pub IsFilled-or : (block : Block) → block ≡ old
-        → IsFilled numbers (count + 1) (set blocks (next / 32) (with_next block))
+    pub IsFilled-or : (block : Block) → block ≡ old → IsFilled with_next (set blocks (next / 32) (with_its_bit block))
     IsFilled-or block is =
         rw (is, or_bit bit old.members (omega arith) ready.above) IsFilled-set
 
@@ -255,7 +276,7 @@ module _ (numbers : List ℕ) (count : ℕ) (blocks : List Block)
     as_it_was i lt =
         before_longer (slice_index numbers i) (member_inside blocks (slice_index numbers i) (ranked.member i lt))
 
-    longer_ranked : IsRanked numbers count longer
+    longer_ranked : IsRanked numbers longer
     longer_ranked =
         record {
           member = λ i lt. rw (as_it_was i lt) (ranked.member i lt);
@@ -272,22 +293,21 @@ module _ (numbers : List ℕ) (count : ℕ) (blocks : List Block)
           counted = rw last (omega (arith, ones_le_self 0));
         }
 
-    pub IsAwaiting-longer : IsAwaiting numbers count (take (next / 32 + 1) blocks ++ replicate added empty)
+    pub IsAwaiting-longer : IsAwaiting numbers next (take (next / 32 + 1) blocks ++ replicate added empty)
     IsAwaiting-longer =
         rw (take_all (next / 32 + 1) blocks (omega (arith, absent)))
         (record { ranked = longer_ranked; ready = longer_ready })
 
-pub IsAwaiting-filled : (numbers : List ℕ) (count : ℕ) (blocks : List Block)
-    → IsFilled numbers count blocks → IsAbove numbers count (slice_index numbers count)
-    → slice_index numbers count / 32 < length blocks
-    → IsAwaiting numbers count blocks
-IsAwaiting-filled numbers count blocks filled rising inside =
-    record { ranked = filled.ranked; ready = filled.ready (slice_index numbers count) rising inside }
+pub IsAwaiting-filled : (numbers : List ℕ) (next : ℕ) (blocks : List Block)
+    → IsFilled numbers blocks → IsAbove numbers next → next / 32 < length blocks
+    → IsAwaiting numbers next blocks
+IsAwaiting-filled numbers next blocks filled rising inside =
+    record { ranked = filled.ranked; ready = filled.ready next rising inside }
 
 -- ---- a look into the table
 
 module _ (numbers : List ℕ) (blocks : List Block)
-    (ranked : IsRanked numbers (length numbers) blocks) (x : ℕ) where
+    (ranked : IsRanked numbers blocks) (x : ℕ) where
   module _ (block : Block) (there : block ≡ block_of blocks x) where
     abbrev mask : ℕ
     mask = 1 * 2 ^ (x % 32) % 2 ^ 32

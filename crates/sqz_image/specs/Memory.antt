@@ -46,7 +46,7 @@ pub record IsListed (memory : Memory) (words firsts : List ℕ) : Type 0 where
 -- and the table of their base headers, by which an address is found, and which object the special objects array is
 pub record IsKept (memory : Memory) (words firsts : List ℕ) (blocks : List Block) (special_object : ℕ) : Type 0 where
   pub listed : IsListed memory words firsts
-  pub headers : IsRanked (base_headers memory) (length (base_headers memory)) blocks
+  pub headers : IsRanked (base_headers memory) blocks
   pub found : find memory memory.special ≡ Some special_object
 
 -- an object memory with these data words

@@ -1,5 +1,5 @@
 -- The place of a number among numbers that rise, and a table that tells it: a bit for each number, and ranks.
-use Rattle.std.specs.Prelude.{◌≡◌, ◌≢◌, ℕ, ◌+◌, ◌/◌, ◌%◌, ◌^◌, ◌<◌, List, length, slice_index, slice_index_or, Option}
+use Rattle.std.specs.Prelude.{◌≡◌, ◌≢◌, ℕ, ◌+◌, ◌/◌, ◌%◌, ◌^◌, ◌<◌, ◌≤◌, List, length, slice_index, slice_index_or, Option}
 use Rattle.std.specs.Prelude.{Some, None, count_ones}
 use Rattle.std.specs.Int.{bit_at}
 use Rattle.sqz_image.specs.declared.ranks.Block.{Block}
@@ -8,10 +8,6 @@ use Rattle.sqz_image.specs.declared.ranks.Block.{Block}
 abbrev pub IsPlaceOf : List ℕ → ℕ → Option ℕ → Type 0
 IsPlaceOf xs x None = (i : ℕ) → i < length xs → slice_index xs i ≢ x
 IsPlaceOf xs x (Some i) = (i < length xs) × (slice_index xs i ≡ x)
-
--- each number is below those behind it
-abbrev pub IsRising : List ℕ → Type 0
-IsRising xs = (i j : ℕ) → i < j → j < length xs → slice_index xs i < slice_index xs j
 
 -- how many numbers a block has a bit for
 abbrev pub block_size : ℕ
@@ -28,14 +24,30 @@ IsMember blocks x = bit_at (block_of blocks x).members (x % block_size) ≡ 1
 abbrev pub rank : List Block → ℕ → ℕ
 rank blocks x = (block_of blocks x).below + count_ones ((block_of blocks x).members % 2 ^ (x % block_size))
 
--- a table whose members are so many of the numbers, the first ones, and which tells their places
-pub record IsRanked (numbers : List ℕ) (count : ℕ) (blocks : List Block) : Type 0 where
-  pub member : (i : ℕ) → i < count → IsMember blocks (slice_index numbers i)
-  pub place : (i : ℕ) → i < count → rank blocks (slice_index numbers i) ≡ i
-  pub only : (x : ℕ) → IsMember blocks x → (i : ℕ) × (i < count) × (slice_index numbers i ≡ x)
+-- a table whose members are the numbers, and which tells their places
+pub record IsRanked (numbers : List ℕ) (blocks : List Block) : Type 0 where
+  pub member : (i : ℕ) → i < length numbers → IsMember blocks (slice_index numbers i)
+  pub place : (i : ℕ) → i < length numbers → rank blocks (slice_index numbers i) ≡ i
+  pub only : (x : ℕ) → IsMember blocks x → (i : ℕ) × (i < length numbers) × (slice_index numbers i ≡ x)
 
 -- a table of some numbers
 pub record IsTable (blocks : List Block) : Type 0 where
   pub numbers : List ℕ
   pub few : length numbers < 2 ^ 30
-  pub ranked : IsRanked numbers (length numbers) blocks
+  pub ranked : IsRanked numbers blocks
+
+-- the number is above them
+abbrev pub IsAbove : List ℕ → ℕ → Type 0
+IsAbove numbers x = (i : ℕ) → i < length numbers → slice_index numbers i < x
+
+-- the row of the next number has the last block, and in this all members so far are counted
+pub record IsReady (blocks : List Block) (count next : ℕ) : Type 0 where
+  pub last : length blocks ≡ next / block_size + 1
+  pub above : (block_of blocks next).members < 2 ^ (next % block_size)
+  pub counted : (block_of blocks next).below + count_ones (block_of blocks next).members ≡ count
+
+-- the table of the numbers so far, to which any number above them can be added
+pub record IsFilled (numbers : List ℕ) (blocks : List Block) : Type 0 where
+  pub ranked : IsRanked numbers blocks
+  pub reach : (x : ℕ) → IsAbove numbers x → length blocks ≤ x / block_size + 1
+  pub ready : (x : ℕ) → IsAbove numbers x → x / block_size < length blocks → IsReady blocks (length numbers) x

@@ -13,7 +13,7 @@ ghost use Rattle.sqz_image.specs.Ranks.{IsPlaceOf, IsRanked, IsTable};
 use crate::fault::Fault;
 use crate::index::{Index, index_of};
 use crate::object::Object;
-use crate::ranks::{Block, place_of, ranked};
+use crate::ranks::{Block, place_of};
 use sqz_object::{Chunk, Order, chunk_at};
 use std::alloc::Global;
 use std::marker::Model;
@@ -63,7 +63,6 @@ impl Heap {
     {
         let index = index_of(alloc, &words)?;
         let Index { firsts, headers } = index;
-        let headers = ranked(alloc, &headers)?;
         let Some(special_object) = place_at(&headers, base, special) else {
             return Err(Fault::BadSpecialObjects);
         };
@@ -209,7 +208,7 @@ pub fn heap_bounds(heap: &Heap)
 /// address being `base`.
 fn place_at(headers: &[Block], base: u32, address: u32) -> Option<u32>
     requires { IsTable headers.now }
-    ensures { (indexes : List ℕ) → IsRanked indexes (length indexes) headers.now
+    ensures { (indexes : List ℕ) → IsRanked indexes headers.now
         → IsPlaceOf (map (λ index. base + 4 * index) indexes) address result }
 {
     let offset = address.checked_sub(base)?;

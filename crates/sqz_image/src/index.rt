@@ -6,6 +6,7 @@ ghost use Rattle.sqz_image.specs.Index.{IsIndex};
 ghost use Rattle.sqz_image.specs.Refusals.{HasNoPartition, refusal_of};
 
 use crate::fault::Fault;
+use crate::ranks::{Block, add};
 use sqz_object::{ChunkFault, Kind, chunk_at};
 use std::alloc::Global;
 
@@ -14,8 +15,8 @@ use std::alloc::Global;
 pub(crate) struct Index {
     /// The index of the first word of each object's chunk.
     pub firsts: Vec<u32>,
-    /// The index of each object's base header.
-    pub headers: Vec<u32>,
+    /// The table of the indexes of the base headers.
+    pub headers: Vec<Block>,
 }
 
 /// The objects of words that are chunks, one after the other. Refused at the first chunk that cannot
@@ -36,8 +37,9 @@ pub(crate) fn index_of(alloc: Global, words: &[u32]) -> Result<Index, Fault>
         match chunk.kind {
             Kind::Free => {}
             _ => {
-                firsts.push(p as u32)?;
-                headers.push(p as u32 + chunk.before)?;
+                let first = p as u32;
+                add(&mut headers, firsts.len() as u32, first + chunk.before)?;
+                firsts.push(first)?;
             }
         }
         p += chunk.length as usize;

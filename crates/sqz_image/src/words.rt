@@ -1,7 +1,7 @@
 //! The words that the bytes of a file spell.
 
 ghost use Rattle.std.specs.Prelude.{◌≡◌, ◌≤◌, IfOk, length, take};
-ghost use Rattle.sqz_object.specs.Bytes.{words_of};
+ghost use Rattle.sqz_object.specs.Bytes.{number_of, words_of};
 
 use sqz_object::{Order, word_at};
 use std::alloc::{AllocError, Global};
@@ -10,12 +10,15 @@ use std::alloc::{AllocError, Global};
 pub(crate) fn words_of(alloc: Global, order: Order, bytes: &[u8]) -> Result<Vec<u32>, AllocError>
     ensures { IfOk result (λ words. words.items ≡ words_of order bytes.now) }
 {
-    let count = bytes.len() / 4;
-    let mut words = Vec::with_capacity(alloc, count)?;
-    for k in 0..count {
-        words.push(word_at(bytes, order, k))?;
-    }
-    Ok(words)
+    let (chunks, _) = bytes.as_chunks::<4>();
+    chunks
+        .iter()
+        .map(
+            |chunk: &[u8; 4]| -> u32
+                ensures { result ≡ number_of order chunk.now }
+            { word_at(chunk, order, 0) },
+        )
+        .collect(alloc)
 }
 
 /// The sixteen words that the first 64 bytes spell.

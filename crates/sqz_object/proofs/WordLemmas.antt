@@ -1,7 +1,8 @@
 -- The words that bytes spell, one by one, and the bytes that words are spelled by.
 use Rattle.std.proofs.Common.{◌≡◌, ℕ, zero, suc, ◌+◌, ◌*◌, ◌/◌, ◌^◌, ◌<◌, ◌≤◌, List, [], ◌∷◌, ◌++◌, length}
-use Rattle.std.proofs.Common.{take, drop, slice_index, refl, sym, ap, ◌∙◌, arith}
+use Rattle.std.proofs.Common.{map, take, drop, slice_index, refl, sym, ap, ◌∙◌, arith}
 use Rattle.std.proofs.lemmas.List.{append_assoc, length-append}
+use Rattle.std.specs.Simd.{first_chunks}
 use Rattle.byteorder.specs.Numbers.{little_from-lt, big_from-lt, little_number-reads_back, big_number-reads_back}
 use Rattle.sqz_object.specs.declared.order.Order.{Order}
 use Rattle.sqz_object.specs.declared.order.Order.TheVariants.{Little, Big}
@@ -26,6 +27,22 @@ words_of-at order [] k le = absurd (omega arith)
 words_of-at order (a ∷ []) k le = absurd (omega arith)
 words_of-at order (a ∷ b ∷ []) k le = absurd (omega arith)
 words_of-at order (a ∷ b ∷ c ∷ []) k le = absurd (omega arith)
+
+-- each chunk of four bytes spells one
+pub words_of-chunks : (order : Order) (count : ℕ) (bytes : List ℕ)
+    → length bytes / 4 ≡ count → map (number_of order) (first_chunks 4 count bytes) ≡ words_of order bytes
+words_of-chunks order zero (a ∷ b ∷ c ∷ d ∷ rest) is = absurd (omega (arith, is))
+words_of-chunks order (suc count) (a ∷ b ∷ c ∷ d ∷ rest) is =
+    ap (λ (words : List ℕ). number_of order (a ∷ b ∷ c ∷ d ∷ []) ∷ words)
+    (words_of-chunks order count rest (omega (arith, is)))
+words_of-chunks order zero [] is = refl
+words_of-chunks order zero (a ∷ []) is = refl
+words_of-chunks order zero (a ∷ b ∷ []) is = refl
+words_of-chunks order zero (a ∷ b ∷ c ∷ []) is = refl
+words_of-chunks order (suc count) [] is = absurd (omega (arith, is))
+words_of-chunks order (suc count) (a ∷ []) is = absurd (omega (arith, is))
+words_of-chunks order (suc count) (a ∷ b ∷ []) is = absurd (omega (arith, is))
+words_of-chunks order (suc count) (a ∷ b ∷ c ∷ []) is = absurd (omega (arith, is))
 
 -- one word more at the end is four bytes more
 pub spelling_of-append : (order : Order) (xs ys : List ℕ)

@@ -1,7 +1,8 @@
-use Rattle.std.proofs.Common.{inr}
+use Rattle.std.proofs.Common.{◌≡◌, ◌+◌, length, sym, ◌∙◌, arith, inr}
 use Rattle.sqz_image.proofs.IndexLemmas.{start, step_free, step_object, HasNoPartition-at, whole_index}
+use Rattle.sqz_image.proofs.IndexLemmas.{as_many, few_firsts, headers_in, is_above}
 use Rattle.sqz_image.proofs.index.index_of.Goals as goal
-use Rattle.sqz_image.proofs.index.index_of.Goals.{in-Free, in_default+in_ok-push-in_default+in_ok-push-in_default-2}
+use Rattle.sqz_image.proofs.index.index_of.Goals.{in-Free, in_default+in_ok-add-in_default+in_ok-push-in_default}
 
 pub loop-p-init : goal.loop-p-init
 loop-p-init c = rw (c.new-firsts.ensures.items, c.new-headers.ensures.items) (start c.args.words.now)
@@ -12,15 +13,25 @@ returns-in-Err-clause-refused c =
     (rw c.refusal_of.ensures
     (HasNoPartition-at c.loop-p.invariant c.in-Err.reason c.loop-p-test.true c.in-Err.ensures.fault))
 
+pub overflow_cast-len : goal.overflow_cast-len
+overflow_cast-len c =
+    let count : c.len.result ≡ length c.loop-p.firsts.items = c.len.ensures ∙ c.loop-p.firsts.ok.0 in
+    omega (arith, count, few_firsts c.loop-p.invariant, c.loop-p.invariant.inside, c.requires.few)
+
 pub loop-p-preserved : goal.loop-p-preserved
 loop-p-preserved c =
+    let so_far = c.loop-p.invariant in
+    let chunk = c.in-Ok.chunk in
     elim c.match-chunk.branch [
       | in-Free w ↦
-          rw (w.firsts-is, w.headers-is)
-          (step_free c.loop-p.invariant c.in-Ok.chunk c.in-Ok.ensures.chunk w.in-Free.is)
-      | in_default+in_ok-push-in_default+in_ok-push-in_default-2 w ↦
-          rw (w.firsts-is, w.headers-is, w.in_ok-push-in_default.ensures.items, w.in_ok-push-in_default-2.ensures.items)
-          (step_object c.loop-p.invariant c.in-Ok.chunk c.in-Ok.ensures.chunk w.in_default.not-Free)
+          rw (w.firsts-is, w.headers-is) (step_free so_far chunk c.in-Ok.ensures.chunk w.in-Free.is)
+      | in_default+in_ok-add-in_default+in_ok-push-in_default w ↦
+          let count : w.len.result ≡ length c.loop-p.firsts.items = w.len.ensures ∙ c.loop-p.firsts.ok.0 in
+          let filled =
+          w.in_ok-add-in_default.ensures (headers_in so_far.chunks) so_far.base_headers
+          (as_many so_far ∙ sym count) (is_above so_far (c.loop-p.p + chunk.before) (omega arith)) in
+          rw (w.firsts-is, w.headers-is, w.in_ok-push-in_default.ensures.items)
+          (step_object so_far chunk c.in-Ok.ensures.chunk w.in_default.not-Free filled)
     ]
 
 pub returns-clause-index : goal.returns-clause-index
