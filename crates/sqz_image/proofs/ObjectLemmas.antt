@@ -137,16 +137,6 @@ Rises_at low (x ∷ xs) zero lt h = omega (arith, h.0)
 Rises_at low (x ∷ xs) (suc i) lt h =
     let le : suc x + i ≤ get_or xs i 0 = Rises_at (suc x) xs i (omega arith) h.1 in omega (arith, h.0)
 
-pub Rises_order : (low : ℕ) (xs : List ℕ) (i j : ℕ)
-    → Rises low xs → i < j → j < length xs → get_or xs i 0 < get_or xs j 0
-unfolding Rises
-Rises_order low [] i j h lt in_range = absurd (omega arith)
-Rises_order low (x ∷ xs) zero zero h lt in_range = absurd (omega arith)
-Rises_order low (x ∷ xs) zero (suc j) h lt in_range =
-    let le : suc x + j ≤ get_or xs j 0 = Rises_at (suc x) xs j (omega arith) h.1 in omega arith
-Rises_order low (x ∷ xs) (suc i) zero h lt in_range = absurd (omega arith)
-Rises_order low (x ∷ xs) (suc i) (suc j) h lt in_range = Rises_order (suc x) xs i j h.1 (omega arith) (omega arith)
-
 -- ---- finding an address
 
 -- the first place of a number

@@ -81,18 +81,7 @@ IsFilled-empty =
 
 -- ---- the next number
 
-pub IsAbove-push : (numbers : List ℕ) (next x : ℕ) → IsAbove numbers x → next < x → IsAbove (numbers ++ next ∷ []) x
-IsAbove-push numbers next x above later i lt =
-    elim (cases_lt i (length numbers)) [
-      | inl early ↦ rw (get_or_append_left numbers (next ∷ []) 0 i early) (above i early)
-      | inr late ↦
-          let is : i - length numbers ≡ 0 = omega (arith, lt, late, length-append numbers (next ∷ [])) in
-          rw (get_or-append_right numbers (next ∷ []) (length numbers) i 0 refl late, is) later
-    ]
-
-module _ (numbers : List ℕ) (next : ℕ) (blocks : List Block)
-    (ranked : IsRanked numbers blocks)
-    (rising : IsAbove numbers next) where
+module _ (numbers : List ℕ) (next : ℕ) where
   abbrev count : ℕ
   count = length numbers
 
@@ -121,182 +110,186 @@ module _ (numbers : List ℕ) (next : ℕ) (blocks : List Block)
             rw (is, at_next) last
       ]
 
-  -- ---- its bit is set in the last block
+  pub IsAbove-push : (x : ℕ) → IsAbove numbers x → next < x → IsAbove with_next x
+  IsAbove-push x above later = of_all (λ y i. y < x) above later
 
-  module _ (ready : IsReady blocks count next) where
-    abbrev old : Block
-    old = block_of blocks next
+  module _ (blocks : List Block) (ranked : IsRanked numbers blocks) (rising : IsAbove numbers next) where
+    -- ---- its bit is set in the last block
 
-    abbrev bit : ℕ
-    bit = next % 32
+    module _ (ready : IsReady blocks count next) where
+      abbrev old : Block
+      old = block_of blocks next
 
-    abbrev new : Block
-    new = record { members = with_bit bit old.members; below = old.below }
+      abbrev bit : ℕ
+      bit = next % 32
 
-    abbrev more : List Block
-    more = set blocks (next / 32) new
+      abbrev new : Block
+      new = record { members = with_bit bit old.members; below = old.below }
 
-    -- the block of a number, in its row and in others
-    here : (x : ℕ) → x / 32 ≡ next / 32 → block_of more x ≡ new
-    here x same = rw same (get_or-set_same blocks (next / 32) new no_members (omega (arith, ready.last)))
+      abbrev more : List Block
+      more = set blocks (next / 32) new
 
-    as_before : (x : ℕ) → x / 32 ≡ next / 32 → block_of blocks x ≡ old
-    as_before x same = rw same refl
+      -- the block of a number, in its row and in others
+      here : (x : ℕ) → x / 32 ≡ next / 32 → block_of more x ≡ new
+      here x same = rw same (get_or-set_same blocks (next / 32) new no_members (omega (arith, ready.last)))
 
-    elsewhere : (x : ℕ) → x / 32 ≢ next / 32 → block_of more x ≡ block_of blocks x
-    elsewhere x other = get_or-set_other blocks (next / 32) (x / 32) new no_members other
+      as_before : (x : ℕ) → x / 32 ≡ next / 32 → block_of blocks x ≡ old
+      as_before x same = rw same refl
 
-    member_before : (x : ℕ) → x < next → IsMember blocks x → IsMember more x
-    member_before x lt is =
-        elim (cases_eq (x / 32) (next / 32)) [
-          | inl same ↦
-              let kept : bit_at (with_bit bit old.members) (x % 32) ≡ bit_at old.members (x % 32) =
-              bit_at_cat_low 1 bit old.members (x % 32) (omega arith) in
-              rw (here x same) (kept ∙ rw (as_before x same) at is)
-          | inr other ↦ rw (elsewhere x other) is
-        ]
+      elsewhere : (x : ℕ) → x / 32 ≢ next / 32 → block_of more x ≡ block_of blocks x
+      elsewhere x other = get_or-set_other blocks (next / 32) (x / 32) new no_members other
 
-    rank_before : (x : ℕ) → x < next → rank more x ≡ rank blocks x
-    rank_before x lt =
-        elim (cases_eq (x / 32) (next / 32)) [
-          | inl same ↦
-              let kept : with_bit bit old.members % 2 ^ (x % 32) ≡ old.members % 2 ^ (x % 32) =
-              mod-with_bit bit old.members (x % 32) (omega arith) in
-              rw (here x same, as_before x same) (ap (λ (n : ℕ). old.below + count_ones n) kept)
-          | inr other ↦ rw (elsewhere x other) refl
-        ]
+      member_before : (x : ℕ) → x < next → IsMember blocks x → IsMember more x
+      member_before x lt is =
+          elim (cases_eq (x / 32) (next / 32)) [
+            | inl same ↦
+                let kept : bit_at (with_bit bit old.members) (x % 32) ≡ bit_at old.members (x % 32) =
+                bit_at_cat_low 1 bit old.members (x % 32) (omega arith) in
+                rw (here x same) (kept ∙ rw (as_before x same) at is)
+            | inr other ↦ rw (elsewhere x other) is
+          ]
 
-    member_next : IsMember more next
-    member_next = rw (here next refl) (bit_at-with_bit bit old.members ready.above)
+      rank_before : (x : ℕ) → x < next → rank more x ≡ rank blocks x
+      rank_before x lt =
+          elim (cases_eq (x / 32) (next / 32)) [
+            | inl same ↦
+                let kept : with_bit bit old.members % 2 ^ (x % 32) ≡ old.members % 2 ^ (x % 32) =
+                mod-with_bit bit old.members (x % 32) (omega arith) in
+                rw (here x same, as_before x same) (ap (λ (n : ℕ). old.below + count_ones n) kept)
+            | inr other ↦ rw (elsewhere x other) refl
+          ]
 
-    rank_next : rank more next ≡ count
-    rank_next =
-        rw (here next refl)
-        (ap (λ (n : ℕ). old.below + count_ones n) (mod_low 1 bit old.members ready.above) ∙ ready.counted)
+      member_next : IsMember more next
+      member_next = rw (here next refl) (bit_at-with_bit bit old.members ready.above)
 
-    abbrev IsPlaced : ℕ → Type 0
-    IsPlaced x = (i : ℕ) × (i < length with_next) × (slice_index with_next i ≡ x)
+      rank_next : rank more next ≡ count
+      rank_next =
+          rw (here next refl)
+          (ap (λ (n : ℕ). old.below + count_ones n) (mod_low 1 bit old.members ready.above) ∙ ready.counted)
 
-    one_of_more : (x : ℕ) → IsMember blocks x → IsPlaced x
-    one_of_more x is =
-        let found = ranked.only x is in
-        (found.0, omega (arith, found.1, one_more), at_before found.0 found.1 ∙ found.2)
+      abbrev IsPlaced : ℕ → Type 0
+      IsPlaced x = (i : ℕ) × (i < length with_next) × (slice_index with_next i ≡ x)
 
-    only_more : (x : ℕ) → IsMember more x → IsPlaced x
-    only_more x is =
-        elim (cases_eq (x / 32) (next / 32)) [
-          | inl same ↦
-              let marked : bit_at (with_bit bit old.members) (x % 32) ≡ 1 = rw (here x same) at is in
-              elim (cases_order (x % 32) bit) [
-                | inl equal ↦ (count, omega (arith, one_more), at_next ∙ omega (arith, same, equal))
-                | inr (inl lower) ↦
-                    let before = sym (bit_at_cat_low 1 bit old.members (x % 32) lower) ∙ marked in
-                    one_of_more x (rw (as_before x same) before)
-                | inr (inr upper) ↦
-                    let clear = bit_at-with_bit_above bit old.members (x % 32) ready.above upper in
-                    absurd (omega (arith, marked, clear))
-              ]
-          | inr other ↦ one_of_more x (rw (elsewhere x other) at is)
-        ]
+      one_of_more : (x : ℕ) → IsMember blocks x → IsPlaced x
+      one_of_more x is =
+          let found = ranked.only x is in
+          (found.0, omega (arith, found.1, one_more), at_before found.0 found.1 ∙ found.2)
 
-    below_later : (x : ℕ) → IsAbove with_next x → next < x
-    below_later x above = rw at_next at (above count (omega (arith, one_more)))
+      only_more : (x : ℕ) → IsMember more x → IsPlaced x
+      only_more x is =
+          elim (cases_eq (x / 32) (next / 32)) [
+            | inl same ↦
+                let marked : bit_at (with_bit bit old.members) (x % 32) ≡ 1 = rw (here x same) at is in
+                elim (cases_order (x % 32) bit) [
+                  | inl equal ↦ (count, omega (arith, one_more), at_next ∙ omega (arith, same, equal))
+                  | inr (inl lower) ↦
+                      let before = sym (bit_at_cat_low 1 bit old.members (x % 32) lower) ∙ marked in
+                      one_of_more x (rw (as_before x same) before)
+                  | inr (inr upper) ↦
+                      let clear = bit_at-with_bit_above bit old.members (x % 32) ready.above upper in
+                      absurd (omega (arith, marked, clear))
+                ]
+            | inr other ↦ one_of_more x (rw (elsewhere x other) at is)
+          ]
 
-    ready_more : (x : ℕ) → IsAbove with_next x → x / 32 < length more → IsReady more (length with_next) x
-    ready_more x above lt =
-        let later = below_later x above in
-        let size : length more ≡ next / 32 + 1 = length-set blocks (next / 32) new ∙ ready.last in
-        let same : x / 32 ≡ next / 32 = omega (arith, lt, later, size) in
-        record {
-          last = omega (arith, size, same);
-          above = rw (here x same) (with_bit_below bit old.members (x % 32) ready.above (omega (arith, later, same)));
-          counted = rw (here x same) (omega (arith, ones-with_bit bit old.members ready.above, ready.counted, one_more));
-        }
+      below_later : (x : ℕ) → IsAbove with_next x → next < x
+      below_later x above = rw at_next at (above count (omega (arith, one_more)))
 
-    IsFilled-set : IsFilled with_next more
-    IsFilled-set =
-        record {
-          ranked = record {
-            member =
-                of_all (λ x i. IsMember more x)
-                (λ i lt. member_before (slice_index numbers i) (rising i lt) (ranked.member i lt)) member_next;
-            place =
-                of_all (λ x i. rank more x ≡ i)
-                (λ i lt. rank_before (slice_index numbers i) (rising i lt) ∙ ranked.place i lt) rank_next;
-            only = only_more;
-          };
-          reach = λ x above.
-              omega (arith, below_later x above, length-set blocks (next / 32) new, ready.last);
-          ready = ready_more;
-        }
+      ready_more : (x : ℕ) → IsAbove with_next x → x / 32 < length more → IsReady more (length with_next) x
+      ready_more x above lt =
+          let later = below_later x above in
+          let size : length more ≡ next / 32 + 1 = length-set blocks (next / 32) new ∙ ready.last in
+          let same : x / 32 ≡ next / 32 = omega (arith, lt, later, size) in
+          record {
+            last = omega (arith, size, same);
+            above = rw (here x same) (with_bit_below bit old.members (x % 32) ready.above (omega (arith, later, same)));
+            counted = rw (here x same) (omega (arith, ones-with_bit bit old.members ready.above, ready.counted, one_more));
+          }
 
-    -- as the code writes the block
-    abbrev with_its_bit : Block → Block
-    with_its_bit block =
-        record { members = bit_or block.members (1 * 2 ^ (next % 32) % 2 ^ 32); below = block.below }
+      IsFilled-set : IsFilled with_next more
+      IsFilled-set =
+          record {
+            ranked = record {
+              member =
+                  of_all (λ x i. IsMember more x)
+                  (λ i lt. member_before (slice_index numbers i) (rising i lt) (ranked.member i lt)) member_next;
+              place =
+                  of_all (λ x i. rank more x ≡ i)
+                  (λ i lt. rank_before (slice_index numbers i) (rising i lt) ∙ ranked.place i lt) rank_next;
+              only = only_more;
+            };
+            reach = λ x above.
+                omega (arith, below_later x above, length-set blocks (next / 32) new, ready.last);
+            ready = ready_more;
+          }
 
-    pub IsFilled-or : (block : Block) → block ≡ old → IsFilled with_next (set blocks (next / 32) (with_its_bit block))
-    IsFilled-or block is =
-        rw (is, or_bit bit old.members (omega arith) ready.above) IsFilled-set
+      -- as the code writes the block
+      abbrev with_its_bit : Block → Block
+      with_its_bit block =
+          record { members = bit_or block.members (1 * 2 ^ (next % 32) % 2 ^ 32); below = block.below }
 
-  -- ---- before that, blocks with no members are added up to its row
+      pub IsFilled-or : (block : Block) → block ≡ old → IsFilled with_next (set blocks (next / 32) (with_its_bit block))
+      IsFilled-or block is =
+          rw (is, or_bit bit old.members (omega arith) ready.above) IsFilled-set
 
-  module _ (absent : length blocks ≤ next / 32) where
-    abbrev added : ℕ
-    added = next / 32 + 1 - length blocks
+    -- ---- before that, blocks with no members are added up to its row
 
-    abbrev empty : Block
-    empty = record { members = 0; below = count }
+    module _ (absent : length blocks ≤ next / 32) where
+      abbrev added : ℕ
+      added = next / 32 + 1 - length blocks
 
-    abbrev longer : List Block
-    longer = blocks ++ replicate added empty
+      abbrev empty : Block
+      empty = record { members = 0; below = count }
 
-    size_longer : length longer ≡ next / 32 + 1
-    size_longer = omega (arith, length-append blocks (replicate added empty), length-replicate added empty, absent)
+      abbrev longer : List Block
+      longer = blocks ++ replicate added empty
 
-    before_longer : (x : ℕ) → x / 32 < length blocks → block_of longer x ≡ block_of blocks x
-    before_longer x lt = get_or_append_left blocks (replicate added empty) no_members (x / 32) lt
+      size_longer : length longer ≡ next / 32 + 1
+      size_longer = omega (arith, length-append blocks (replicate added empty), length-replicate added empty, absent)
 
-    after_longer : (x : ℕ) → length blocks ≤ x / 32 → x / 32 < length longer → block_of longer x ≡ empty
-    after_longer x le lt =
-        get_or-append_right blocks (replicate added empty) (length blocks) (x / 32) no_members refl le
-        ∙ get_or-replicate added (x / 32 - length blocks) empty no_members (omega (arith, lt, le, size_longer))
+      before_longer : (x : ℕ) → x / 32 < length blocks → block_of longer x ≡ block_of blocks x
+      before_longer x lt = get_or_append_left blocks (replicate added empty) no_members (x / 32) lt
 
-    member_longer : (x : ℕ) → IsMember longer x → IsMember blocks x
-    member_longer x is =
-        elim (cases_lt (x / 32) (length blocks)) [
-          | inl lt ↦ rw (before_longer x lt) at is
-          | inr le ↦
-              let none : bit_at 0 (x % 32) ≡ 1 = rw (after_longer x le (member_inside longer x is)) at is in
-              absurd (omega (arith, none, bit_at-zero (x % 32)))
-        ]
+      after_longer : (x : ℕ) → length blocks ≤ x / 32 → x / 32 < length longer → block_of longer x ≡ empty
+      after_longer x le lt =
+          get_or-append_right blocks (replicate added empty) (length blocks) (x / 32) no_members refl le
+          ∙ get_or-replicate added (x / 32 - length blocks) empty no_members (omega (arith, lt, le, size_longer))
 
-    as_it_was : (i : ℕ) → i < count
-        → block_of longer (slice_index numbers i) ≡ block_of blocks (slice_index numbers i)
-    as_it_was i lt =
-        before_longer (slice_index numbers i) (member_inside blocks (slice_index numbers i) (ranked.member i lt))
+      member_longer : (x : ℕ) → IsMember longer x → IsMember blocks x
+      member_longer x is =
+          elim (cases_lt (x / 32) (length blocks)) [
+            | inl lt ↦ rw (before_longer x lt) at is
+            | inr le ↦
+                let none : bit_at 0 (x % 32) ≡ 1 = rw (after_longer x le (member_inside longer x is)) at is in
+                absurd (omega (arith, none, bit_at-zero (x % 32)))
+          ]
 
-    longer_ranked : IsRanked numbers longer
-    longer_ranked =
-        record {
-          member = λ i lt. rw (as_it_was i lt) (ranked.member i lt);
-          place = λ i lt. rw (as_it_was i lt) (ranked.place i lt);
-          only = λ x is. ranked.only x (member_longer x is);
-        }
+      as_it_was : (i : ℕ) → i < count
+          → block_of longer (slice_index numbers i) ≡ block_of blocks (slice_index numbers i)
+      as_it_was i lt =
+          before_longer (slice_index numbers i) (member_inside blocks (slice_index numbers i) (ranked.member i lt))
 
-    longer_ready : IsReady longer count next
-    longer_ready =
-        let last : block_of longer next ≡ empty = after_longer next absent (omega (arith, size_longer)) in
-        record {
-          last = size_longer;
-          above = rw last (pow_pos (next % 32));
-          counted = rw last (omega (arith, ones_le_self 0));
-        }
+      longer_ranked : IsRanked numbers longer
+      longer_ranked =
+          record {
+            member = λ i lt. rw (as_it_was i lt) (ranked.member i lt);
+            place = λ i lt. rw (as_it_was i lt) (ranked.place i lt);
+            only = λ x is. ranked.only x (member_longer x is);
+          }
 
-    pub IsAwaiting-longer : IsAwaiting numbers next (take (next / 32 + 1) blocks ++ replicate added empty)
-    IsAwaiting-longer =
-        rw (take_all (next / 32 + 1) blocks (omega (arith, absent)))
-        (record { ranked = longer_ranked; ready = longer_ready })
+      longer_ready : IsReady longer count next
+      longer_ready =
+          let last : block_of longer next ≡ empty = after_longer next absent (omega (arith, size_longer)) in
+          record {
+            last = size_longer;
+            above = rw last (pow_pos (next % 32));
+            counted = rw last (omega (arith, ones_le_self 0));
+          }
+
+      pub IsAwaiting-longer : IsAwaiting numbers next (take (next / 32 + 1) blocks ++ replicate added empty)
+      IsAwaiting-longer =
+          rw (take_all (next / 32 + 1) blocks (omega (arith, absent)))
+          (record { ranked = longer_ranked; ready = longer_ready })
 
 pub IsAwaiting-filled : (numbers : List ℕ) (next : ℕ) (blocks : List Block)
     → IsFilled numbers blocks → IsAbove numbers next → next / 32 < length blocks
