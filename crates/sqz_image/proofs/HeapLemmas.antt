@@ -4,6 +4,8 @@ use Rattle.std.proofs.Common.{drop, slice_index, Option, Some, None, refl, sym, 
 use Rattle.std.specs.List.{concat}
 use Rattle.sqz_image.specs.Ranks.{IsPlaceOf, IsRanked, IsTable}
 use Rattle.sqz_image.specs.declared.ranks.Block.{Block}
+use Rattle.sqz_image.specs.declared.starts.Start.{Start}
+use Rattle.sqz_image.specs.Starts.{first_of, IsFollowed, start_at, IsNextAfter, AreStarts}
 use Rattle.std.proofs.lemmas.Simd.{map-map}
 use Rattle.std.proofs.lemmas.List.{length-map, get_or-map, get_or-take, get_or-drop, length-drop}
 use Rattle.sqz_object.specs.declared.chunk.Chunk.{Chunk}
@@ -20,6 +22,7 @@ use Rattle.sqz_object.specs.Partition.{IsPartition}
 use Rattle.std.specs.Prelude.{is_some}
 use Rattle.sqz_image.specs.Index.{IsIndex}
 use Rattle.sqz_image.proofs.CutLemmas.{cut-partition}
+use Rattle.sqz_image.proofs.StartLemmas.{length_by_firsts, first_by_firsts}
 use Rattle.sqz_image.proofs.ObjectLemmas.{StandsIn, objects_stand, objects_keep, All_at, before-chunk}
 use Rattle.sqz_image.proofs.ObjectLemmas.{Rises, addresses_rise, find_in_at, find_in_none}
 use Rattle.sqz_image.proofs.ObjectLemmas.{find_in-lt, length-objects_of}
@@ -28,10 +31,10 @@ abbrev no_object : Object
 no_object = record { first = 0; chunk = [] }
 
 -- what is kept of the memory that a view gives, about the memory that it is
-pub listed_is : {view memory : Memory} {words firsts : List ℕ} {blocks : List Block} {special_object : ℕ}
-    → view ≡ memory → IsKept view words firsts blocks special_object → IsListed memory words firsts
-listed_is {words = words} {firsts = firsts} is heap =
-    subst (λ (m : Memory). IsListed m words firsts) is heap.listed
+pub listed_is : {view memory : Memory} {words : List ℕ} {starts : List Start} {blocks : List Block} {special_object : ℕ}
+    → view ≡ memory → IsKept view words starts blocks special_object → IsListed memory words starts
+listed_is {words = words} {starts = starts} is heap =
+    subst (λ (m : Memory). IsListed m words starts) is heap.listed
 
 -- what is found is an object of the memory that it is
 pub found_is_object : {view memory : Memory} (object : ℕ)
@@ -83,7 +86,7 @@ length_headers memory = length-map (objects memory) header_index
 addresses_of_headers : (memory : Memory) → addresses_from memory.base (base_headers memory) ≡ addresses memory
 addresses_of_headers memory = map-map (λ index. memory.base + 4 * index) header_index (objects memory)
 
-module _ {memory : Memory} {words firsts : List ℕ} (heap : IsListed memory words firsts) where
+module _ {memory : Memory} {words : List ℕ} {starts : List Start} (heap : IsListed memory words starts) where
   pub has_object : (index : ℕ) → index < length (objects memory) → HasObject words (object_at memory index)
   has_object index lt =
       let object = get_or (objects memory) index no_object in
@@ -99,14 +102,18 @@ module _ {memory : Memory} {words firsts : List ℕ} (heap : IsListed memory wor
       }
 
   pub first_there : (index : ℕ) → index < length (objects memory)
-      → get_or firsts index 0 ≡ (object_at memory index).first
-  first_there index lt =
-      ap (λ (xs : List ℕ). get_or xs index 0) heap.first_words
-      ∙ get_or-map (λ (o : Object). o.first) (objects memory) index no_object 0 lt
+      → first_of (start_at starts index) ≡ (object_at memory index).first
+  first_there index lt = first_by_firsts (objects memory) starts heap.starts_are.firsts index lt
 
   -- how many objects there are, by the parts
-  pub length_firsts : length firsts ≡ length (objects memory)
-  length_firsts = ap length heap.first_words ∙ length-map (objects memory) (λ (o : Object). o.first)
+  pub length_starts : length starts ≡ length (objects memory)
+  length_starts = length_by_firsts (objects memory) starts heap.starts_are.firsts
+
+  -- where an object's start says that it is followed directly, the next one begins behind it
+  pub next_read : (index : ℕ) (start : Start) → index < length (objects memory) → start_at starts index ≡ start
+      → IsFollowed start → IsNextAfter (objects memory) index
+  next_read index start lt read followed =
+      heap.starts_are.followed index lt (rw read followed)
 
   pub few_objects : length (objects memory) < 2 ^ 30
   few_objects =
@@ -184,8 +191,8 @@ module _ {words : List ℕ} {object : Object} (here : HasObject words object) wh
 
 -- ---- the heap of an index
 
-module _ (order : Order) (base special : ℕ) {words firsts : List ℕ} {headers : List Block}
-    (index : IsIndex words firsts headers) where
+module _ (order : Order) (base special : ℕ) {words : List ℕ} {starts : List Start} {headers : List Block}
+    (index : IsIndex words starts headers) where
   abbrev memory_read : Memory
   memory_read = memory_of order base special words
 
@@ -197,12 +204,12 @@ module _ (order : Order) (base special : ℕ) {words firsts : List ℕ} {headers
 
   -- an index is what a heap keeps
   pub listed_of : length words < 2 ^ 30 → base + 4 * length words ≤ 2 ^ 32 → base % 4 ≡ 0
-      → IsListed memory_read words firsts
+      → IsListed memory_read words starts
   listed_of few within aligned =
       record {
         partition = partition_read;
-        first_words =
-            index.first_words ∙ ap (λ (cs : List (List ℕ)). map (λ o. o.first) (objects_of cs)) (sym same_chunks);
+        starts_are =
+            subst (λ (cs : List (List ℕ)). AreStarts (objects_of cs) starts) (sym same_chunks) index.starts_are;
         few_words = few;
         within = within;
         aligned = aligned;

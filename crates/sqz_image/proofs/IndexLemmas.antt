@@ -1,5 +1,5 @@
 -- An index that grows chunk by chunk.
-use Rattle.std.proofs.Common.{◌≡◌, ℕ, ◌+◌, ◌<◌, ◌≤◌, true, false, cond, List, [], ◌∷◌, ◌++◌, map, length, take, drop}
+use Rattle.std.proofs.Common.{◌≡◌, ℕ, zero, suc, ◌+◌, ◌<◌, ◌≤◌, true, false, cond, List, [], ◌∷◌, ◌++◌, map, length, take, drop}
 use Rattle.std.proofs.Common.{refl, sym, ap, subst, ◌∙◌, arith, zero-add, add-zero, add_assoc}
 use Rattle.std.specs.List.{concat}
 use Rattle.std.proofs.lemmas.List.{length-append, append_assoc, append-nil, map-append, take_all, length-drop}
@@ -15,22 +15,26 @@ use Rattle.sqz_object.proofs.ChunkLemmas.{chunk_kind_is}
 use Rattle.sqz_object.proofs.PartitionLemmas.{IsPartition-push}
 use Rattle.sqz_image.specs.Objects.{Object, objects_of, moved_on, header_index}
 use Rattle.sqz_image.specs.declared.ranks.Block.{Block}
+use Rattle.sqz_image.specs.declared.starts.Start.{Start}
+use Rattle.sqz_image.specs.Starts.{first_of, IsFollowed, end_of}
 use Rattle.sqz_image.specs.Index.{IsIndex}
 use Rattle.sqz_image.specs.Ranks.{IsAbove, IsFilled}
 use Rattle.sqz_image.specs.Refusals.{HasNoPartition, refusal_of}
 use Rattle.sqz_image.proofs.ObjectLemmas.{before-chunk, length-objects_of}
 use Rattle.sqz_image.proofs.RankLemmas.{IsAbove-push, IsFilled-empty}
+use Rattle.sqz_image.proofs.StartLemmas.{AreStartsUpTo, AreStartsUpTo-none, AreStartsUpTo-free, AreStartsUpTo-object}
+use Rattle.sqz_image.proofs.StartLemmas.{AreStarts-whole, length_by_firsts}
 
 -- the indexes of the base headers of the objects among chunks
 abbrev pub headers_in : List (List ℕ) → List ℕ
 headers_in chunks = map header_index (objects_of chunks)
 
 -- chunks reach up to a place, and these are the objects among them
-pub record IsIndexedUpTo (words : List ℕ) (place : ℕ) (firsts : List ℕ) (headers : List Block) : Type 0 where
+pub record IsIndexedUpTo (words : List ℕ) (place : ℕ) (starts : List Start) (headers : List Block) : Type 0 where
   pub inside : place ≤ length words
   pub chunks : List (List ℕ)
   pub partition : IsPartition (take place words) chunks
-  pub first_words : firsts ≡ map (λ object. object.first) (objects_of chunks)
+  pub starts_are : AreStartsUpTo words place (objects_of chunks) starts
   pub base_headers : IsFilled (headers_in chunks) headers
   below : IsAbove (headers_in chunks) place
 
@@ -78,6 +82,12 @@ pub objects_of-push : (chunks : List (List ℕ)) (chunk : List ℕ)
 objects_of-push chunks chunk used =
     objects_of-append chunks (chunk ∷ []) ∙ rw (used, add-zero) refl
 
+no_empty_chunk : (kind : Kind) → IsChunkOf kind [] → ⊥
+no_empty_chunk Three h = h
+no_empty_chunk Two h = h
+no_empty_chunk Free h = h
+no_empty_chunk Short h = h
+
 -- the kind of a chunk says whether it is an object
 free_is_no_object : (kind : Kind) (chunk : List ℕ) → IsChunkOf kind chunk → kind ≡ Free → is_object chunk ≡ false
 free_is_no_object Free (free ∷ rest) h e = rw h.0 refl
@@ -86,6 +96,18 @@ free_is_no_object Three chunk h e = absurd cc
 free_is_no_object Two chunk h e = absurd cc
 free_is_no_object Short chunk h e = absurd cc
 
+-- a chunk has a first word
+chunk_is_some : (kind : Kind) (chunk : List ℕ) → IsChunkOf kind chunk → 0 < length chunk
+chunk_is_some kind [] h = absurd (no_empty_chunk kind h)
+chunk_is_some kind (word ∷ rest) h = omega arith
+
+-- whether words begin with an object is told by the first of them
+is_object-take : (count : ℕ) (words : List ℕ) → is_object (take count words) ≡ false → 0 < length (take count words)
+    → is_object words ≡ false
+is_object-take zero words free some = absurd (omega (arith, some))
+is_object-take (suc count) [] free some = refl
+is_object-take (suc count) (word ∷ words) free some = free
+
 other_is_object : (kind : Kind) (chunk : List ℕ) → IsChunkOf kind chunk → (kind ≡ Free → ⊥) → is_object chunk ≡ true
 other_is_object Three (size ∷ class ∷ base ∷ fields) h used = rw h.0 refl
 other_is_object Two (class ∷ base ∷ fields) h used = rw h.0 refl
@@ -93,17 +115,16 @@ other_is_object Short (base ∷ fields) h used = rw h.0 refl
 other_is_object Free chunk h used = absurd (used refl)
 other_is_object _ _ h used = absurd h
 
-module _ {words : List ℕ} {place : ℕ} {firsts : List ℕ} {headers : List Block}
-    (so_far : IsIndexedUpTo words place firsts headers) where
-  -- there is an index for each object, and no more objects than words
-  pub as_many : length (headers_in so_far.chunks) ≡ length firsts
+module _ {words : List ℕ} {place : ℕ} {starts : List Start} {headers : List Block}
+    (so_far : IsIndexedUpTo words place starts headers) where
+  -- there is a start for each object, and no more objects than words
+  pub as_many : length (headers_in so_far.chunks) ≡ length starts
   as_many =
       length-map (objects_of so_far.chunks) header_index
-      ∙ sym (length-map (objects_of so_far.chunks) (λ (o : Object). o.first))
-      ∙ ap length (sym so_far.first_words)
+      ∙ sym (length_by_firsts (objects_of so_far.chunks) starts so_far.starts_are.firsts)
 
-  pub few_firsts : length firsts ≤ place
-  few_firsts =
+  pub few_starts : length starts ≤ place
+  few_starts =
       omega (
         arith,
         as_many,
@@ -144,15 +165,22 @@ module _ {words : List ℕ} {place : ℕ} {firsts : List ℕ} {headers : List Bl
     partition_more =
         IsPartition-push words place chunk.length so_far.chunks so_far.partition (chunk.kind, begins.is_chunk)
 
+    no_object_here : chunk.kind ≡ Free → is_object (drop place words) ≡ false
+    no_object_here free =
+        is_object-take chunk.length (drop place words)
+        (free_is_no_object chunk.kind here begins.is_chunk free) (chunk_is_some chunk.kind here begins.is_chunk)
+
     -- a free chunk more
-    pub step_free : chunk.kind ≡ Free → IsIndexedUpTo words (place + chunk.length) firsts headers
+    pub step_free : chunk.kind ≡ Free → IsIndexedUpTo words (place + chunk.length) starts headers
     step_free free =
         let same = objects_of-push_free so_far.chunks here (free_is_no_object chunk.kind here begins.is_chunk free) in
         record {
           inside = inside_more;
           chunks = so_far.chunks ++ here ∷ [];
           partition = partition_more;
-          first_words = so_far.first_words ∙ ap (λ (os : List Object). map (λ o. o.first) os) (sym same);
+          starts_are =
+              subst (λ (os : List Object). AreStartsUpTo words (place + chunk.length) os starts) (sym same)
+              (AreStartsUpTo-free so_far.starts_are (place + chunk.length) (no_object_here free));
           base_headers =
               subst (λ (os : List Object). IsFilled (map header_index os) headers) (sym same) so_far.base_headers;
           below =
@@ -163,8 +191,10 @@ module _ {words : List ℕ} {place : ℕ} {firsts : List ℕ} {headers : List Bl
     -- an object more, with its header in the table
     pub step_object : {more : List Block} → (chunk.kind ≡ Free → ⊥)
         → IsFilled (headers_in so_far.chunks ++ (place + chunk.before) ∷ []) more
-        → IsIndexedUpTo words (place + chunk.length) (firsts ++ place ∷ []) more
-    step_object {more = more} used filled =
+        → (start : Start) → first_of start ≡ place
+        → (IsFollowed start → is_object (drop (place + chunk.length) words) ≡ true)
+        → IsIndexedUpTo words (place + chunk.length) (starts ++ start ∷ []) more
+    step_object {more = more} used filled start starts_here awaits =
         let before_it = objects_of so_far.chunks in
         let same = objects_of-push so_far.chunks here (other_is_object chunk.kind here begins.is_chunk used) in
         let before_header : chunk.before ≡ before here =
@@ -173,6 +203,8 @@ module _ {words : List ℕ} {place : ℕ} {firsts : List ℕ} {headers : List Bl
         ap length so_far.partition.whole ∙ length-take-le place words so_far.inside in
         let object : Object = record { first = length (concat so_far.chunks); chunk = here } in
         let header : header_index object ≡ place + chunk.before = omega (arith, before_header, at) in
+        let end_is : end_of object ≡ place + chunk.length =
+        omega (arith, at, length-take-le chunk.length (drop place words) begins.inside) in
         let headers_more : headers_in so_far.chunks ++ (place + chunk.before) ∷ []
         ≡ headers_in (so_far.chunks ++ here ∷ []) =
         ap (λ (n : ℕ). headers_in so_far.chunks ++ n ∷ []) (sym header)
@@ -189,11 +221,11 @@ module _ {words : List ℕ} {place : ℕ} {firsts : List ℕ} {headers : List Bl
           inside = inside_more;
           chunks = so_far.chunks ++ here ∷ [];
           partition = partition_more;
-          first_words =
-              ap (λ (xs : List ℕ). xs ++ place ∷ []) so_far.first_words
-              ∙ ap (λ (n : ℕ). map (λ (o : Object). o.first) before_it ++ n ∷ []) (sym at)
-              ∙ sym (map-append (λ (o : Object). o.first) before_it (object ∷ []))
-              ∙ ap (λ (os : List Object). map (λ o. o.first) os) (sym same);
+          starts_are =
+              subst (λ (os : List Object). AreStartsUpTo words (place + chunk.length) os (starts ++ start ∷ [])) (sym same)
+              (rw end_is at
+              (AreStartsUpTo-object so_far.starts_are object start at starts_here
+              (λ followed. rw end_is (awaits followed))));
           base_headers = subst (λ (xs : List ℕ). IsFilled xs more) headers_more filled;
           below =
               subst (λ (xs : List ℕ). IsAbove xs (place + chunk.length)) headers_more
@@ -202,12 +234,12 @@ module _ {words : List ℕ} {place : ℕ} {firsts : List ℕ} {headers : List Bl
         }
 
   -- the chunks reach up to the end
-  pub whole_index : length words ≤ place → IsIndex words firsts headers
+  pub whole_index : length words ≤ place → IsIndex words starts headers
   whole_index le =
       record {
         chunks = so_far.chunks;
         partition = subst (λ (w : List ℕ). IsPartition w so_far.chunks) (take_all place words le) so_far.partition;
-        first_words = so_far.first_words;
+        starts_are = AreStarts-whole so_far.starts_are le;
         base_headers = so_far.base_headers.ranked;
       }
 
@@ -219,7 +251,7 @@ start words =
       inside = omega arith;
       chunks = [];
       partition = record { each = tt; whole = refl };
-      first_words = refl;
+      starts_are = AreStartsUpTo-none words;
       base_headers = IsFilled-empty;
       below = λ i lt. absurd (omega (arith, lt));
     }

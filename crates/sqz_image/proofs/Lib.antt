@@ -2,6 +2,7 @@ pub mod ObjectLemmas
 pub mod CutLemmas
 pub mod RankLemmas
 pub mod HeapLemmas
+pub mod StartLemmas
 pub mod IndexLemmas
 pub mod NumberLemmas
 pub mod ReadingLemmas

@@ -4,6 +4,7 @@ pub mod Objects
 pub mod Refusals
 pub mod Devices
 pub mod Header
+pub mod Starts
 pub mod Memory
 pub mod Ranks
 pub mod Index

@@ -6,7 +6,9 @@ use Rattle.sqz_object.specs.Partition.{IsPartition, stated_length}
 use Rattle.sqz_image.specs.declared.fault.Fault.{Fault}
 use Rattle.sqz_image.specs.declared.fault.Fault.TheVariants.{BadSpecialObjects}
 use Rattle.sqz_image.specs.declared.ranks.Block.{Block}
+use Rattle.sqz_image.specs.declared.starts.Start.{Start}
 use Rattle.sqz_image.specs.Ranks.{IsRanked}
+use Rattle.sqz_image.specs.Starts.{AreStarts}
 use Rattle.sqz_image.specs.Objects.{Memory, objects, header_index, find}
 use Rattle.sqz_image.specs.Refusals.{HasNoPartition}
 
@@ -35,17 +37,17 @@ memory_of order base special words =
 abbrev pub base_headers : Memory → List ℕ
 base_headers memory = map header_index (objects memory)
 
--- what is kept of an object memory: its words, and the index of the first word of each object
-pub record IsListed (memory : Memory) (words firsts : List ℕ) : Type 0 where
+-- what is kept of an object memory: its words, and where each object begins
+pub record IsListed (memory : Memory) (words : List ℕ) (starts : List Start) : Type 0 where
   pub partition : IsPartition words memory.chunks
-  pub first_words : firsts ≡ map (λ object. object.first) (objects memory)
+  pub starts_are : AreStarts (objects memory) starts
   pub few_words : length words < 2 ^ 30
   pub within : memory.base + 4 * length words ≤ 2 ^ 32
   pub aligned : memory.base % 4 ≡ 0
 
 -- and the table of their base headers, by which an address is found, and which object the special objects array is
-pub record IsKept (memory : Memory) (words firsts : List ℕ) (blocks : List Block) (special_object : ℕ) : Type 0 where
-  pub listed : IsListed memory words firsts
+pub record IsKept (memory : Memory) (words : List ℕ) (starts : List Start) (blocks : List Block) (special_object : ℕ) : Type 0 where
+  pub listed : IsListed memory words starts
   pub headers : IsRanked (base_headers memory) blocks
   pub found : find memory memory.special ≡ Some special_object
 

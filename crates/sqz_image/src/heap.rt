@@ -14,6 +14,7 @@ use crate::fault::Fault;
 use crate::index::{Index, index_of};
 use crate::object::Object;
 use crate::ranks::{Block, place_of};
+use crate::starts::Start;
 use sqz_object::{Chunk, Order, chunk_at};
 use std::alloc::Global;
 use std::marker::Model;
@@ -27,8 +28,8 @@ pub struct Heap {
     special: u32,
     special_object: u32,
     words: Vec<u32>,
-    /// The index of the first word of each object's chunk.
-    firsts: Vec<u32>,
+    /// Where each object's chunk begins.
+    starts: Vec<Start>,
     /// The table of the indexes of the base headers.
     headers: Vec<Block>,
 }
@@ -42,7 +43,7 @@ impl Model for Heap {
     ghost view = { λ heap. memory_of heap.order heap.base heap.special heap.words.items };
 
     ghost invariant = { λ heap. IsKept (memory_of heap.order heap.base heap.special heap.words.items)
-        heap.words.items heap.firsts.items heap.headers.items heap.special_object };
+        heap.words.items heap.starts.items heap.headers.items heap.special_object };
 }
 
 impl Heap {
@@ -62,7 +63,7 @@ impl Heap {
         ensures refused { IfErr result (λ fault. (fault ≡ OutOfMemory) ⊎ IsNoMemory order base special words.items fault) }
     {
         let index = index_of(alloc, &words)?;
-        let Index { firsts, headers } = index;
+        let Index { starts, headers } = index;
         let Some(special_object) = place_at(&headers, base, special) else {
             return Err(Fault::BadSpecialObjects);
         };
@@ -72,7 +73,7 @@ impl Heap {
             special,
             special_object,
             words,
-            firsts,
+            starts,
             headers,
         })
     }
@@ -105,7 +106,7 @@ impl Heap {
         ensures objects { result ≡ object_count self.now }
         ensures few { result < 2 ^ 30 }
     {
-        self.firsts.len() as u32
+        self.starts.len() as u32
     }
 
     /// The address of the object's base header.
@@ -124,7 +125,7 @@ impl Heap {
         ensures first { result ≡ (object_at self.now object).first }
         ensures inside { result + length (chunk_words self.now object) < 2 ^ 30 }
     {
-        self.firsts[object as usize]
+        self.starts[object as usize].first()
     }
 
     /// The object: its chunk's header and words.
@@ -147,6 +148,20 @@ impl Heap {
         match chunk_at(&self.words, self.first(object) as usize) {
             Ok(chunk) => chunk,
             Err(_) => unreachable!(),
+        }
+    }
+
+    /// How many words the object's chunk has. Its header is read only where no object's chunk follows it directly.
+    pub fn chunk_length(&self, object: u32) -> u32
+        requires { object < object_count self.now }
+        ensures length { result ≡ length (chunk_words self.now object) }
+        ensures few { result < 2 ^ 30 }
+    {
+        let start = self.starts[object as usize];
+        if start.is_followed() {
+            self.first(object + 1) - start.first()
+        } else {
+            self.chunk(object).length
         }
     }
 

@@ -7,14 +7,15 @@ ghost use Rattle.sqz_image.specs.Refusals.{HasNoPartition, refusal_of};
 
 use crate::fault::Fault;
 use crate::ranks::{Block, add};
+use crate::starts::{Start, begins_object};
 use sqz_object::{ChunkFault, Kind, chunk_at};
 use std::alloc::Global;
 
 /// Where each object stands.
 #[derive(Drop)]
 pub(crate) struct Index {
-    /// The index of the first word of each object's chunk.
-    pub firsts: Vec<u32>,
+    /// Where each object's chunk begins.
+    pub starts: Vec<Start>,
     /// The table of the indexes of the base headers.
     pub headers: Vec<Block>,
 }
@@ -23,10 +24,10 @@ pub(crate) struct Index {
 /// be read: `ZeroSize`, `HeaderMismatch` or `Overrun`; else for want of memory alone.
 pub(crate) fn index_of(alloc: Global, words: &[u32]) -> Result<Index, Fault>
     requires few { length words.now < 2 ^ 30 }
-    ensures index { IfOk result (λ index. IsIndex words.now index.firsts.items index.headers.items) }
+    ensures index { IfOk result (λ index. IsIndex words.now index.starts.items index.headers.items) }
     ensures refused { IfErr result (λ fault. (fault ≡ OutOfMemory) ⊎ HasNoPartition words.now fault) }
 {
-    let mut firsts = Vec::new(alloc);
+    let mut starts = Vec::new(alloc);
     let mut headers = Vec::new(alloc);
     let mut p = 0;
     while p < words.len() {
@@ -34,17 +35,18 @@ pub(crate) fn index_of(alloc: Global, words: &[u32]) -> Result<Index, Fault>
             Ok(chunk) => chunk,
             Err(reason) => return Err(refusal_of(reason, p as u32)),
         };
+        let end = p + chunk.length as usize;
         match chunk.kind {
             Kind::Free => {}
             _ => {
                 let first = p as u32;
-                add(&mut headers, firsts.len() as u32, first + chunk.before)?;
-                firsts.push(first)?;
+                add(&mut headers, starts.len() as u32, first + chunk.before)?;
+                starts.push(Start::new(first, begins_object(words, end)))?;
             }
         }
-        p += chunk.length as usize;
+        p = end;
     }
-    Ok(Index { firsts, headers })
+    Ok(Index { starts, headers })
 }
 
 /// The refusal of a chunk that cannot be read, by the index of its first word.

@@ -16,6 +16,7 @@ mod ranks;
 mod read_source;
 mod read_whole;
 mod reading;
+mod starts;
 mod words;
 mod write_sink;
 mod write_whole;

@@ -91,7 +91,7 @@ impl<'a> MarkTable<'a> {
         let objects = heap.len() as usize;
         let mut words = vec![in alloc; 0u64; objects + regions.count() as usize]?;
         words[special as usize] = 1;
-        words[objects + regions.region(special) as usize] = u64::from(heap.chunk(special).length);
+        words[objects + regions.region(special) as usize] = u64::from(heap.chunk_length(special));
         let weight = workers.number();
         let key = (Snapshot::of(regions), weak, workers);
         let (table, seat) = Table::of_words(alloc, &words, &key)?;
@@ -183,7 +183,7 @@ impl<'a> MarkTable<'a> {
         ensures step { pass.new ≡ knowing pass.old (counted object pass.old.view) }
     {
         let region = self.regions.region(object);
-        let words = self.heap.chunk(object).length;
+        let words = self.heap.chunk_length(object);
         self.grow::<Brand>(&mut pass.seat, object, region, words);
     }
 

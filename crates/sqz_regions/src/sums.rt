@@ -24,8 +24,7 @@ fn live_words_between(heap: &Heap, marks: &Marks, from: u32, to: u32) -> u32
     let mut words = 0;
     for object in from..to {
         if marks.has(object) {
-            let chunk = heap.chunk(object);
-            words += chunk.length;
+            words += heap.chunk_length(object);
         }
     }
     words

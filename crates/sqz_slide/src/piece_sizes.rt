@@ -27,7 +27,7 @@ pub(crate) fn piece_size(heap: &Heap, forward: &Forward, from: u32, to: u32) -> 
     }
     let begin = begin_of(heap, forward, first);
     let last = begin_of(heap, forward, end - 1);
-    let length = u64::from(heap.chunk(end - 1).length);
+    let length = u64::from(heap.chunk_length(end - 1));
     (last + 4 * length).saturating_sub(begin) / 4
 }
 

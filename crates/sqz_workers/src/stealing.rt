@@ -96,7 +96,7 @@ fn deques_of(
     let mut deques = Vec::with_capacity(alloc, count)?;
     let mut stealers = Vec::with_capacity(alloc, count)?;
     for _ in 0..count {
-        let deque = Worker::new_lifo(alloc, 1)?;
+        let deque = Worker::new_fifo(alloc, 1)?;
         stealers.push(deque.stealer()?)?;
         deques.push(deque)?;
     }

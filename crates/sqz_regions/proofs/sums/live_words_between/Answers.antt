@@ -1,5 +1,4 @@
-use Rattle.std.proofs.Common.{◌+◌, ◌<◌, sym, ap, ◌∙◌, arith}
-use Rattle.sqz_object.specs.declared.chunk.Chunk.{Chunk}
+use Rattle.std.proofs.Common.{◌+◌, ◌<◌, sym, ◌∙◌, arith}
 use Rattle.sqz_image.specs.Objects.{object_count}
 use Rattle.sqz_regions.proofs.PlaceLemmas.{live_words_more_yes, live_words_more_no}
 use Rattle.sqz_regions.proofs.SumLemmas.{live_words_below-le-words}
@@ -11,9 +10,8 @@ overflow_add-words c =
     let memory = c.args.heap.now in
     let marks = c.args.marks.now in
     let object = c.loop-object.object in
-    let size = ap (λ (chunk : Chunk). chunk.length) c.chunk-chunk.ensures.described in
     let more = live_words_more_yes memory marks object (omega arith) (sym c.has.ensures ∙ c.if-has.true) in
-    omega (arith, size, more, live_words_below-le-words memory marks (object + 1))
+    omega (arith, c.chunk_length-words.ensures.length, more, live_words_below-le-words memory marks (object + 1))
 
 pub loop-object-preserved : goal.loop-object-preserved
 loop-object-preserved c =
@@ -23,7 +21,10 @@ loop-object-preserved c =
     let lt : c.loop-object.object < object_count c.args.heap.now = omega arith in
     elim c.if-has.branch [
       | then-has w ↦
-          let size = ap (λ (chunk : Chunk). chunk.length) w.chunk-chunk.ensures.described in
-          omega (arith, size, live_words_more_yes memory marks object lt (sym c.has.ensures ∙ w.if-has.true))
+          omega (
+            arith,
+            w.chunk_length-words.ensures.length,
+            live_words_more_yes memory marks object lt (sym c.has.ensures ∙ w.if-has.true),
+          )
       | else-has w ↦ omega (arith, live_words_more_no memory marks object lt (sym c.has.ensures ∙ w.if-has.false))
     ]

@@ -1,5 +1,4 @@
-use Rattle.std.proofs.Common.{◌≡◌, ◌<◌, ◌+◌, ◌-◌, ap, ◌∙◌, arith}
-use Rattle.sqz_object.specs.declared.chunk.Chunk.{Chunk}
+use Rattle.std.proofs.Common.{◌≡◌, ◌<◌, ◌+◌, ◌-◌, ◌∙◌, arith}
 use Rattle.sqz_image.specs.Objects.{object_count}
 use Rattle.sqz_regions.proofs.PlaceLemmas.{live_words_more_yes}
 use Rattle.sqz_slide.proofs.AddressLemmas.{is_marked-place}
@@ -32,8 +31,7 @@ returns c marks places =
     let last_marked = is_marked-place memory marks forward (back.result - 1) places last ∙ back.ensures.there some in
     let begin = c.begin_of-begin.ensures.begin marks places first_marked in
     let end = c.begin_of-last.ensures.begin marks places last_marked in
-    let size = ap (λ (chunk : Chunk). chunk.length) c.chunk.ensures.described in
     let more = live_words_more_yes memory marks (back.result - 1) last last_marked in
     let next : c.end_of_live-end.result - 1 + 1 ≡ c.end_of_live-end.result = omega arith in
     let rises = live_words_below-rises memory marks front.result back.result back.ensures.low (omega arith) in
-    omega (arith, before, behind, begin, end, size, rw next at more, rises, c.saturating_sub.ensures, c.from-length.ensures)
+    omega (arith, before, behind, begin, end, c.chunk_length.ensures.length, rw next at more, rises, c.saturating_sub.ensures, c.from-length.ensures)

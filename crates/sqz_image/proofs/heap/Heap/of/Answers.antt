@@ -9,11 +9,11 @@ use Rattle.sqz_image.proofs.heap.Heap.of.Goals as goal
 use Rattle.sqz_image.proofs.heap.Heap.of.Goals.{In_ok-index, After-place_at}
 
 index_is : (c : In_ok-index)
-    → IsIndex c.args.words.items c.in_ok-index.index.firsts.items c.in_ok-index.index.headers.items
+    → IsIndex c.args.words.items c.in_ok-index.index.starts.items c.in_ok-index.index.headers.items
 index_is c = rw c.deref.ensures.value at c.in_ok-index.ensures.index
 
 listed : (c : In_ok-index)
-    → IsListed (memory_of c.args.order c.args.base c.args.special c.args.words.items) c.args.words.items c.in_ok-index.index.firsts.items
+    → IsListed (memory_of c.args.order c.args.base c.args.special c.args.words.items) c.args.words.items c.in_ok-index.index.starts.items
 listed c =
     listed_of c.args.order c.args.base c.args.special (index_is c)
     c.requires.few c.requires.within c.requires.aligned

@@ -1,7 +1,6 @@
 use Rattle.std.proofs.Common.{◌≡◌, ℕ, ◌+◌, ◌^◌, ◌<◌, ◌≤◌, Some, length, set, sym, ap, subst, ◌∙◌}
 use Rattle.std.specs.Prelude.{Option, unwrap_or, replicate}
 use Rattle.std.specs.List.{concat}
-use Rattle.sqz_object.specs.declared.chunk.Chunk.{Chunk}
 use Rattle.sqz_image.specs.Objects.{Memory, object_count, chunk_words, find}
 use Rattle.sqz_regions.specs.Regions.{Regioning, region_at, region_count}
 use Rattle.sqz_marks.specs.Table.{start_of}
@@ -22,7 +21,7 @@ of_words-requires c =
     let region : c.region.result ≡ region_at key.cut key.memory (start_of key.memory) =
     c.region.ensures.region ∙ (λ k. region_at (is_key k).cut (is_key k).memory (start k)) in
     let long : c.from.result ≡ length (chunk_words key.memory (start_of key.memory)) =
-    c.from.ensures ∙ ap (λ (chunk : Chunk). chunk.length) c.chunk.ensures.described ∙ (λ k. length (chunk_words (heap k) (start k))) in
+    c.from.ensures ∙ c.chunk_length.ensures.length ∙ (λ k. length (chunk_words (heap k) (start k))) in
     IsKept-opening key c.args.weak c.args.workers c.deref.result.now (found ∙ ap Some start)
     (subst (λ n. 1 ≤ n) c.number-weight.ensures.number c.number-weight.ensures.some)
     (subst (λ n. n ≤ 64) c.number-weight.ensures.number c.number-weight.ensures.few)

@@ -1,0 +1,54 @@
+//! Where the chunks of objects begin, and which are followed by the next object's.
+
+ghost use Rattle.std.specs.Prelude.{◌≡◌, ◌^◌, ◌<◌, ◌↔◌, true, drop, IsTrue};
+ghost use Rattle.sqz_object.specs.Chunk.{is_object};
+ghost use Rattle.sqz_image.specs.Starts.{first_of, IsFollowed};
+
+/// The indexes of words are below this.
+const WORDS: u32 = 1 << 30;
+
+/// The low two bits of the first word of a free chunk.
+const FREE: u32 = 2;
+
+/// Where an object's chunk begins among the data words, and whether the next object's follows it directly, with no free
+/// chunk between.
+#[derive(Clone, Copy)]
+pub(crate) struct Start {
+    /// The index of the chunk's first word; where no object's chunk follows directly, 2^30 more.
+    index: u32,
+}
+
+impl Start {
+    /// The start of a chunk that begins at this word.
+    pub(crate) fn new(first: u32, is_followed: bool) -> Start
+        requires { first < 2 ^ 30 }
+        ensures first { first_of result ≡ first }
+        ensures followed { IsFollowed result ↔ (is_followed ≡ true) }
+    {
+        Start {
+            index: if is_followed { first } else { first + WORDS },
+        }
+    }
+
+    /// The index of the chunk's first word.
+    pub(crate) fn first(&self) -> u32
+        ensures first { result ≡ first_of self.now }
+        ensures few { result < 2 ^ 30 }
+    {
+        self.index % WORDS
+    }
+
+    /// Whether the next object's chunk follows directly.
+    pub(crate) fn is_followed(&self) -> bool
+        ensures { IsTrue result ↔ IsFollowed self.now }
+    {
+        self.index < WORDS
+    }
+}
+
+/// Whether an object's chunk begins at word `p`, if a chunk does: its first word has not the type of a free one.
+pub(crate) fn begins_object(words: &[u32], p: usize) -> bool
+    ensures { result ≡ is_object (drop p words.now) }
+{
+    p < words.len() && words[p] % 4 != FREE
+}
