@@ -1,6 +1,8 @@
 -- What a pass gains by one step after another.
-use Rattle.std.proofs.Common.{◌≡◌, ◌≢◌, ℕ, ◌+◌, ◌<◌, List, ◌∷◌, Some, refl, sym, ap, subst, ◌∙◌, arith, inl, inr}
+use Rattle.std.proofs.Common.{◌≡◌, ◌≢◌, ℕ, ◌+◌, ◌<◌, List, ◌∷◌, Some, refl, sym, ap, subst, ◌∙◌, cond, eqb, arith, inl, inr}
 use Rattle.std.specs.Prelude.{Option, None}
+use Rattle.std.proofs.lemmas.Bool.{cases_lt}
+use Rattle.std.proofs.lemmas.List.Sums.{sum_by-cons}
 use Rattle.std.proofs.lemmas.Option.{same_Some}
 use Rattle.sqz_image.specs.declared.fault.Slot.TheVariants.{ClassWord, Field}
 use Rattle.sqz_image.specs.Objects.{Memory}
@@ -10,8 +12,8 @@ use Rattle.sqz_trace.specs.Targets.{named_among, named_in, IsTargetBelow}
 use Rattle.sqz_trace.proofs.TargetLemmas.{IsTargetBelow-next, IsTargetBelow-none}
 use Rattle.sqz_marks.specs.declared.view.View.{View}
 use Rattle.sqz_marks.specs.Core.{times, HasSeen, looked, claimed, seen_by, counted, blackened}
-use Rattle.sqz_marks.specs.Table.{SharedMarks, HeldPass, IsPassOf, knowing}
-use Rattle.sqz_marks.proofs.TimesLemmas.{times-same, times-more, times-either}
+use Rattle.sqz_marks.specs.Table.{SharedMarks, HeldPass, IsPassOf, HasCountedAll, knowing}
+use Rattle.sqz_marks.proofs.TimesLemmas.{times-same, times-more}
 use Rattle.sqz_marks.specs.declared.claim.Claim.{Claim}
 use Rattle.sqz_marks.specs.declared.claim.Claim.TheVariants.{Won, Seen, Nothing}
 use Rattle.sqz_marks.specs.Claims.{IsClaim}
@@ -24,8 +26,9 @@ HasGained-none pass =
       workers = refl;
       weight = refl;
       won = omega arith;
+      kept = λ object. omega arith;
       seen = λ object seen. seen;
-      counted = λ all. all;
+      counted = λ other. omega arith;
       blackened = λ object known. known;
     }
 
@@ -37,8 +40,9 @@ HasGained-then old pass new first more before after =
       workers = after.workers ∙ before.workers;
       weight = after.weight ∙ before.weight;
       won = omega (arith, before.won, after.won);
+      kept = λ object. omega (arith, before.kept object, after.kept object);
       seen = λ object seen. after.seen object (before.seen object seen);
-      counted = λ all. after.counted (before.counted all);
+      counted = λ object. omega (arith, before.counted object, after.counted object);
       blackened = λ object known. after.blackened object (before.blackened object known);
     }
 
@@ -62,8 +66,9 @@ HasGained-blackened old object =
       workers = refl;
       weight = refl;
       won = omega arith;
+      kept = λ other. omega arith;
       seen = λ other seen. seen;
-      counted = λ all. all;
+      counted = λ other. omega arith;
       blackened = λ other known. omega (arith, known, times-more other object old.view.blackened);
     }
 
@@ -78,8 +83,9 @@ HasGained-looked old new shade object step = subst (λ (pass : HeldPass). HasGai
           workers = refl;
           weight = refl;
           won = omega arith;
+          kept = λ other. omega arith;
           seen = λ other seen. omega (arith, seen, times-more other object old.view.seen);
-          counted = λ all. all;
+          counted = λ other. omega arith;
           blackened = λ other known. known;
         }
 
@@ -93,6 +99,13 @@ HasGained-looked old new shade object step = subst (λ (pass : HeldPass). HasGai
 pub HasGained-seen : (old : HeldPass) (object : ℕ) → HasGained old (knowing old (claimed object Grey old.view)) 0
 HasGained-seen old object = HasGained-looked old (knowing old (seen_by object old.view)) Grey object refl
 
+-- an object more in one list and in the other
+times-both : (object other : ℕ) (list more : List ℕ)
+    → times object (other ∷ list) + times object more ≡ times object list + times object (other ∷ more)
+times-both object other list more =
+    let one : ℕ → ℕ = λ o. cond (eqb o object) 1 0 in
+    omega (arith, sum_by-cons one other list, sum_by-cons one other more)
+
 -- a claim of a white one, which is counted then
 pub HasGained-won : (old : HeldPass) (object : ℕ)
     → HasGained old (knowing (knowing old (claimed object White old.view)) (counted object (claimed object White old.view))) 1
@@ -102,11 +115,9 @@ HasGained-won old object =
       workers = refl;
       weight = refl;
       won = omega arith;
+      kept = λ other. times-more other object old.view.won;
       seen = λ other seen. omega (arith, seen, times-more other object old.view.seen);
-      counted = λ all other won. elim (times-either other object old.view.won won) [
-        | inl same ↦ subst (λ (o : ℕ). 0 < times o (object ∷ old.view.counted)) (sym same) (omega (arith, times-same object old.view.counted))
-        | inr won ↦ omega (arith, all other won, times-more other object old.view.counted)
-      ];
+      counted = λ other. times-both other object old.view.counted old.view.won;
       blackened = λ other known. known;
     }
 
@@ -155,6 +166,14 @@ module _ (old pass : HeldPass) (answer : Claim) where
   HasSeen-claimed (Some target) object (inr claim) is =
       subst (λ (p : HeldPass). HasSeen p.view object) (sym claim.1)
       (subst (λ o. 0 < times object (o ∷ old.view.seen)) (sym (same_Some _ _ is)) (omega (arith, times-same object old.view.seen)))
+
+-- a pass that had counted all that it won still has
+pub HasCountedAll-gained : (old new : HeldPass) (objects : ℕ) → HasGained old new objects → HasCountedAll old.view → HasCountedAll new.view
+HasCountedAll-gained old new objects gained all object won =
+    elim (cases_lt 0 (times object old.view.won)) [
+      | inl before ↦ omega (arith, all object before, gained.kept object, gained.counted object)
+      | inr none ↦ omega (arith, won, gained.counted object)
+    ]
 
 -- it is a pass of the same table
 pub IsPassOf-gained : (marks : SharedMarks) (old new : HeldPass) (objects : ℕ) → IsPassOf marks old → HasGained old new objects → IsPassOf marks new

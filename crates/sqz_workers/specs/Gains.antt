@@ -1,22 +1,31 @@
 -- What a pass gains as its worker marks.
-use Rattle.std.specs.Prelude.{◌≡◌, ℕ, ◌+◌, ◌<◌, length}
+use Rattle.std.specs.Prelude.{◌≡◌, ℕ, ◌+◌, ◌<◌, ◌≤◌, length}
 use Rattle.sqz_marks.specs.declared.view.View.{View}
 use Rattle.sqz_marks.specs.Core.{times, HasWon, HasBlackened}
-use Rattle.sqz_marks.specs.Table.{HeldPass, KeepsSeen, HasCountedAll}
+use Rattle.sqz_marks.specs.Table.{HeldPass, KeepsSeen}
 
 -- what a pass knew to be black it still knows to be black
 abbrev pub KeepsBlackened : View → View → Type 0
 KeepsBlackened old new = (object : ℕ) → HasBlackened old object → HasBlackened new object
 
--- the same pass, of the same weight: it has won so many objects more, and counted these; and what it had seen, or known to be black, it
--- still has
+-- what a pass had won it still has won
+abbrev pub KeepsWon : View → View → Type 0
+KeepsWon old new = (object : ℕ) → times object old.won ≤ times object new.won
+
+-- a pass counted each object as many times more as it won it more: what it won it counted, and what it had counted it still has
+abbrev pub CountsWhatItWins : View → View → Type 0
+CountsWhatItWins old new = (object : ℕ) → times object new.counted + times object old.won ≡ times object old.counted + times object new.won
+
+-- the same pass, of the same weight: it has won so many objects more, and counted these and no other; and what it had won, seen, counted, or
+-- known to be black, it still has
 pub record HasGained (old new : HeldPass) (objects : ℕ) : Type 0 where
   pub table : new.table ≡ old.table
   pub workers : new.workers ≡ old.workers
   pub weight : new.view.weight ≡ old.view.weight
   pub won : length new.view.won ≡ length old.view.won + objects
+  pub kept : KeepsWon old.view new.view
   pub seen : KeepsSeen old.view new.view
-  pub counted : HasCountedAll old.view → HasCountedAll new.view
+  pub counted : CountsWhatItWins old.view new.view
   pub blackened : KeepsBlackened old.view new.view
 
 -- the same, with so many objects more as there are

@@ -8,13 +8,16 @@ use Rattle.sqz_regions.specs.Regions.{Regioning}
 use Rattle.sqz_marks.specs.declared.view.View.{View}
 use Rattle.sqz_marks.specs.Table.{HasCountedAll}
 use Rattle.sqz_marks.proofs.WonLemmas.{length-won-le}
+use Rattle.sqz_workers.proofs.GainLemmas.{HasCountedAll-gained}
 use Rattle.sqz_workers.proofs.RestLemmas.{AreClosed-of, marks_of-settled}
 use Rattle.sqz_workers.proofs.stealing.mark.Goals as goal
 
 pub close-requires-clause-counted : goal.close-requires-clause-counted
 close-requires-clause-counted g c =
     let first = subst (λ (view : View). HasCountedAll view) (sym c.in_ok-table.ensures.pass.1) (λ object won. won) in
-    c.mark_rest.ensures.gained.gained.counted (c.mark_by_shares.ensures.gained.counted first)
+    let shared = c.mark_by_shares.new.pass in let rest = c.mark_rest.ensures.gained in
+    HasCountedAll-gained shared c.mark_rest.new.pass rest.objects rest.gained
+    (HasCountedAll-gained c.in_ok-table.pass shared (sum c.mark_by_shares.new.claims) c.mark_by_shares.ensures.gained first)
 
 pub counted-requires : goal.counted-requires
 counted-requires g c =
