@@ -6,6 +6,7 @@ ghost use Rattle.sqz_trace.specs.Reachability.{IsReachability};
 
 use crate::gate::{Gate, Phase};
 use crate::marking::{MarkedMemory, Marking};
+use crate::turns::{MOST_EMPTY_TURNS, most_turns};
 use sqz_image::{Fault, Heap};
 use sqz_marks::Workers;
 use sqz_trace::{Marks, Weak};
@@ -14,9 +15,6 @@ use std::marker::Brand;
 use std::sync::{Mutex, Wait};
 use std::thread;
 use std::thread::Threads;
-
-/// After so many turns in a row that found no object a worker leaves.
-const MOST_EMPTY_TURNS: u32 = 64;
 
 /// The reachable objects of a heap, marked by so many workers, each in a thread of its own where one can be started. In
 /// its turn a worker passes the gate, takes the lock, takes one object from a list, and marks what that names. It leaves
@@ -76,9 +74,8 @@ fn work<M: MarkedMemory, R: Wait, G: Gate>(
     requires heap { heap.now ≡ M.memory }
     requires weak { weak ≡ M.weak }
 {
-    let turns = 4 * u64::from(heap.len()) + 4096;
     let mut empty = 0;
-    for turn in 0..turns {
+    for turn in 0..most_turns(heap) {
         gate.pass(Phase::Mark, worker, turn);
         if marking.lock(rt).turn(heap, weak) {
             empty = 0;

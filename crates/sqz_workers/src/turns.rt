@@ -1,4 +1,4 @@
-//! The turns of a worker that marks without waiting.
+//! The turns of a worker that marks without waiting, and how many turns a worker takes in either way of marking.
 
 ghost use Rattle.std.specs.Prelude.{◌≡◌, ℕ, ◌+◌, ◌*◌, ◌^◌, ◌<◌, ◌≤◌, unwrap_or};
 ghost use Rattle.sqz_marks.specs.Table.{IsPassOf};
@@ -10,7 +10,7 @@ use crossbeam_deque::{Steal, Stealer, Worker};
 use sqz_image::Heap;
 use sqz_marks::{MarkTable, Pass};
 
-/// After so many turns in a row that gave no object a worker leaves.
+/// After so many turns in a row that found no object a worker leaves.
 pub(crate) const MOST_EMPTY_TURNS: u32 = 64;
 
 /// The most turns that a worker takes.
