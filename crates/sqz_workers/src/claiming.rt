@@ -25,6 +25,7 @@ pub(crate) fn mark_taken<L: Worklist>(
     requires of { IsPassOf table.now pass.old }
     ensures gained { HasGained pass.old pass.new result }
     ensures few { result ≤ 2 ^ 30 }
+    ensures room { L.room worklist.new ≡ L.room worklist.old }
 {
     if object >= heap.len() {
         return 0;
@@ -49,6 +50,7 @@ pub(crate) fn mark_slots<L: Worklist>(
     ensures gained { HasGained pass.old pass.new result }
     ensures few { result ≤ 2 ^ 30 }
     ensures black { HasBlackened pass.new.view object }
+    ensures room { L.room worklist.new ≡ L.room worklist.old }
 {
     let parent = table.parent(object);
     let mut won = claim_slot(table, pass, worklist, &parent, Slot::ClassWord);
@@ -72,6 +74,7 @@ fn claim_slot<L: Worklist>(
     ensures gained { HasGained pass.old pass.new result }
     ensures one { result ≤ 1 }
     ensures named { (object : ℕ) → strong_named table.now.heap.memory parent.now slot ≡ Some object → HasSeen pass.new.view object }
+    ensures room { L.room worklist.new ≡ L.room worklist.old }
 {
     match table.claim_of(pass, parent, slot) {
         Claim::Won(object) => {

@@ -1,6 +1,6 @@
 //! Marking what the workers left grey.
 
-ghost use Rattle.std.specs.Prelude.{◌≡◌, ℕ, ◌<◌, ◌≤◌, true, false};
+ghost use Rattle.std.specs.Prelude.{◌≡◌, ℕ, ◌<◌, ◌≤◌, true, false, vec_capacity};
 ghost use Rattle.sqz_image.specs.Objects.{object_count};
 ghost use Rattle.sqz_marks.specs.Table.{IsPassOf};
 ghost use Rattle.sqz_workers.specs.Gains.{HasGainedSome, IsSettled, HasBlackenedMore, IsPassedBy};
@@ -10,8 +10,9 @@ use sqz_image::Heap;
 use sqz_marks::{MarkTable, Pass};
 use sqz_trace::Shade;
 
-/// Marks on the table what the workers left grey, and all that becomes grey on the way, until none is grey: a worklist with
-/// room for all objects takes these. Each time that it has gone over the objects and found a grey one it goes over them again.
+/// Marks on the table what the workers left grey, and all that becomes grey on the way, until none is grey: a worklist takes
+/// these. Each time that it has gone over the objects and found a grey one it goes over them again, so it comes upon what the
+/// worklist had no room for. It takes no memory: the worklist never grows.
 pub(crate) fn mark_rest(
     heap: &Heap,
     table: &MarkTable<'_>,
@@ -22,6 +23,7 @@ pub(crate) fn mark_rest(
     requires of { IsPassOf table.now pass.old }
     ensures gained { HasGainedSome pass.old pass.new }
     ensures settled { (object : ℕ) → object < object_count heap.now → IsSettled pass.new.view object }
+    ensures room { vec_capacity worklist.new ≡ vec_capacity worklist.old }
 {
     while mark_greys(heap, table, pass, worklist) {}
 }
@@ -33,6 +35,7 @@ fn mark_greys(heap: &Heap, table: &MarkTable<'_>, pass: &mut Pass, worklist: &mu
     ensures gained { HasGainedSome pass.old pass.new }
     ensures more { result ≡ true → HasBlackenedMore (object_count heap.now) pass.old.view pass.new.view }
     ensures settled { result ≡ false → (object : ℕ) → object < object_count heap.now → IsSettled pass.new.view object }
+    ensures room { vec_capacity worklist.new ≡ vec_capacity worklist.old }
 {
     let mut found = false;
     for object in 0..heap.len() {
@@ -57,6 +60,7 @@ fn mark_from(
     ensures gained { HasGainedSome pass.old pass.new }
     ensures more { result ≡ true → HasBlackenedMore (object_count heap.now) pass.old.view pass.new.view }
     ensures passed { result ≡ false → IsPassedBy object pass.old.view pass.new.view }
+    ensures room { vec_capacity worklist.new ≡ vec_capacity worklist.old }
 {
     match table.look(pass, object) {
         Shade::Grey => {
@@ -68,11 +72,12 @@ fn mark_from(
     }
 }
 
-/// Marks on from the objects of a worklist until it is empty. No more are put into it than there are.
+/// Marks on from the objects of a worklist until it is empty, or as many were taken from it as there are.
 fn mark_listed(heap: &Heap, table: &MarkTable<'_>, pass: &mut Pass, worklist: &mut Vec<u32>)
     requires heap { table.now.heap.memory ≡ heap.now }
     requires of { IsPassOf table.now pass.old }
-    ensures { HasGainedSome pass.old pass.new }
+    ensures gained { HasGainedSome pass.old pass.new }
+    ensures room { vec_capacity worklist.new ≡ vec_capacity worklist.old }
 {
     for _ in 0..heap.len() {
         let Some(object) = worklist.pop() else {

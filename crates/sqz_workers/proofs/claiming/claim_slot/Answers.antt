@@ -1,4 +1,4 @@
-use Rattle.std.proofs.Common.{◌≡◌, sym, ◌∙◌, arith, inl, inr}
+use Rattle.std.proofs.Common.{◌≡◌, refl, sym, ◌∙◌, arith, inl, inr}
 use Rattle.sqz_marks.specs.declared.claim.Claim.TheVariants.{Won, Seen, Nothing}
 use Rattle.sqz_trace.specs.Edges.{strong_named}
 use Rattle.sqz_workers.proofs.GainLemmas.{HasGained-claimed, HasGained-unclaimed, HasSeen-claimed}
@@ -21,4 +21,5 @@ returns-in-Seen g c =
           ]);
       one = omega arith;
       named = λ object is. HasSeen-claimed c.args.pass.now c.claim_of.new.pass c.claim_of.result names object c.claim_of.ensures.claim is;
+      room = refl;
     }

@@ -1,4 +1,4 @@
-use Rattle.std.proofs.Common.{◌≡◌, ℕ, ◌<◌, sym, subst, arith}
+use Rattle.std.proofs.Common.{◌≡◌, ℕ, ◌<◌, sym, subst, ◌∙◌, arith}
 use Rattle.sqz_trace.specs.Targets.{IsTargetBelow}
 use Rattle.sqz_trace.proofs.TargetLemmas.{IsTargetBelow-edge}
 use Rattle.sqz_marks.specs.Core.{HasBlackened}
@@ -26,6 +26,7 @@ loop-k-preserved g c =
       few = omega (arith, before.invariant.few, after.ensures.one);
       seen = HasSeenBelow-next c.args.table.now.heap.memory parent.words parent.strong before.k before.pass.view after.new.pass.view lt
           before.invariant.seen after.ensures.gained.seen after.ensures.named;
+      room = after.ensures.room ∙ before.invariant.room;
     }
 
 pub blacken-requires-clause-targets : goal.blacken-requires-clause-targets

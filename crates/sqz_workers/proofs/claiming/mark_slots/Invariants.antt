@@ -1,4 +1,4 @@
-use Rattle.std.proofs.Common.{◌+◌, ◌≤◌}
+use Rattle.std.proofs.Common.{◌≡◌, ◌+◌, ◌≤◌}
 use Rattle.sqz_workers.specs.Gains.{HasGained}
 use Rattle.sqz_workers.proofs.GainLemmas.{HasSeenBelow}
 use Rattle.sqz_workers.proofs.claiming.mark_slots.Given as goal
@@ -9,4 +9,5 @@ invariant-loop-k g l =
       gained : HasGained l.fn.pass l.pass l.won;
       few : l.won ≤ l.k + 1;
       seen : HasSeenBelow l.fn.table.heap.memory l.parent.words l.k l.pass.view;
+      room : g.L.Worklist.room l.worklist ≡ g.L.Worklist.room l.fn.worklist;
     }

@@ -1,4 +1,4 @@
-use Rattle.std.proofs.Common.{arith}
+use Rattle.std.proofs.Common.{refl, arith}
 use Rattle.sqz_trace.specs.declared.shades.Shade.TheVariants.{Grey}
 use Rattle.sqz_workers.proofs.GainLemmas.{HasGained-looked, HasGained-after}
 use Rattle.sqz_workers.proofs.claiming.mark_taken.Goals as goal
@@ -13,4 +13,5 @@ returns-in-White g c =
     record {
       gained = HasGained-looked c.args.pass.now c.look.new.pass c.look.result c.args.object c.look.ensures.step;
       few = omega arith;
+      room = refl;
     }

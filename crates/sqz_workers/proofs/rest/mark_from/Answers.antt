@@ -1,4 +1,4 @@
-use Rattle.std.proofs.Common.{sym, ◌∙◌, inl, inr}
+use Rattle.std.proofs.Common.{refl, sym, ◌∙◌, inl, inr}
 use Rattle.sqz_trace.specs.declared.shades.Shade.TheVariants.{Grey}
 use Rattle.sqz_trace.proofs.ShadeLemmas.{white-grey, grey-black}
 use Rattle.sqz_marks.specs.Core.{times}
@@ -14,7 +14,7 @@ returns-in-Grey-clause-gained c =
     (HasGainedSome-then c.args.pass.now c.look.new.pass c.mark_slots.new.pass
     (HasGainedSome-of c.args.pass.now c.look.new.pass 0 looked)
     (HasGainedSome-of c.look.new.pass c.mark_slots.new.pass c.mark_slots.result c.mark_slots.ensures.gained))
-    c.mark_listed.ensures
+    c.mark_listed.ensures.gained
 
 pub returns-in-Grey-clause-more : goal.returns-in-Grey-clause-more
 returns-in-Grey-clause-more c found =
@@ -22,7 +22,7 @@ returns-in-Grey-clause-more c found =
       object = c.args.object;
       inside = c.requires.inside;
       before = zero-if_never (times c.args.object c.args.pass.now.view.blackened) (λ known. grey-black (c.in-Grey.ensures.black known));
-      now = c.mark_listed.ensures.gained.blackened c.args.object c.mark_slots.ensures.black;
+      now = c.mark_listed.ensures.gained.gained.blackened c.args.object c.mark_slots.ensures.black;
     }
 
 pub returns-in-White : goal.returns-in-White
@@ -37,4 +37,5 @@ returns-in-White c =
             | inr black ↦ grey-black (sym grey ∙ black)
           ])
           c.look.ensures.unwon;
+      room = refl;
     }

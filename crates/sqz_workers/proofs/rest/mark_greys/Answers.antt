@@ -1,4 +1,4 @@
-use Rattle.std.proofs.Common.{◌≡◌, true, false, sym, subst, ◌∙◌, arith, inl, inr}
+use Rattle.std.proofs.Common.{◌≡◌, true, false, refl, sym, subst, ◌∙◌, arith, inl, inr}
 use Rattle.std.proofs.lemmas.Bool.{cases_eq}
 use Rattle.sqz_image.specs.Objects.{object_count}
 use Rattle.sqz_workers.specs.Gains.{IsSettled}
@@ -13,6 +13,7 @@ loop-object-init c =
       gained = HasGainedSome-of c.args.pass.now c.args.pass.now 0 (HasGained-none c.args.pass.now);
       more = λ e. absurd cc;
       settled = λ e object none. absurd (omega arith);
+      room = refl;
     }
 
 pub loop-object-preserved : goal.loop-object-preserved
@@ -36,6 +37,7 @@ loop-object-preserved c =
               step.gained.gained.blackened (before.settled (sym w.found-is ∙ none) object (omega (arith, lt, differs)))
         ])
       ];
+      room = step.room ∙ before.room;
     }
 
 pub returns-clause-settled : goal.returns-clause-settled

@@ -1,14 +1,18 @@
+use Rattle.std.proofs.Common.{refl, ◌∙◌}
 use Rattle.sqz_workers.proofs.GainLemmas.{HasGained-none, HasGainedSome-of, HasGainedSome-then, IsPassOf-gained}
 use Rattle.sqz_workers.proofs.rest.mark_listed.Goals as goal
 
 pub loop-init : goal.loop-init
-loop-init c = HasGainedSome-of c.args.pass.now c.args.pass.now 0 (HasGained-none c.args.pass.now)
+loop-init c = record { gained = HasGainedSome-of c.args.pass.now c.args.pass.now 0 (HasGained-none c.args.pass.now); room = refl }
 
 pub mark_taken-requires-clause-of : goal.mark_taken-requires-clause-of
 mark_taken-requires-clause-of c =
-    IsPassOf-gained c.args.table.now c.args.pass.now c.loop.pass c.loop.invariant.objects c.requires.of c.loop.invariant.gained
+    IsPassOf-gained c.args.table.now c.args.pass.now c.loop.pass c.loop.invariant.gained.objects c.requires.of c.loop.invariant.gained.gained
 
 pub loop-preserved : goal.loop-preserved
 loop-preserved c =
-    HasGainedSome-then c.args.pass.now c.loop.pass c.mark_taken.new.pass c.loop.invariant
-    (HasGainedSome-of c.loop.pass c.mark_taken.new.pass c.mark_taken.result c.mark_taken.ensures.gained)
+    record {
+      gained = HasGainedSome-then c.args.pass.now c.loop.pass c.mark_taken.new.pass c.loop.invariant.gained
+          (HasGainedSome-of c.loop.pass c.mark_taken.new.pass c.mark_taken.result c.mark_taken.ensures.gained);
+      room = c.mark_taken.ensures.room ∙ c.pop.ensures.capacity ∙ c.loop.invariant.room;
+    }
