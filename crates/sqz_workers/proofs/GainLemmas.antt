@@ -53,7 +53,8 @@ HasGained-after old pass new more before after =
     subst (HasGained old new) sum (HasGained-then old pass new 0 more before after)
 
 -- or the second
-pub HasGained-before : (old pass new : HeldPass) (objects : ℕ) → HasGained old pass objects → HasGained pass new 0 → HasGained old new objects
+pub HasGained-before : (old pass new : HeldPass) (objects : ℕ) → HasGained old pass objects → HasGained pass new 0
+    → HasGained old new objects
 HasGained-before old pass new objects before after =
     let sum : objects + 0 ≡ objects = omega arith in
     subst (HasGained old new) sum (HasGained-then old pass new objects 0 before after)
@@ -73,7 +74,8 @@ HasGained-blackened old object =
     }
 
 -- a look
-pub HasGained-looked : (old new : HeldPass) (shade : Shade) (object : ℕ) → new ≡ knowing old (looked object shade old.view) → HasGained old new 0
+pub HasGained-looked : (old new : HeldPass) (shade : Shade) (object : ℕ) → new ≡ knowing old (looked object shade old.view)
+    → HasGained old new 0
 HasGained-looked old new shade object step = subst (λ (pass : HeldPass). HasGained old pass 0) (sym step) (by_shade shade)
   where
     saw : HasGained old (knowing old (seen_by object old.view)) 0
@@ -155,7 +157,8 @@ module _ (old pass : HeldPass) (answer : Claim) where
   pub HasGained-unclaimed : (names : Option ℕ) → IsClaim names old pass answer → ((object : ℕ) → answer ≢ Won object) → HasGained old pass 0
   HasGained-unclaimed None claim other = subst (λ (p : HeldPass). HasGained old p 0) (sym claim.1) (HasGained-none old)
   HasGained-unclaimed (Some target) (inl claim) other = absurd (other target claim.0)
-  HasGained-unclaimed (Some target) (inr claim) other = subst (λ (p : HeldPass). HasGained old p 0) (sym claim.1) (HasGained-seen old target)
+  HasGained-unclaimed (Some target) (inr claim) other =
+      subst (λ (p : HeldPass). HasGained old p 0) (sym claim.1) (HasGained-seen old target)
 
   -- what the slot names was seen
   pub HasSeen-claimed : (names : Option ℕ) (object : ℕ) → IsClaim names old pass answer → names ≡ Some object → HasSeen pass.view object
@@ -176,7 +179,8 @@ HasCountedAll-gained old new objects gained all object won =
     ]
 
 -- it is a pass of the same table
-pub IsPassOf-gained : (marks : SharedMarks) (old new : HeldPass) (objects : ℕ) → IsPassOf marks old → HasGained old new objects → IsPassOf marks new
+pub IsPassOf-gained : (marks : SharedMarks) (old new : HeldPass) (objects : ℕ) → IsPassOf marks old → HasGained old new objects
+    → IsPassOf marks new
 IsPassOf-gained marks old new objects of gained = (gained.table ∙ of.0, gained.workers ∙ of.1)
 
 -- what the slots so far name was seen

@@ -1,5 +1,6 @@
 -- A pass that goes over the objects again while it finds a grey one comes to an end, and leaves none grey.
-use Rattle.std.proofs.Common.{◌≡◌, ◌≢◌, ℕ, zero, suc, ◌<◌, ◌≤◌, if◌then◌else◌, cond, eqb, ltb, Bool, List, length, refl, sym, ap, subst, ◌∙◌, arith, inl, inr, eq-eqb, ne_eqb}
+use Rattle.std.proofs.Common.{◌≡◌, ◌≢◌, ℕ, zero, suc, ◌<◌, ◌≤◌, if◌then◌else◌, cond, eqb, ltb, Bool, List, length}
+use Rattle.std.proofs.Common.{refl, sym, ap, subst, ◌∙◌, arith, inl, inr, eq-eqb, ne_eqb}
 use Rattle.std.proofs.lemmas.Bool.{cases_eq, cases_lt, lt-ltb}
 use Rattle.std.proofs.lemmas.List.{get_or_past}
 use Rattle.std.proofs.lemmas.Option.{same_Some}
@@ -52,7 +53,8 @@ module _ (old new : View) (keeps : KeepsBlackened old new) where
       elim (cases_eq object count) [
         | inl same ↦
             (let one : blank old object ≡ 1 = ap (λ b. cond b 1 0) (eq-eqb (times object old.blackened) 0 before) in
-            let none : blank new object ≡ 0 = ap (λ b. cond b 1 0) (ne_eqb (times object new.blackened) 0 (λ is. absurd (omega (arith, is, now)))) in
+            let none : blank new object ≡ 0 =
+            ap (λ b. cond b 1 0) (ne_eqb (times object new.blackened) 0 (λ is. absurd (omega (arith, is, now)))) in
             let last_old = ap (blank old) same in let last_new = ap (blank new) same in
             omega (arith, upto-le (blank new) (blank old) blank-le count, one, none, last_old, last_new))
         | inr differs ↦ omega (arith, lt-upto count object (omega arith) before now, blank-le count)

@@ -16,8 +16,8 @@ KeepsWon old new = (object : ℕ) → times object old.won ≤ times object new.
 abbrev pub CountsWhatItWins : View → View → Type 0
 CountsWhatItWins old new = (object : ℕ) → times object new.counted + times object old.won ≡ times object old.counted + times object new.won
 
--- the same pass, of the same weight: it has won so many objects more, and counted these and no other; and what it had won, seen, counted, or
--- known to be black, it still has
+-- the same pass, of the same weight: it has won so many objects more, and counted these and no other; and what it had won, seen, counted,
+-- or known to be black, it still has
 pub record HasGained (old new : HeldPass) (objects : ℕ) : Type 0 where
   pub table : new.table ≡ old.table
   pub workers : new.workers ≡ old.workers

@@ -204,14 +204,16 @@ fn mark_by_halves<R: Threads + Sync, G: Gate>(
     ensures part_sized { length part_claims.new ≡ length part_claims.old }
 {
     let mut front = ||
-        requires { IsSync R.row × IsSync G.row × (table.now.heap.memory ≡ heap.now) × IsPassOf table.now pass.now × (pass.now.view.weight ≡ length claims.now)
-            × (length deques.now ≡ length claims.now) × (first + length claims.now ≤ 64) }
+        requires { IsSync R.row × IsSync G.row × (table.now.heap.memory ≡ heap.now) × IsPassOf table.now pass.now
+            × (pass.now.view.weight ≡ length claims.now) × (length deques.now ≡ length claims.now) × (first + length claims.now ≤ 64) }
         ensures { HasGained pass.entry.now pass.exit.now (sum claims.exit.now) × (length claims.exit.now ≡ length claims.entry.now) }
     { mark_by_shares(rt, heap, table, stealers, gate, first, pass, deques, claims) };
     let mut back = ||
-        requires { IsSync R.row × IsSync G.row × (table.now.heap.memory ≡ heap.now) × IsPassOf table.now part.now × (part.now.view.weight ≡ length part_claims.now)
-            × (length part_deques.now ≡ length part_claims.now) × (second + length part_claims.now ≤ 64) }
-        ensures { HasGained part.entry.now part.exit.now (sum part_claims.exit.now) × (length part_claims.exit.now ≡ length part_claims.entry.now) }
+        requires { IsSync R.row × IsSync G.row × (table.now.heap.memory ≡ heap.now) × IsPassOf table.now part.now
+            × (part.now.view.weight ≡ length part_claims.now) × (length part_deques.now ≡ length part_claims.now)
+            × (second + length part_claims.now ≤ 64) }
+        ensures { HasGained part.entry.now part.exit.now (sum part_claims.exit.now)
+            × (length part_claims.exit.now ≡ length part_claims.entry.now) }
     {
         mark_by_shares(
             rt,

@@ -6,8 +6,9 @@ use Rattle.sqz_workers.proofs.claiming.claim_slot.Goals as goal
 
 pub returns-in-Won-clause-gained : goal.returns-in-Won-clause-gained
 returns-in-Won-clause-gained g c =
-    HasGained-claimed c.args.pass.now c.claim_of.new.pass c.claim_of.result (strong_named c.args.table.now.heap.memory c.args.parent.now c.args.slot)
-    c.in-Won.object c.count.new.pass c.claim_of.ensures.claim c.in-Won.is c.count.ensures.step
+    HasGained-claimed c.args.pass.now c.claim_of.new.pass c.claim_of.result
+    (strong_named c.args.table.now.heap.memory c.args.parent.now c.args.slot) c.in-Won.object c.count.new.pass
+    c.claim_of.ensures.claim c.in-Won.is c.count.ensures.step
 
 pub returns-in-Seen : goal.returns-in-Seen
 returns-in-Seen g c =

@@ -22,7 +22,8 @@ loop-k-preserved g c =
     let before = c.loop-k in let after = c.claim_slot-won-in-loop-k in let parent = c.parent-parent.result in
     let lt : c.loop-k.k < c.parent-parent.result.strong = omega (arith, c.loop-k-test.true, c.strong-k-end.ensures.strong) in
     record {
-      gained = HasGained-then c.args.pass.now before.pass after.new.pass before.won after.result before.invariant.gained after.ensures.gained;
+      gained =
+          HasGained-then c.args.pass.now before.pass after.new.pass before.won after.result before.invariant.gained after.ensures.gained;
       few = omega (arith, before.invariant.few, after.ensures.one);
       seen = HasSeenBelow-next c.args.table.now.heap.memory parent.words parent.strong before.k before.pass.view after.new.pass.view lt
           before.invariant.seen after.ensures.gained.seen after.ensures.named;

@@ -24,9 +24,11 @@ loop-object-preserved c =
     record {
       gained = HasGainedSome-then c.args.pass.now c.loop-object.pass c.mark_from.new.pass before.gained step.gained;
       more = elim c.if-mark_from.branch [
-        | then-mark_from w ↦ (λ found. HasBlackenedMore-within count first old new new before.gained.gained.blackened (λ object known. known)
+        | then-mark_from w ↦ (λ found.
+            HasBlackenedMore-within count first old new new before.gained.gained.blackened (λ object known. known)
             (step.more w.if-mark_from.true))
-        | else-mark_from w ↦ (λ found. HasBlackenedMore-within count first first old new (λ object known. known) step.gained.gained.blackened
+        | else-mark_from w ↦ (λ found.
+            HasBlackenedMore-within count first first old new (λ object known. known) step.gained.gained.blackened
             (before.more (sym w.found-is ∙ found)))
       ];
       settled = elim c.if-mark_from.branch [
@@ -42,4 +44,5 @@ loop-object-preserved c =
 
 pub returns-clause-settled : goal.returns-clause-settled
 returns-clause-settled c none object inside =
-    c.loop-object.invariant.settled none object (omega (arith, inside, c.len-object-end.ensures.objects, c.loop-object-test.false, c.loop-object.auto.object-end))
+    c.loop-object.invariant.settled none object
+    (omega (arith, inside, c.len-object-end.ensures.objects, c.loop-object-test.false, c.loop-object.auto.object-end))

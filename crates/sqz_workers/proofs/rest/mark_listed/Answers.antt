@@ -7,7 +7,8 @@ loop-init c = record { gained = HasGainedSome-of c.args.pass.now c.args.pass.now
 
 pub mark_taken-requires-clause-of : goal.mark_taken-requires-clause-of
 mark_taken-requires-clause-of c =
-    IsPassOf-gained c.args.table.now c.args.pass.now c.loop.pass c.loop.invariant.gained.objects c.requires.of c.loop.invariant.gained.gained
+    let before = c.loop.invariant.gained in
+    IsPassOf-gained c.args.table.now c.args.pass.now c.loop.pass before.objects c.requires.of before.gained
 
 pub loop-preserved : goal.loop-preserved
 loop-preserved c =

@@ -20,7 +20,8 @@ loop-preserved c =
     }
 
 pub returns-clause-gained : goal.returns-clause-gained
-returns-clause-gained c = HasGainedSome-then c.args.pass.now c.loop.pass c.mark_greys.new.pass c.loop.invariant.gained c.mark_greys.ensures.gained
+returns-clause-gained c =
+    HasGainedSome-then c.args.pass.now c.loop.pass c.mark_greys.new.pass c.loop.invariant.gained c.mark_greys.ensures.gained
 
 pub returns-clause-settled : goal.returns-clause-settled
 returns-clause-settled c = c.mark_greys.ensures.settled c.loop-test.false

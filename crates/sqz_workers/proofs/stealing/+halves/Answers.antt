@@ -15,6 +15,6 @@ mark_by_shares-returns-clause-gained g t c =
     let split = c.split_off-part in let halves = c.mark_by_halves in
     subst (λ objects. HasGained c.args.pass.now c.join_into.new.pass objects)
     (sym (sum_by-append (λ claims. claims) halves.new.claims halves.new.part_claims))
-    (HasGained-joined c.args.pass.now split.new.pass split.result halves.new.pass halves.new.part c.join_into.new.pass (c.weight-shares.result / 2)
-    (sum halves.new.claims)
-    (sum halves.new.part_claims) (omega (arith, c.weight-shares.ensures.weight)) split.ensures.kept split.ensures.part halves.ensures.gained halves.ensures.part_gained c.join_into.ensures.joined)
+    (HasGained-joined c.args.pass.now split.new.pass split.result halves.new.pass halves.new.part c.join_into.new.pass
+    (c.weight-shares.result / 2) (sum halves.new.claims) (sum halves.new.part_claims) (omega (arith, c.weight-shares.ensures.weight))
+    split.ensures.kept split.ensures.part halves.ensures.gained halves.ensures.part_gained c.join_into.ensures.joined)
