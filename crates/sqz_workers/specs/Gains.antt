@@ -12,7 +12,8 @@ KeepsBlackened old new = (object : ℕ) → HasBlackened old object → HasBlack
 abbrev pub KeepsWon : View → View → Type 0
 KeepsWon old new = (object : ℕ) → times object old.won ≤ times object new.won
 
--- a pass counted each object as many times more as it won it more: what it won it counted, and what it had counted it still has
+-- a pass counted each object as many times more as it won it more: it counted what it won, and, where it keeps what it had won, what it had
+-- counted it still has
 abbrev pub CountsWhatItWins : View → View → Type 0
 CountsWhatItWins old new = (object : ℕ) → times object new.counted + times object old.won ≡ times object old.counted + times object new.won
 
