@@ -14,6 +14,10 @@ use crate::write_words::write_words;
 /// of the special objects array in it, and then the pieces, all words in the image's byte order; then flushes. It takes
 /// no memory.
 ///
+/// `special` is the address in bytes of that array's base header among the pieces, as `Forward::place` tells it: neither
+/// an object's index nor its address before. It is written as it is, and an image with a wrong one is refused by whoever
+/// reads it (`BadSpecialObjects`), so what calls this says in its own contract which address it gives, as `run` does.
+///
 /// Fails with `WriteFailed` where a write or the flush fails, and where 2^32 writes were made. Bytes
 /// from the front on, perhaps all, were then taken.
 pub fn write_image<W: Sink>(

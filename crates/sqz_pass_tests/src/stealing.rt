@@ -132,6 +132,51 @@ fn two_workers_mark_at_one_time(rt: HostRuntime) -> Result<(), Fail> {
     Ok(())
 }
 
+/// The special objects array, at 0x1044, names three objects, which name one, two and four objects more.
+const FAN: [u32; 21] = [
+    0x1007, 0x1007, 0x1007, 0x1007, 0x1007, 0x1007, 0x1007, 0x110B, 0x1000, 0x110F, 0x1004, 0x1008,
+    0x1117, 0x100C, 0x1010, 0x1014, 0x1018, 0x3213, 0x101C, 0x1024, 0x1030,
+];
+
+/// Asserts how many objects of the fan each of two workers won, where the first stops at this turn until the other has won
+/// the rest.
+fn assert_fan<R: Threads + Sync + Abort + AllocGlobal>(
+    rt: &R,
+    stop: u64,
+    claims: [u32; 2],
+) -> Result<(), Fail> {
+    let holds = [
+        Hold {
+            at: turn_of(0, stop),
+            until: turn_of(1, 16),
+        },
+        Hold {
+            at: turn_of(1, 0),
+            until: turn_of(0, stop),
+        },
+    ];
+    let gate = TurnGate::new(Phase::Mark, &holds);
+    let image = image_of(rt.alloc(), &FAN, 0x1044)?;
+    let (_, marked) = marked_by(rt, &image, &Cut::every(1)?, 2, &gate)?;
+    assert_eq!(rt; (gate.met(), gate.missed()), (2, 0), "holds");
+    assert_eq!(rt;
+        marked.claims.as_slice(),
+        claims.as_slice(),
+        "what each worker won"
+    );
+    Ok(())
+}
+
+/// A worker takes the objects of its own deque first in, first out: behind the special objects array the one that names one
+/// object, then the one that names two, and then the one that names four.
+#[test]
+fn worker_takes_first_what_it_won_first(rt: HostRuntime) -> Result<(), Fail> {
+    for (stop, claims) in [(1, [3, 7]), (2, [4, 6]), (3, [6, 4]), (4, [10, 0])] {
+        assert_fan(&rt, stop, claims)?;
+    }
+    Ok(())
+}
+
 /// The turn at which a worker of a chain stops. The second worker stops a turn later, since it first takes the object at
 /// the lowest address, which names none.
 const fn stop_of(worker: u32) -> Turn {

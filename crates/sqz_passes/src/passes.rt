@@ -120,8 +120,11 @@ fn print_compaction<R: Files + Threads + Sync + Clock + Print>(
     watch.lap(rt)?;
     let _text = print(alloc, &rows)?;
     watch.lap(rt)?;
+    let special = forward
+        .place(heap.special())
+        .ok_or(Fault::BadSpecialObjects)?;
     let mut sink = WriteSink::new(File::create(rt, work.output)?);
-    write_image(image, heap.special(), pieces.as_slice(), &mut sink)?;
+    write_image(image, special, pieces.as_slice(), &mut sink)?;
     watch.lap(rt)?;
     Ok(())
 }
