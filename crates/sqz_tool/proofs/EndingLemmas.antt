@@ -1,66 +1,74 @@
 -- From what a run answered to how the program ends.
-use Rattle.std.proofs.Common.{◌≡◌, ◌≢◌, ◌↔◌, ℕ, ◌<◌, Bool, false, List, Result, Ok, Err, refl, sym, ap, arith, ◌∙◌, ◌==◌}
-use Rattle.std.proofs.lemmas.Bool.{false≢true}
+use Rattle.std.proofs.Common.{◌≡◌, ◌≢◌, ℕ, ◌<◌, ◌⊎◌, Bool, List, Result, Ok, Err, arith, inl, inr}
 use Rattle.std.proofs.lemmas.Bool.Decides.{nat_tests}
-use Rattle.std.specs.Prelude.{IfOk, IfErr, MatchResult, IsTrue}
-use Rattle.clap.specs.Words.{Text, matches_of}
+use Rattle.std.specs.Prelude.{IfOk, IfErr, MatchResult}
+use Rattle.clap.specs.Words.{Text}
 use Rattle.sqz_image.specs.declared.fault.Fault.{Fault}
-use Rattle.sqz_image.specs.declared.fault.Fault.TheVariants.{OutOfMemory, ReadFailed, BadWorkers, BadCut}
+use Rattle.sqz_image.specs.declared.fault.Fault.TheVariants.{OutOfMemory, ReadFailed, WriteFailed, BadWorkers, BadCut}
 use Rattle.sqz_image.specs.Devices.{SinkState}
 use Rattle.sqz_image.specs.Numbers.{number_of_fault}
 use Rattle.sqz_tool.specs.declared.summary.Summary.{Summary}
-use Rattle.sqz_command.specs.CommandLine.{command_line}
-use Rattle.sqz_tool.specs.Endings.{EndsWhole, EndsFaulty}
+use Rattle.sqz_tool.specs.Endings.{AsksFor, EndsWhole, EndsRefused, MayStopEarly, EndsFaulty}
 use Rattle.sqz_command.specs.Exits.{exit_of, exit_of_number}
-use Rattle.sqz_tool.specs.FileRuns.{CompactsFiles, RefusesFiles}
+use Rattle.sqz_tool.specs.FileRuns.{Views, CompactsFiles, StopsFiles}
 use Rattle.sqz_command.specs.Lines.{PrintsFault}
-use Rattle.sqz_tool.specs.Plans.{weak_of, AsksToClear, AsksForCensus}
+use Rattle.sqz_tool.specs.Plans.{weak_of}
 
 -- no fault ends the program as done
 exit_of_number-some : (number : ℕ) → 0 < exit_of_number number
 exit_of_number-some number = grind (arith, nat_tests)
 
-module _ (words : List Text) (out new_out : SinkState) (exit : ℕ) (clear census : Bool)
-    (clears : IsTrue clear ↔ AsksToClear (matches_of command_line words)) (asked : IsTrue census ↔ AsksForCensus (matches_of command_line words)) where
-  pub ends_whole : (outcome : Result Summary Fault) → MatchResult outcome (λ _. exit ≡ 0) (λ fault. exit ≡ exit_of fault)
-      → IfOk outcome (λ summary. CompactsFiles (weak_of clear) census out new_out summary) → exit ≡ 0 → EndsWhole words out new_out
-  ends_whole (Ok summary) is compacts done = record {
-    census = census;
-    asked = asked;
-    clear = clear;
-    clears = clears;
-    summary = summary;
-    compacts = compacts;
-  }
-  ends_whole (Err fault) is compacts done = absurd (let some = exit_of_number-some (number_of_fault fault) in omega arith)
+-- the fault is none of a plan, and not that a file could not be read
+abbrev ComesLate : Fault → Type 0
+ComesLate fault = (fault ≢ BadWorkers) × (fault ≢ BadCut) × (fault ≢ ReadFailed)
 
-  pub ends_faulty : (err new_err : SinkState) (outcome : Result Summary Fault) → MatchResult outcome (λ _. exit ≡ 0) (λ fault. exit ≡ exit_of fault)
-      → IfErr outcome (λ fault. PrintsFault err new_err fault)
-      → IfErr outcome (λ fault. fault ≢ BadWorkers → fault ≢ BadCut → fault ≢ ReadFailed → RefusesFiles (weak_of clear) census out new_out fault)
-      → 0 < exit → EndsFaulty words exit out new_out err new_err
-  ends_faulty err new_err (Ok summary) is printed refuses some = absurd (omega arith)
-  ends_faulty err new_err (Err fault) is printed refuses some =
-      record {
-        fault = fault;
-        exit_is = is;
-        printed = printed;
-        refuses = λ one. record {
-          census = census;
-          asked = asked;
-          clear = clear;
-          clears = clears;
-          refuses = refuses (not_one BadWorkers refl one) (not_one BadCut refl one) (not_one ReadFailed refl one);
-        };
-      }
-    where
-      -- what ends with another exit is not the fault
-      not_one : (other : Fault) → (exit_of other == 1) ≡ false → exit ≡ 1 → fault ≢ other
-      not_one other differs one same =
-          let as_one : exit_of other ≡ 1 = sym (ap exit_of same) ∙ sym is ∙ one in
-          false≢true (sym differs ∙ ap (λ (n : ℕ). n == 1) as_one)
+-- each fault may stop the program before a run, or is one of these
+early_or_late : (fault : Fault) → MayStopEarly fault ⊎ ComesLate fault
+early_or_late BadWorkers = inl tt
+early_or_late BadCut = inl tt
+early_or_late OutOfMemory = inl tt
+early_or_late ReadFailed = inl tt
+early_or_late _ = inr ((λ e. absurd (cc e)), (λ e. absurd (cc e)), (λ e. absurd (cc e)))
 
--- memory was refused while the words were read
-pub ends_without_memory : (words : List Text) (out new_out err new_err : SinkState) (exit : ℕ) → exit ≡ 4
-    → PrintsFault err new_err OutOfMemory → EndsFaulty words exit out new_out err new_err
-ends_without_memory words out new_out err new_err exit is printed =
-    record { fault = OutOfMemory; exit_is = is; printed = printed; refuses = λ one. absurd (omega arith) }
+module _ {F S : Type 0} (views : Views F S) (words : List Text) (out new_out : SinkState) (exit : ℕ) where
+  module _ (path : Text) (clear census : Bool) (asked : AsksFor words path clear census) where
+    pub ends_whole : (outcome : Result Summary Fault) → MatchResult outcome (λ _. exit ≡ 0) (λ fault. exit ≡ exit_of fault)
+        → IfOk outcome (λ summary. CompactsFiles views path (weak_of clear) census out new_out summary) → exit ≡ 0
+        → EndsWhole views words out new_out
+    ends_whole (Ok summary) is compacts done = record {
+      path = path;
+      clear = clear;
+      census = census;
+      asked = asked;
+      summary = summary;
+      compacts = compacts;
+    }
+    ends_whole (Err fault) is compacts done = absurd (let some = exit_of_number-some (number_of_fault fault) in omega arith)
+
+    -- a fault that a call on files gave is that of a run, or one that may come before
+    ends_by : (fault : Fault)
+        → (fault ≢ BadWorkers → fault ≢ BadCut → StopsFiles views path (weak_of clear) census out new_out fault)
+        → MayStopEarly fault ⊎ ComesLate fault → MayStopEarly fault ⊎ EndsRefused views words out new_out fault
+    ends_by fault stops (inl early) = inl early
+    ends_by fault stops (inr late) =
+        elim (stops late.0 late.1) [
+          | inl unopened ↦ absurd (late.2 unopened.named)
+          | inr refuses ↦ inr (record { path = path; clear = clear; census = census; asked = asked; refuses = refuses })
+        ]
+
+    pub ends_faulty : (err new_err : SinkState) (outcome : Result Summary Fault)
+        → MatchResult outcome (λ _. exit ≡ 0) (λ fault. exit ≡ exit_of fault)
+        → IfErr outcome (λ fault. PrintsFault err new_err fault)
+        → IfErr outcome (λ fault. fault ≢ WriteFailed → new_out ≡ out)
+        → IfErr outcome (λ fault. fault ≢ BadWorkers → fault ≢ BadCut
+        → StopsFiles views path (weak_of clear) census out new_out fault)
+        → 0 < exit → EndsFaulty views words exit out new_out err new_err
+    ends_faulty err new_err (Ok summary) is printed untouched stops some = absurd (omega arith)
+    ends_faulty err new_err (Err fault) is printed untouched stops some =
+        record { fault = fault; exit_is = is; printed = printed; untouched = untouched; refuses = ends_by fault stops (early_or_late fault) }
+
+  -- memory was refused while the words were read
+  pub ends_without_memory : (err new_err : SinkState) → exit ≡ 4 → new_out ≡ out → PrintsFault err new_err OutOfMemory
+      → EndsFaulty views words exit out new_out err new_err
+  ends_without_memory err new_err is untouched printed =
+      record { fault = OutOfMemory; exit_is = is; printed = printed; untouched = λ _. untouched; refuses = inl tt }

@@ -1,5 +1,5 @@
 -- From what a run did, and what stopped it, to the run's contract.
-use Rattle.std.proofs.Common.{◌≡◌, ◌≢◌, ℕ, ◌≤◌, ◌⊎◌, Bool, true, false, List, Option, None, refl, sym, subst, arith, inl, inr}
+use Rattle.std.proofs.Common.{◌≡◌, ◌≢◌, ℕ, ◌≤◌, ◌⊎◌, Bool, true, false, List, None, refl, sym, subst, arith, inl, inr}
 use Rattle.sqz_object.specs.declared.chunk.ChunkFault.{ChunkFault}
 use Rattle.sqz_object.specs.declared.chunk.ChunkFault.TheVariants.{ZeroSize, HeaderMismatch, Overrun}
 use Rattle.sqz_image.specs.declared.fault.Fault.{Fault}
@@ -18,7 +18,8 @@ use Rattle.sqz_tool.specs.Verdict.{IsAccepted, IsRefused}
 use Rattle.sqz_command.specs.Exits.{exit_of}
 use Rattle.sqz_tool.specs.Headline.{IsCompaction, LacksNilIn, HasDefectIn, Sinks, sinks, Reports, Compacts, RefusesFile, Refuses}
 use Rattle.sqz_tool.proofs.SettledLemmas.{IsSettled-accepted}
-use Rattle.sqz_tool.specs.FileRuns.{CompactsFiles}
+use Rattle.clap.specs.Words.{Text}
+use Rattle.sqz_tool.specs.FileRuns.{Views, RunsFiles}
 use Rattle.sqz_command.specs.OutputFiles.{new_output}
 
 -- ---- the refusals of a file
@@ -189,17 +190,25 @@ module _ (weak : Weak) (census : Bool) (from to : SourceState) (old new : Sinks)
 
 -- ---- a run from one file to another
 
--- what a run did by a plan with this policy and this wish for a census, to a file that was not made yet
-pub CompactsFiles-from : (weak policy : Weak) (census asked : Bool) (left : Option (List ℕ)) (made output old new : SinkState)
-    (summary : Summary) → weak ≡ policy → census ≡ asked → made ≡ new_output
-    → ((to : SourceState) × Compacts weak census (new_source left) to (sinks made old) (sinks output new) summary)
-    → CompactsFiles policy asked old new summary
-CompactsFiles-from weak policy census asked left made output old new summary p q r (to, compacts) =
-    let not_made = subst (λ (m : SinkState). Compacts weak census (new_source left) to (sinks m old) (sinks output new) summary) r compacts in
-    let wished = subst (λ (c : Bool). Compacts weak c (new_source left) to (sinks new_output old) (sinks output new) summary) q not_made in
+-- what was done by a plan with this policy and this wish for a census, over a source with what a file had left, to the sink of
+-- a file that was not made yet
+pub runs_files : {F S : Type 0} (views : Views F S) (path : Text) (old new : SinkState)
+    (Does : Weak → Bool → SourceState → SourceState → Sinks → Sinks → Type 0) (weak policy : Weak) (census asked : Bool) (file : F)
+    (from to : SourceState) (sink after : S) → weak ≡ policy → census ≡ asked → from ≡ new_source (views.left file)
+    → views.path sink ≡ path → views.state sink ≡ new_output
+    → Does weak census from to (sinks (views.state sink) old) (sinks (views.state after) new)
+    → RunsFiles views path old new (Does policy asked)
+runs_files views path old new Does weak policy census asked file from to sink after same wished read named not_made does =
+    let before = sinks (views.state sink) old in
+    let then = sinks (views.state after) new in
+    let cleared : Does policy census from to before then = subst (λ (w : Weak). Does w census from to before then) same does in
+    let counted : Does policy asked from to before then = subst (λ (c : Bool). Does policy c from to before then) wished cleared in
     record {
-      left = left;
+      file = file;
       to = to;
-      output = output;
-      compacts = subst (λ (w : Weak). Compacts w asked (new_source left) to (sinks new_output old) (sinks output new) summary) p wished;
+      sink = sink;
+      named = named;
+      not_made = not_made;
+      after = after;
+      does = subst (λ (s : SourceState). Does policy asked s to before then) read counted;
     }

@@ -1,22 +1,49 @@
 -- Runs from one file to another, of which contracts see no bytes unless the files tell them.
-use Rattle.std.specs.Prelude.{ℕ, Bool, List, Option}
+use Rattle.std.specs.Prelude.{◌≡◌, ◌⊎◌, ℕ, Bool, List, Option}
+use Rattle.clap.specs.Words.{Text}
 use Rattle.sqz_image.specs.declared.fault.Fault.{Fault}
+use Rattle.sqz_image.specs.declared.fault.Fault.TheVariants.{ReadFailed}
 use Rattle.sqz_image.specs.Devices.{SourceState, SinkState, new_source}
 use Rattle.sqz_command.specs.OutputFiles.{new_output}
 use Rattle.sqz_trace.specs.declared.weak.Weak.{Weak}
 use Rattle.sqz_tool.specs.declared.summary.Summary.{Summary}
-use Rattle.sqz_tool.specs.Headline.{Compacts, Refuses, sinks}
+use Rattle.sqz_tool.specs.Headline.{Compacts, Refuses, Sinks, sinks}
 
--- a run over what some file had left, to a file that was not made yet, and to the sink of its census: it succeeded
-pub record CompactsFiles (weak : Weak) (census : Bool) (old new : SinkState) (summary : Summary) : Type 0 where
-  pub left : Option (List ℕ)
-  pub to : SourceState
-  pub output : SinkState
-  pub compacts : Compacts weak census (new_source left) to (sinks new_output old) (sinks output new) summary
+-- how files are seen: an open one, of type F, by the bytes that it has left, where it tells them, and the sink of one that is to be
+-- written, of type S, by its state and the path of that file
+pub record Views (F S : Type 0) : Type 0 where
+  pub left : F → Option (List ℕ)
+  pub state : S → SinkState
+  pub path : S → Text
 
--- or it was refused
-pub record RefusesFiles (weak : Weak) (census : Bool) (old new : SinkState) (fault : Fault) : Type 0 where
-  pub left : Option (List ℕ)
+-- something was done over all that some file had left, to the sink of the file with this path, which was not made yet, and to
+-- the sink of a census
+pub record RunsFiles {F S : Type 0} (views : Views F S) (path : Text) (old new : SinkState)
+    (Does : SourceState → SourceState → Sinks → Sinks → Type 0) : Type 0 where
+  pub file : F
   pub to : SourceState
-  pub output : SinkState
-  pub refuses : Refuses weak census (new_source left) to (sinks new_output old) (sinks output new) fault
+  pub sink : S
+  pub named : views.path sink ≡ path
+  pub not_made : views.state sink ≡ new_output
+  pub after : S
+  pub does : Does (new_source (views.left file)) to (sinks (views.state sink) old) (sinks (views.state after) new)
+
+-- it was a run that succeeded
+abbrev pub CompactsFiles : {F S : Type 0} → Views F S → Text → Weak → Bool → SinkState → SinkState → Summary → Type 0
+CompactsFiles views path weak census old new summary =
+    RunsFiles views path old new (λ from to before after. Compacts weak census from to before after summary)
+
+-- or a run that was refused
+abbrev pub RefusesFiles : {F S : Type 0} → Views F S → Text → Weak → Bool → SinkState → SinkState → Fault → Type 0
+RefusesFiles views path weak census old new fault =
+    RunsFiles views path old new (λ from to before after. Refuses weak census from to before after fault)
+
+-- the image was not opened, so that nothing was done
+pub record IsUnopened (old new : SinkState) (fault : Fault) : Type 0 where
+  pub named : fault ≡ ReadFailed
+  pub untouched : new ≡ old
+
+-- what was done where there is a plan and yet no image was written
+abbrev pub StopsFiles : {F S : Type 0} → Views F S → Text → Weak → Bool → SinkState → SinkState → Fault → Type 0
+StopsFiles views path weak census old new fault =
+    IsUnopened old new fault ⊎ RefusesFiles views path weak census old new fault

@@ -10,7 +10,7 @@ ghost use Rattle.sqz_tool.specs.Plans.{AsksForCensus, AsksForPlan};
 
 use crate::compact_files::compact;
 use crate::summary::Summary;
-use sqz_command::{DONE, explain, read_arguments, refuse};
+use sqz_command::{DONE, OutputFile, explain, read_arguments, refuse};
 use sqz_image::{Fault, Sink};
 use sqz_workers::OpenGate;
 use std::alloc::Global;
@@ -41,9 +41,11 @@ pub fn program<T: Files + Threads + Sync, C: Sink, E: Sink>(
     ensures wrong { AreTaken (map string_bytes words.now)
         → (AsksForPlan (matches_of command_line (map string_bytes words.now)) → ⊥) → (result ≡ 2) ⊎ (result ≡ 4) }
     ensures whole { AreTaken (map string_bytes words.now) → result ≡ 0
-        → EndsWhole (map string_bytes words.now) (C.state out.old) (C.state out.new) }
+        → EndsWhole (record { left = T.File.remaining; state = ⟦<OutputFile<'static, T> as Sink>⟧.state; path = λ sink. sink.path.now })
+        (map string_bytes words.now) (C.state out.old) (C.state out.new) }
     ensures faulty { AreTaken (map string_bytes words.now) → 0 < result
-        → EndsFaulty (map string_bytes words.now) result (C.state out.old) (C.state out.new) (E.state err.old) (E.state err.new) }
+        → EndsFaulty (record { left = T.File.remaining; state = ⟦<OutputFile<'static, T> as Sink>⟧.state; path = λ sink. sink.path.now })
+        (map string_bytes words.now) result (C.state out.old) (C.state out.new) (E.state err.old) (E.state err.new) }
     ensures unused { AreTaken (map string_bytes words.now)
         → (AsksForCensus (matches_of command_line (map string_bytes words.now)) → ⊥) → C.state out.new ≡ C.state out.old }
     ensures silent { result ≡ 0 → err.new ≡ err.old }

@@ -2,22 +2,31 @@
 
 ghost use Rattle.std.specs.Prelude.{◌≡◌, ◌⊎◌, IfOk, IfErr};
 ghost use Rattle.sqz_image.specs.declared.fault.Fault.TheVariants.{ReadFailed, BadWorkers, BadCut};
+ghost use Rattle.sqz_image.specs.Devices.{new_source};
 ghost use Rattle.sqz_regions.specs.Regions.{Every};
 ghost use Rattle.sqz_command.specs.OutputFiles.{new_output};
+ghost use Rattle.sqz_tool.specs.Headline.{Compacts, Refuses, sinks};
 ghost use Rattle.sqz_tool.specs.Plans.{IsWorkers, IsRegion, weak_of};
 
 use crate::plan::Plan;
+use crate::running::run;
+use crate::summary::Summary;
 use sqz_command::{Arguments, OutputFile};
-use sqz_image::{Fault, Sink};
+use sqz_image::{Fault, ReadSource, Sink, Source};
+use sqz_workers::Gate;
+use std::alloc::Global;
 use std::fs::File;
+use std::io::Read;
 use std::rt::Files;
+use std::thread::Threads;
 
-/// The plan of a command line, the image that it names, and the file that is to be written.
+/// The plan of a command line, the image that it names, and the file that is to be written. Nothing but `run` reads the
+/// one and writes the other.
 #[derive(Drop)]
 pub(crate) struct Opened<'a, T: Files> {
-    pub plan: Plan,
-    pub file: T::File,
-    pub sink: OutputFile<'a, T>,
+    plan: Plan,
+    source: ReadSource<T::File>,
+    sink: OutputFile<'a, T>,
 }
 
 impl<'a, T: Files> Opened<'a, T> {
@@ -31,6 +40,8 @@ impl<'a, T: Files> Opened<'a, T> {
         ensures weak { IfOk result (λ opened. opened.plan.weak ≡ weak_of arguments.now.clear_weak) }
         ensures census { IfOk result (λ opened. opened.plan.census ≡ arguments.now.census) }
         ensures taken { IfOk result (λ _. IsWorkers arguments.now.workers × IsRegion arguments.now.region_words) }
+        ensures not_read { IfOk result (λ opened. (file : T.File)
+            × (⟦<ReadSource<T::File> as Source>⟧.state opened.source ≡ new_source (T.File.remaining file))) }
         ensures path { IfOk result (λ opened. opened.sink.path.now ≡ arguments.now.output.now) }
         ensures not_made { IfOk result (λ opened. ⟦<OutputFile<'a, T> as Sink>⟧.state opened.sink ≡ new_output) }
         ensures refused { IfErr result (λ fault.
@@ -42,7 +53,39 @@ impl<'a, T: Files> Opened<'a, T> {
         let Ok(file) = File::open(rt, arguments.input) else {
             return Err(Fault::ReadFailed);
         };
+        let source = ReadSource::new(file);
         let sink = OutputFile::new(rt, arguments.output);
-        Ok(Opened { plan, file, sink })
+        Ok(Opened { plan, source, sink })
+    }
+}
+
+impl<'a, T: Files + Threads + Sync> Opened<'a, T> {
+    /// A run by the plan, over all that the image's file has left, to the file that is to be written, and with its census
+    /// to `out`. Fails as the free function `run` does.
+    pub(crate) fn run<C: Sink, G: Gate>(
+        &mut self,
+        rt: &T,
+        alloc: Global,
+        out: &mut C,
+        gate: &G,
+    ) -> Result<Summary, Fault>
+        ensures compacts { IfOk result (λ summary. Compacts self.old.plan.weak self.old.plan.census
+            (⟦<ReadSource<T::File> as Source>⟧.state self.old.source) (⟦<ReadSource<T::File> as Source>⟧.state self.new.source)
+            (sinks (⟦<OutputFile<'a, T> as Sink>⟧.state self.old.sink) (C.state out.old))
+            (sinks (⟦<OutputFile<'a, T> as Sink>⟧.state self.new.sink) (C.state out.new)) summary) }
+        ensures refuses { IfErr result (λ fault. Refuses self.old.plan.weak self.old.plan.census
+            (⟦<ReadSource<T::File> as Source>⟧.state self.old.source) (⟦<ReadSource<T::File> as Source>⟧.state self.new.source)
+            (sinks (⟦<OutputFile<'a, T> as Sink>⟧.state self.old.sink) (C.state out.old))
+            (sinks (⟦<OutputFile<'a, T> as Sink>⟧.state self.new.sink) (C.state out.new)) fault) }
+    {
+        run(
+            rt,
+            alloc,
+            &self.plan,
+            &mut self.source,
+            &mut self.sink,
+            out,
+            gate,
+        )
     }
 }

@@ -8,15 +8,17 @@ use Rattle.sqz_tool.proofs.command.program.Goals as goal
 
 pub returns-in-Ok-clause-whole : goal.returns-in-Ok-clause-whole
 returns-in-Ok-clause-whole g c =
-    λ taken. ends_whole _ _ _ c.finish.result c.in-Ok.arguments.clear_weak c.in-Ok.arguments.census
-    c.in-Ok.ensures.clear_weak c.in-Ok.ensures.census c.compact.result c.finish.ensures.exit
+    let read = c.in-Ok.ensures in
+    λ taken. ends_whole _ _ _ _ c.finish.result c.in-Ok.arguments.output.now c.in-Ok.arguments.clear_weak c.in-Ok.arguments.census
+    (record { out = read.output; clears = read.clear_weak; counts = read.census }) c.compact.result c.finish.ensures.exit
     c.compact.ensures.compacts
 
 pub returns-in-Ok-clause-faulty : goal.returns-in-Ok-clause-faulty
 returns-in-Ok-clause-faulty g c =
-    λ taken. ends_faulty _ _ _ c.finish.result c.in-Ok.arguments.clear_weak c.in-Ok.arguments.census
-    c.in-Ok.ensures.clear_weak c.in-Ok.ensures.census _ _ c.compact.result c.finish.ensures.exit
-    c.finish.ensures.line c.compact.ensures.refuses
+    let read = c.in-Ok.ensures in
+    λ taken. ends_faulty _ _ _ _ c.finish.result c.in-Ok.arguments.output.now c.in-Ok.arguments.clear_weak c.in-Ok.arguments.census
+    (record { out = read.output; clears = read.clear_weak; counts = read.census }) _ _ c.compact.result c.finish.ensures.exit
+    c.finish.ensures.line c.compact.ensures.quiet c.compact.ensures.refuses
 
 pub returns-in-Ok-clause-unused : goal.returns-in-Ok-clause-unused
 returns-in-Ok-clause-unused g c =
@@ -30,4 +32,5 @@ returns-in-Err-clause-faulty g c =
       | inl is ↦ is
       | inr none ↦ absurd none
     ] in
-    ends_without_memory _ _ _ _ _ c.explain.result (c.explain.ensures.exit ∙ ap exit_of_kind memory) (c.explain.ensures.memory memory)
+    ends_without_memory _ _ _ _ c.explain.result _ _ (c.explain.ensures.exit ∙ ap exit_of_kind memory)
+    (ap g.C.Sink.state (c.explain.ensures.quiet some)) (c.explain.ensures.memory memory)
