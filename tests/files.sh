@@ -369,6 +369,16 @@ refuses_number() {
   faulted 2 "$line" && [ ! -e out ]
 }
 
+# The program that times the stages of a run writes the image that the program writes, in each of its runs.
+writes_as_it_times() {
+  local image=$1 answer=$2
+  shift 2
+  rm -f out
+  (cd "$root/crates/sqz_passes" && rt run -- "$@" "$image" "$folder/out") </dev/null >printed 2>said
+  status=$?
+  [ "$status" -eq 0 ] && cmp -s out "$answer"
+}
+
 # The help has a line for each option, with the number that is taken where none is given.
 helps() {
   run --help
@@ -467,6 +477,10 @@ case_of 'refuses regions of more than 2^30 words' refuses_number "$image" "$cut"
 case_of 'takes the largest numbers' compacts "$image" "$answer" --workers 64 --region-words 1073741824
 case_of 'helps' helps
 case_of 'compacts from a pipe' compacts_from_pipe "$image" "$answer"
+case_of 'writes a dozen classes as it times them' writes_as_it_times \
+  "$images/dozen_classes.image" "$images/dozen_classes.compacted.image"
+case_of 'writes a cleared weak array as it times it' writes_as_it_times \
+  "$images/weak_array.image" "$images/cleared/weak_array.image" --clear-weak
 if [ "$(id -u)" -ne 0 ]; then
   case_of 'reports an input without the right to read it' reports_input_without_right "$image"
   case_of 'reports an output without the right to write it' reports_output_without_right "$image"
