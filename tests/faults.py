@@ -25,14 +25,11 @@ import subprocess
 import sys
 import tempfile
 
-ROOT = os.path.dirname(os.path.dirname(os.path.realpath(__file__)))
-IMAGES = os.path.join(ROOT, "images")
-PROGRAM = os.path.join(ROOT, "crates", "sqzcompact", "out", "sqzcompact")
-OLD = b"as it was\n"
+from common import IMAGES, NO_MEMORY, OLD, PROGRAM, ROOT, Tests, compiled, read, write
+
 # What a run may take, in seconds. None that ends as it must takes a twentieth of that.
 SECONDS = 20
-# The exits of refused memory and of failed devices, and their lines.
-NO_MEMORY = (4, b"fault 15: out of memory\n")
+# The exit of failed devices, and their lines.
 NOT_READ = (3, b"fault 16: cannot read the image\n")
 NOT_WRITTEN = (3, b"fault 17: cannot write the output\n")
 # The images: a dead array, dead objects that name each other, names of classes in both byte orders, and weak objects in a file
@@ -57,16 +54,6 @@ WANTS_MEMORY = (b"error: OutOfMemory\n", b"error: AllocError\n")
 Run = collections.namedtuple("Run", "options image answer census")
 # How a run ended, what it wrote, and whether something was refused to it.
 Outcome = collections.namedtuple("Outcome", "status said printed written was_refused")
-
-
-def read(path):
-    with open(path, "rb") as file:
-        return file.read()
-
-
-def write(path, data):
-    with open(path, "wb") as file:
-        file.write(data)
 
 
 def outcome_of(run, library, variables):
@@ -158,34 +145,18 @@ def chain_run(workers):
     return Run(("--workers", workers), image, image, b"")
 
 
-class Tests:
-    """What passed and what failed."""
+class FaultTests(Tests):
+    """What passed and what failed, and how many runs ended with a fault."""
 
     def __init__(self):
-        self.passed = self.failed = self.faults = 0
-
-    def add(self, name, passed):
-        self.passed += passed
-        self.failed += not passed
-        if not passed:
-            print(f"failed: {name}")
+        super().__init__()
+        self.faults = 0
 
     def add_each(self, name, least, *words):
         """Tries a run with one thing after the other refused, of which so many at least are to end with a fault."""
         bears, faults = bears_each(*words)
         self.faults += faults
         self.add(name, bears and faults >= least)
-
-
-def compiled(name):
-    """The library that is made of a C file beside this one; None where there is no compiler."""
-    library = os.path.realpath(f"{name}.so")
-    words = ["cc", "-shared", "-fPIC", "-o", library, os.path.join(ROOT, "tests", f"{name}.c")]
-    try:
-        subprocess.run(words, check=True, stderr=subprocess.DEVNULL)
-    except (OSError, subprocess.CalledProcessError):
-        return None
-    return library
 
 
 def try_memory(tests, library):
@@ -248,7 +219,7 @@ def try_calls_again(tests, library):
 
 
 def main():
-    tests = Tests()
+    tests = FaultTests()
     with tempfile.TemporaryDirectory() as folder:
         os.chdir(folder)
         memory, calls = compiled("refuse_memory"), compiled("fail_calls")
@@ -260,8 +231,7 @@ def main():
             try_calls_again(tests, memory)
         os.chdir(ROOT)
     print(f"{tests.faults} runs ended with a fault", file=sys.stderr)
-    print(f"{tests.passed} passed, {tests.failed} failed")
-    return 1 if tests.failed else 0
+    return tests.end()
 
 
 if __name__ == "__main__":
