@@ -337,6 +337,41 @@ refuses_words() {
   faulted 2 'error: an argument is not valid text' && [ ! -e out ]
 }
 
+# The image is read at the path as it is given: another one is at the path without its spaces.
+reads_path_as_given() {
+  local path=$1 image=$2 answer=$3 other=$4
+  cp "$other" in
+  cp "$image" "$path"
+  rm -f out
+  run "$path" out
+  wrote out "$answer" && cmp -s in "$other"
+}
+
+# The answer is made at the path as it is given: what is at the path without its spaces stays as it was.
+writes_path_as_given() {
+  local path=$1 image=$2 answer=$3
+  put_old_output
+  rm -f "$path"
+  run "$image" "$path"
+  wrote "$path" "$answer" && has_old_output
+}
+
+# The same where nothing is at the path without its spaces: nothing is made there.
+writes_path_as_given_alone() {
+  local path=$1 image=$2 answer=$3
+  rm -f out "$path"
+  run "$image" "$path"
+  wrote "$path" "$answer" && [ ! -e out ]
+}
+
+reports_missing_input_beside_path() {
+  local path=$1
+  cp "$2" in
+  rm -f out "$path"
+  run "$path" out
+  faulted 3 'fault 16: cannot read the image' && [ ! -e out ]
+}
+
 wants_output() {
   run "$1"
   explained
@@ -454,6 +489,15 @@ case_of 'reports a full device' reports_full_device "$image"
 case_of 'reports a full device for a census' reports_full_device_for_census "$image" "$answer"
 case_of 'counts where options come last' counts_with_options_last "$image" "$answer" "$census"
 case_of 'counts in place' counts_in_place "$image" "$answer" "$census"
+other=$images/dead_cycle.image
+for spaced in "in " " in" $'in\n' $'\tin'; do
+  case_of "reads the path as it is given: ${spaced@Q}" reads_path_as_given "$spaced" "$image" "$answer" "$other"
+  case_of "misses the path as it is given: ${spaced@Q}" reports_missing_input_beside_path "$spaced" "$image"
+done
+for spaced in "out " " out" $'out\n' $'\tout'; do
+  case_of "writes the path as it is given: ${spaced@Q}" writes_path_as_given "$spaced" "$image" "$answer"
+  case_of "makes the path as it is given alone: ${spaced@Q}" writes_path_as_given_alone "$spaced" "$image" "$answer"
+done
 case_of 'wants an output' wants_output "$image"
 case_of 'wants no third word' wants_no_third_word "$image"
 case_of 'refuses an input that is no text' refuses_words $'in\xff' out
