@@ -15,3 +15,4 @@ pub mod LawLemmas
 pub mod ShapeLemmas
 pub mod SoundLemmas
 pub mod CopyLemmas
+pub mod CopiedEdgeLemmas
