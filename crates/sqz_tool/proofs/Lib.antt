@@ -3,3 +3,4 @@ pub mod RunLemmas
 pub mod Uniqueness
 mod EndingLemmas
 pub mod SettledLemmas
+pub mod CorrespondenceLemmas

@@ -1,5 +1,6 @@
 pub mod Compacted
 pub mod Verdict
+pub mod Correspondence
 pub mod Settled
 pub mod Headline
 pub mod FileRuns

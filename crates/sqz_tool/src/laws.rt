@@ -6,6 +6,7 @@ ghost use Rattle.sqz_image.specs.File.{AreBytes};
 ghost use Rattle.sqz_image.specs.Objects.{SavedImage, file_bytes};
 ghost use Rattle.sqz_trace.specs.declared.weak.Weak.{Weak};
 ghost use Rattle.sqz_tool.specs.Compacted.{compacted};
+ghost use Rattle.sqz_tool.specs.Correspondence.{HasMovedObjects};
 ghost use Rattle.sqz_tool.specs.Verdict.{IsAccepted, IsRefused};
 ghost use Rattle.sqz_tool.specs.Settled.{IsSettled};
 
@@ -29,4 +30,11 @@ pub fn one_refusal()
 pub fn compacts_once()
     ensures { (weak : Weak) (file : List ℕ) (image : SavedImage) (marks : List Bool) → AreBytes file
         → IsAccepted weak file image marks → IsSettled weak (file_bytes (compacted image weak marks)) }
+{}
+
+/// The objects of a compacted image are the live objects of the image, in their order: each at its place, with its words after the
+/// move, and with the same edges.
+pub fn keeps_objects()
+    ensures { (weak : Weak) (file : List ℕ) (image : SavedImage) (marks : List Bool) → IsAccepted weak file image marks
+        → HasMovedObjects image.memory weak marks (compacted image weak marks).memory }
 {}
