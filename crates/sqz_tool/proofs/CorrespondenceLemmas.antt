@@ -1,18 +1,18 @@
 -- The objects of a compacted image are the marked objects of the image, moved.
-use Rattle.std.proofs.Common.{◌≡◌, ◌↔◌, ℕ, ◌%◌, ◌<◌, Bool, true, false, List, length, take, refl, sym, ap, subst, ◌∙◌, arith, inl, inr, Some, None}
+use Rattle.std.proofs.Common.{◌≡◌, ◌↔◌, ℕ, ◌%◌, ◌<◌, Bool, true, false, List, length, take, ap, subst, ◌∙◌, arith, inl, inr, None}
 use Rattle.std.specs.List.{AllByRecursion}
 use Rattle.std.proofs.lemmas.Bool.{cases_lt}
 use Rattle.std.proofs.lemmas.List.{length-take, take-take, get_or-take, length-map}
 use Rattle.sqz_object.specs.Chunk.{IsChunk}
 use Rattle.sqz_image.specs.File.{base_address, image_bytes}
-use Rattle.sqz_image.specs.Objects.{Memory, SavedImage, objects, object_count, find}
+use Rattle.sqz_image.specs.Objects.{Memory, SavedImage, objects, object_count}
 use Rattle.sqz_image.specs.Refusals.{HasChunks}
 use Rattle.sqz_image.proofs.FoundLemmas.{objects_of-all}
 use Rattle.sqz_image.proofs.ReadingLemmas.{sound_header}
 use Rattle.sqz_trace.specs.declared.weak.Weak.{Weak}
 use Rattle.sqz_trace.specs.Edges.{HasEdge}
 use Rattle.sqz_trace.specs.Graph.{is_marked}
-use Rattle.sqz_trace.specs.Live.{marked, live}
+use Rattle.sqz_trace.specs.Live.{live}
 use Rattle.sqz_trace.specs.Reachability.{IsReachability}
 use Rattle.sqz_trace.specs.Defects.{first_defect, lacks_nil}
 use Rattle.sqz_trace.proofs.CopyLemmas.{IsCopy, marked_inside, HasEdge-copy}
@@ -24,7 +24,7 @@ use Rattle.sqz_slide.proofs.CompactedLemmas.{copied_objects, inside-copied, word
 use Rattle.sqz_slide.proofs.CopiedLemmas.{IsCopy-compacted}
 use Rattle.sqz_tool.proofs.CompactionLemmas.{new_special-place}
 use Rattle.sqz_tool.specs.Compacted.{new_special, compacted_memory, compacted}
-use Rattle.sqz_tool.specs.Correspondence.{new_index, IsMovedObject, IsOfMarked, IsOfEdge, HasMovedObjects}
+use Rattle.sqz_tool.specs.Correspondence.{new_index, IsMovedObject, IsOfEdge, HasMovedObjects}
 use Rattle.sqz_tool.specs.Verdict.{IsAccepted}
 
 -- ---- new indexes
