@@ -24,7 +24,7 @@ use Rattle.sqz_slide.proofs.CompactedLemmas.{copied_objects, inside-copied, word
 use Rattle.sqz_slide.proofs.CopiedLemmas.{IsCopy-compacted}
 use Rattle.sqz_tool.proofs.CompactionLemmas.{new_special-place}
 use Rattle.sqz_tool.specs.Compacted.{new_special, compacted_memory, compacted}
-use Rattle.sqz_tool.specs.Correspondence.{new_index, IsMovedObject, IsOfEdge, HasMovedObjects}
+use Rattle.sqz_tool.specs.Correspondence.{new_index, IsMovedObject, HasOldEdge, HasMovedObjects}
 use Rattle.sqz_tool.specs.Verdict.{IsAccepted}
 
 -- ---- new indexes
@@ -92,10 +92,10 @@ module _ (memory : Memory) (weak : Weak) (marks : List Bool) (aligned : memory.b
       }
 
   -- each edge after the move is that of an edge before
-  IsOfEdge-after : (from next : ℕ) → is_marked marks from ≡ true → HasEdge after weak (new from) next → IsOfEdge memory weak marks from next
-  IsOfEdge-after from next m edge =
+  HasOldEdge-after : (from next : ℕ) → is_marked marks from ≡ true → HasEdge after weak (new from) next → HasOldEdge memory weak marks from next
+  HasOldEdge-after from next m edge =
       let its = HasEdge-copied memory after weak marks new copy reachable has_nil sound from next m edge in
-      record { to = its.0; is_marked = its.1; edge = its.2; same = its.3 }
+      record { to = its.0; kept = its.1; edge = its.2; same = its.3 }
 
   -- edges between marked objects stay
   edges_stay : (from to : ℕ) → is_marked marks from ≡ true → is_marked marks to ≡ true
@@ -103,8 +103,8 @@ module _ (memory : Memory) (weak : Weak) (marks : List Bool) (aligned : memory.b
   edges_stay from to m n = (
     HasEdge-copy memory after weak marks new copy reachable has_nil sound from to m,
     (λ edge.
-        let its = IsOfEdge-after from (new to) m edge in
-        subst (HasEdge memory weak from) (new_index-same memory marks sized its.to to its.is_marked n its.same) its.edge),
+        let its = HasOldEdge-after from (new to) m edge in
+        subst (HasEdge memory weak from) (new_index-same memory marks sized its.to to its.kept n its.same) its.edge),
   )
 
   pub HasMovedObjects-compacted : HasMovedObjects memory weak marks (compacted_memory memory weak marks)
@@ -112,11 +112,11 @@ module _ (memory : Memory) (weak : Weak) (marks : List Bool) (aligned : memory.b
       record {
         count = count_after;
         each = moved_object;
-        onto = λ index lt. let its = copy.onto index lt in record { old = its.0; is_marked = its.1; same = its.2 };
+        onto = λ index lt. let its = copy.onto index lt in record { old = its.0; kept = its.1; same = its.2 };
         ordered = new_index-lt memory marks sized;
         special = copy.special;
         edges = edges_stay;
-        onto_edges = IsOfEdge-after;
+        onto_edges = HasOldEdge-after;
       }
 
 -- ---- a file that is accepted

@@ -23,15 +23,15 @@ pub record IsMovedObject (memory : Memory) (weak : Weak) (marks : List Bool) (af
       ≡ option_map (new_index memory marks) (strong_target memory weak index slot)
 
 -- a marked object that has this index after the move
-pub record IsOfMarked (memory : Memory) (marks : List Bool) (index : ℕ) : Type 0 where
+pub record HasOldIndex (memory : Memory) (marks : List Bool) (index : ℕ) : Type 0 where
   pub old : ℕ
-  pub is_marked : is_marked marks old ≡ true
+  pub kept : is_marked marks old ≡ true
   pub same : new_index memory marks old ≡ index
 
 -- an edge from an object to a marked one that has this index after the move
-pub record IsOfEdge (memory : Memory) (weak : Weak) (marks : List Bool) (from next : ℕ) : Type 0 where
+pub record HasOldEdge (memory : Memory) (weak : Weak) (marks : List Bool) (from next : ℕ) : Type 0 where
   pub to : ℕ
-  pub is_marked : is_marked marks to ≡ true
+  pub kept : is_marked marks to ≡ true
   pub edge : HasEdge memory weak from to
   pub same : new_index memory marks to ≡ next
 
@@ -39,10 +39,10 @@ pub record IsOfEdge (memory : Memory) (weak : Weak) (marks : List Bool) (from ne
 pub record HasMovedObjects (memory : Memory) (weak : Weak) (marks : List Bool) (after : Memory) : Type 0 where
   pub count : object_count after ≡ length (live memory marks)
   pub each : (index : ℕ) → is_marked marks index ≡ true → IsMovedObject memory weak marks after index
-  pub onto : (index : ℕ) → index < object_count after → IsOfMarked memory marks index
+  pub onto : (index : ℕ) → index < object_count after → HasOldIndex memory marks index
   pub ordered : (one other : ℕ) → is_marked marks one ≡ true → one < other → new_index memory marks one < new_index memory marks other
   pub special : (index : ℕ) → find memory memory.special ≡ Some index → find after after.special ≡ Some (new_index memory marks index)
   pub edges : (from to : ℕ) → is_marked marks from ≡ true → is_marked marks to ≡ true
       → HasEdge memory weak from to ↔ HasEdge after weak (new_index memory marks from) (new_index memory marks to)
   pub onto_edges : (from next : ℕ) → is_marked marks from ≡ true → HasEdge after weak (new_index memory marks from) next
-      → IsOfEdge memory weak marks from next
+      → HasOldEdge memory weak marks from next
