@@ -14,6 +14,8 @@ mod extremes;
 #[cfg(test)]
 mod headers;
 #[cfg(test)]
+mod held;
+#[cfg(test)]
 mod plans;
 #[cfg(test)]
 mod prefixes;

@@ -9,7 +9,7 @@ use sqz_regions::Cut;
 use sqz_test_images::file_of;
 use sqz_tool::{Plan, Summary, run};
 use sqz_trace::Weak;
-use sqz_workers::OpenGate;
+use sqz_workers::{Gate, OpenGate};
 use std::alloc::Global;
 use std::process::Abort;
 use std::sync::Wait;
@@ -85,18 +85,22 @@ pub(crate) fn run_over<R: Threads + Wait + Sync>(
     file: Vec<u8>,
     devices: &Devices,
 ) -> Result<Outcome, Fail> {
+    run_past(rt, alloc, plan, file, devices, &OpenGate)
+}
+
+/// A run over a file by workers that pass a gate.
+pub(crate) fn run_past<R: Threads + Sync, G: Gate>(
+    rt: &R,
+    alloc: Global,
+    plan: &Plan,
+    file: Vec<u8>,
+    devices: &Devices,
+    gate: &G,
+) -> Result<Outcome, Fail> {
     let mut source = MemorySource::new(file, devices.piece.max(1), devices.source_fails);
     let mut sink = MemorySink::new(alloc, devices.image_room, devices.image_fails)?;
     let mut report = MemorySink::new(alloc, devices.census_room, devices.census_fails)?;
-    let answer = run(
-        rt,
-        alloc,
-        plan,
-        &mut source,
-        &mut sink,
-        &mut report,
-        &OpenGate,
-    );
+    let answer = run(rt, alloc, plan, &mut source, &mut sink, &mut report, gate);
     Ok(Outcome {
         answer,
         image: Vec::from_slice(alloc, sink.contents())?,

@@ -1,0 +1,55 @@
+//! Runs by workers of whom one is held: they write the same as those by workers of whom none is.
+
+use super::runs::{SOUND, data_of, file_with, plan_by, run_over, run_past};
+use sqz_object::Order;
+use sqz_test_images::{DEAD_CYCLE, DEAD_CYCLE_ANSWER};
+use sqz_trace::Weak;
+use sqz_workers::{Gate, Phase};
+use std::sync::atomic::{AtomicU64, Ordering};
+use std::test::Fail;
+use std::thread;
+
+/// How often a worker that is held lets others go on.
+const YIELDS: u32 = 10_000;
+
+/// A gate that holds the first worker at its first turn of marking, and counts how often it let it through after that.
+#[derive(Drop)]
+struct HoldingGate {
+    held: AtomicU64,
+}
+
+impl Gate for HoldingGate {
+    fn pass(&self, phase: Phase, worker: u32, turn: u64) {
+        if phase == Phase::Mark && worker == 0 && turn == 0 {
+            for _ in 0..YIELDS {
+                thread::yield_now();
+            }
+            self.held.fetch_add(1, Ordering::SeqCst);
+        }
+    }
+}
+
+#[test]
+fn same_answer_where_the_first_worker_is_held(rt: HostRuntime) -> Result<(), Fail> {
+    let wanted = file_with(&rt, Order::Little, data_of(&DEAD_CYCLE_ANSWER, 0x1014))?;
+    for workers in [1, 2, 64] {
+        let plan = plan_by(workers, 1, Weak::Keep)?;
+        let file = file_with(&rt, Order::Little, data_of(&DEAD_CYCLE, 0x1024))?;
+        let open = run_over(&rt, rt.alloc(), &plan, file, &SOUND)?;
+        assert_eq!(rt; open.image, wanted, "with {workers} workers");
+        let gate = HoldingGate {
+            held: AtomicU64::new(0),
+        };
+        let file = file_with(&rt, Order::Little, data_of(&DEAD_CYCLE, 0x1024))?;
+        let held = run_past(&rt, rt.alloc(), &plan, file, &SOUND, &gate)?;
+        assert_eq!(rt;
+            gate.held.load(Ordering::SeqCst),
+            1,
+            "with {workers} workers"
+        );
+        assert_eq!(rt; held.image, open.image, "with {workers} workers");
+        assert_eq!(rt; held.census, open.census, "with {workers} workers");
+        assert_eq!(rt; held.answer, open.answer, "with {workers} workers");
+    }
+    Ok(())
+}
