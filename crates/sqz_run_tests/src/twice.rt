@@ -1,9 +1,10 @@
 //! Runs over what a run has written: they write the same once more.
 
 use super::prefixes::behind;
-use super::runs::{Data, SOUND, file_with, plan_of, run_over};
+use super::runs::{Data, SOUND, assert_writes, data_of, file_with, plan_of, run_over};
 use sqz_image::Fault;
 use sqz_marks::Workers;
+use sqz_object::Order;
 use sqz_regions::Cut;
 use sqz_test_images::{IMAGES, Words};
 use sqz_tool::Plan;
@@ -79,6 +80,21 @@ fn second_run_changes_nothing(rt: HostRuntime) -> Result<(), Fail> {
     for bytes_before in [0, 512] {
         assert_eq!(rt; count_settled(&rt, Weak::Keep, bytes_before)?, 45);
         assert_eq!(rt; count_settled(&rt, Weak::Clear, bytes_before)?, 37);
+    }
+    Ok(())
+}
+
+/// The first run leaves out five bytes that stand behind the data, and the second run changes nothing.
+#[test]
+fn bytes_after_data_are_left_out_once(rt: HostRuntime) -> Result<(), Fail> {
+    let data = data_of(&[0x1007, 0x320B, 0x1000], 0x1004);
+    let wanted = file_with(&rt, Order::Little, data)?;
+    for weak in [Weak::Keep, Weak::Clear] {
+        let mut file = wanted.clone()?;
+        file.extend_from_slice(&[1, 2, 3, 4, 5])?;
+        assert_eq!(rt; (file.len(), wanted.len()), (81, 76));
+        assert_writes(&rt, weak, file.clone()?, &wanted)?;
+        assert!(rt; settles(&rt, weak, file)?, "{weak:?}");
     }
     Ok(())
 }
