@@ -10,6 +10,8 @@ mod gates;
 #[cfg(test)]
 mod images;
 #[cfg(test)]
+mod long_chain;
+#[cfg(test)]
 mod marking;
 #[cfg(test)]
 mod regions;

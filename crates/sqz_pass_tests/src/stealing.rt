@@ -16,7 +16,7 @@ use std::test::Fail;
 use std::thread::Threads;
 
 /// Which objects of an image are marked by so many workers, who pass a gate, and what else the marking gives.
-fn marked_by<R: Threads + Sync + AllocGlobal, G: Gate>(
+pub(crate) fn marked_by<R: Threads + Sync + AllocGlobal, G: Gate>(
     rt: &R,
     image: &Image,
     cut: &Cut,
