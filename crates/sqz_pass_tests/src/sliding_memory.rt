@@ -1,6 +1,7 @@
 //! Sliding takes memory behind the gate alone, as the size of the process tells.
 
-use super::sliding::slid_by;
+use super::gates::{Hold, TurnGate, turn_of};
+use super::sliding::{slid, slid_by};
 use sqz_image::{Image, read_image};
 use sqz_object::Order;
 use sqz_regions::Cut;
@@ -82,6 +83,99 @@ fn first_turn_is_before_all_memory(rt: HostRuntime) -> Result<(), Fail> {
     assert!(rt;
         first > 0 && more >= (95 << 20) / 4096,
         "{first} pages, and {more} more"
+    );
+    Ok(())
+}
+
+/// How many bytes each of two large objects has. So many that are asked for at once are never a part of what was freed.
+const PIECE: u32 = 33 << 20;
+
+/// A large object's header, of three words.
+const LARGE: [u32; 3] = [PIECE + 4, 0x1000, 0x800];
+
+/// An image with nil, a small object, two large ones and the special objects array, which names all of them.
+fn image_of_two(alloc: Global) -> Result<Image, Fail> {
+    let special = 0x1024 + 2 * PIECE;
+    let order = Order::Little;
+    let mut file = Vec::new(alloc);
+    put_words(
+        &mut file,
+        order,
+        &[6502, 64, 2 * PIECE + 56, 0x1000, special],
+    )?;
+    put_words(&mut file, order, &[0; 11])?;
+    put_words(&mut file, order, &[0x1007, 0x110B, 1])?;
+    put_words(&mut file, order, &LARGE)?;
+    file.resize(88 + PIECE as usize, 7)?;
+    put_words(&mut file, order, &LARGE)?;
+    file.resize(100 + 2 * PIECE as usize, 7)?;
+    put_words(
+        &mut file,
+        order,
+        &[0x3217, 0x1000, 0x1004, 0x1014, 0x1020 + PIECE],
+    )?;
+    Ok(read_image(alloc, &file)?)
+}
+
+/// A gate that notes how large the process is at the first three turns of the second worker, and before that holds workers.
+#[derive(Drop)]
+struct SecondGate<'a, R> {
+    rt: &'a R,
+    turns: TurnGate<'a>,
+    sizes: [AtomicU64; 3],
+}
+
+impl<R: Files + Sync> Gate for SecondGate<'_, R> {
+    fn pass(&self, phase: Phase, worker: u32, turn: u64) {
+        self.turns.pass(phase, worker, turn);
+        if phase == Phase::Slide
+            && worker == 1
+            && let Some(size) = self.sizes.get(turn as usize)
+        {
+            size.store(pages(self.rt), Ordering::SeqCst);
+        }
+    }
+}
+
+/// At its second turn a worker has the memory of its first piece, and not yet that of its second one, which it has at its third
+/// turn. The other worker, whose pieces are small, is held meanwhile: it has three regions, and the second one four.
+#[test]
+fn each_turn_is_before_the_memory_of_its_piece(rt: HostRuntime) -> Result<(), Fail> {
+    let image = image_of_two(rt.alloc())?;
+    let holds = [
+        Hold {
+            at: turn_of(1, 0),
+            until: turn_of(0, 1),
+        },
+        Hold {
+            at: turn_of(0, 1),
+            until: turn_of(1, 3),
+        },
+    ];
+    let gate = SecondGate {
+        rt: &rt,
+        turns: TurnGate::new(Phase::Slide, &holds),
+        sizes: [AtomicU64::new(0), AtomicU64::new(0), AtomicU64::new(0)],
+    };
+    let second = 6 + PIECE / 4;
+    let special = 2 * second - 3;
+    let points = [1, 2, 3, second, special, special + 1];
+    slid(&rt, &image, Weak::Keep, &points, 2, &gate)?;
+    assert_eq!(rt; (gate.turns.turns(0), gate.turns.turns(1)), (3, 4));
+    assert_eq!(rt; (gate.turns.met(), gate.turns.missed()), (2, 0));
+    let [first, second, third] = &gate.sizes;
+    let first = first.load(Ordering::SeqCst);
+    let second = second.load(Ordering::SeqCst);
+    let third = third.load(Ordering::SeqCst);
+    let piece = u64::from(PIECE) / 4096;
+    assert!(rt; first > 0);
+    assert!(rt;
+        second.saturating_sub(first) >= piece,
+        "{first} pages, then {second}"
+    );
+    assert!(rt;
+        third.saturating_sub(second) >= piece,
+        "{second} pages, then {third}"
     );
     Ok(())
 }
