@@ -40,7 +40,8 @@ CHAIN = 500_000
 
 # The tests that make calls again, and all calls that can want memory but the program's own.
 CALLS_AGAIN = os.path.join(ROOT, "crates", "sqz_refusal_tests", "out", "sqz_refusal_tests_tests")
-TESTS_AGAIN = ("reading::reading_serves_again", "passes::passes_serve_again", "tables::mark_table_serves_again", "runs::run_serves_again")
+TESTS_AGAIN = ("reading::reading_serves_again", "passes::passes_serve_again", "tables::mark_table_serves_again", "runs::run_serves_again",
+               "runs::run_serves_over_new_devices")
 CALLS = {
     "read_all", "MemorySink::new", "read_image", "mark_plain", "Regions::of", "live_words", "bases", "Forward::build", "mark_locked",
     "mark", "slide", "census", "print", "MarkTable::new", "MarkTable::close", "run",

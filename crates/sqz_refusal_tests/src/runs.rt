@@ -1,11 +1,14 @@
 //! A whole run, where memory is refused.
 
 use super::dead_cycle::{ANSWER, CENSUS, FILE, new_cut, new_sink};
-use sqz_image::{Fault, MemorySink, ReadSource};
+use super::rows::{ROWS, Row};
+use sqz_image::{Fault, MemorySink, MemorySource, ReadSource};
 use sqz_marks::Workers;
+use sqz_regions::Cut;
 use sqz_tool::{Plan, Summary, run};
 use sqz_trace::Weak;
 use sqz_workers::OpenGate;
+use std::alloc::{AllocError, Global};
 use std::process::Abort;
 use std::test::Fail;
 use std::thread::Threads;
@@ -62,6 +65,85 @@ fn run_serves_again(rt: HostRuntime) -> Result<(), Fail> {
         assert_eq!(rt; summary, SUMMARY, "{weak:?}");
         assert_eq!(rt; sink.contents(), ANSWER.as_slice(), "{weak:?}");
         assert_eq!(rt; report.contents(), CENSUS.as_bytes(), "{weak:?}");
+    }
+    Ok(())
+}
+
+/// The devices of a run: where the image comes from, and where what is left of it and its census go.
+#[derive(Drop)]
+struct Devices {
+    source: MemorySource,
+    sink: MemorySink,
+    report: MemorySink,
+}
+
+/// The bytes of a file. Where they are refused memory it is asked for again.
+fn copy_of(alloc: Global, file: &[u8]) -> Result<Vec<u8>, AllocError> {
+    match Vec::from_slice(alloc, file) {
+        Ok(copy) => Ok(copy),
+        Err(_) => Vec::from_slice(alloc, file),
+    }
+}
+
+/// Devices that do not fail, over an image's file.
+fn new_devices<R: Print + AllocGlobal>(rt: &R, file: &[u8]) -> Result<Devices, Fail> {
+    Ok(Devices {
+        source: MemorySource::new(copy_of(rt.alloc(), file)?, 40, None),
+        sink: new_sink(rt)?,
+        report: new_sink(rt)?,
+    })
+}
+
+/// A run from and to these devices.
+fn run_with<R: Threads + Sync + AllocGlobal>(
+    rt: &R,
+    plan: &Plan,
+    devices: &mut Devices,
+) -> Result<Summary, Fault> {
+    run(
+        rt,
+        rt.alloc(),
+        plan,
+        &mut devices.source,
+        &mut devices.sink,
+        &mut devices.report,
+        &OpenGate,
+    )
+}
+
+/// Asserts what a run over an image gives. Where it is refused memory it asserts that nothing was written, and makes the run
+/// again over new devices.
+fn assert_row<R: Threads + Sync + Abort + Print + AllocGlobal>(
+    rt: &R,
+    plan: &Plan,
+    row: &Row,
+) -> Result<(), Fail> {
+    let mut devices = new_devices(rt, row.file)?;
+    let mut answer = run_with(rt, plan, &mut devices);
+    if answer == Err(Fault::OutOfMemory) {
+        println!(rt; "refused: run")?;
+        assert!(rt; devices.sink.contents().is_empty() && devices.report.contents().is_empty());
+        devices = new_devices(rt, row.file)?;
+        answer = run_with(rt, plan, &mut devices);
+    }
+    assert_eq!(rt; answer, Ok(row.summary));
+    assert_eq!(rt; devices.sink.contents(), row.answer);
+    assert_eq!(rt; devices.report.contents(), row.census.as_bytes());
+    Ok(())
+}
+
+#[test]
+fn run_serves_over_new_devices(rt: HostRuntime) -> Result<(), Fail> {
+    for workers in [1, 2] {
+        let plan = Plan {
+            workers: Workers::new(workers)?,
+            cut: Cut::every(4)?,
+            weak: Weak::Keep,
+            census: true,
+        };
+        for row in &ROWS {
+            assert_row(&rt, &plan, row)?;
+        }
     }
     Ok(())
 }
