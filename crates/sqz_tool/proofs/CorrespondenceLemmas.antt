@@ -92,7 +92,8 @@ module _ (memory : Memory) (weak : Weak) (marks : List Bool) (aligned : memory.b
       }
 
   -- each edge after the move is that of an edge before
-  HasOldEdge-after : (from next : ℕ) → is_marked marks from ≡ true → HasEdge after weak (new from) next → HasOldEdge memory weak marks from next
+  HasOldEdge-after : (from next : ℕ) → is_marked marks from ≡ true → HasEdge after weak (new from) next
+      → HasOldEdge memory weak marks from next
   HasOldEdge-after from next m edge =
       let its = HasEdge-copied memory after weak marks new copy reachable has_nil sound from next m edge in
       record { to = its.0; kept = its.1; edge = its.2; same = its.3 }
