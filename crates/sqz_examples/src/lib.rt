@@ -5,6 +5,7 @@
 mod compacted;
 mod defects;
 mod marking;
+mod moved_objects;
 mod prefixes;
 mod unreadable;
 mod weak_slots;
