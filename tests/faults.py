@@ -9,8 +9,8 @@ other is tried, until a run has no more of them. No answer may change in place o
 fault and has written nothing, or a front of the answer where a write failed; or, where it can do without the memory,
 it does all that it is to do.
 
-The tests of crates/sqz_refusal_tests are then run in the same way: each public call that is refused memory is made again
-there, and prints its name. So is the test of crates/sqz_mark_tests that closes a table on which an image was marked.
+The tests of crates/sqz_test_refusals are then run in the same way: each public call that is refused memory is made again
+there, and prints its name. So is the test of crates/sqz_test_marks that closes a table on which an image was marked.
 
 The last line is 'N passed, M failed'. Without a C compiler nothing is run, and a line says so.
 """
@@ -39,15 +39,15 @@ NAMES = ("dead_array", "dead_cycle", "class_names", "big_endian_class_names", "w
 CHAIN = 500_000
 
 # The tests that make calls again, and all calls that can want memory but the program's own.
-CALLS_AGAIN = os.path.join(ROOT, "crates", "sqz_refusal_tests", "out", "sqz_refusal_tests_tests")
-TESTS_AGAIN = ("reading::reading_serves_again", "passes::passes_serve_again", "tables::mark_table_serves_again", "runs::run_serves_again",
+CALLS_AGAIN = os.path.join(ROOT, "crates", "sqz_test_refusals", "out", "sqz_test_refusals_tests")
+TESTS_AGAIN = ("reading::reading_serves_again", "stages::stages_serve_again", "tables::mark_table_serves_again", "runs::run_serves_again",
                "runs::run_serves_over_new_devices")
 CALLS = {
     "read_all", "MemorySink::new", "read_image", "mark_plain", "Regions::of", "live_words", "bases", "Forward::build", "mark_locked",
     "mark", "slide", "census", "print", "MarkTable::new", "MarkTable::close", "run",
 }
 # The test that closes a table again, and what it ends with where another of its calls is refused memory.
-CLOSES_AGAIN = os.path.join(ROOT, "crates", "sqz_mark_tests", "out", "sqz_mark_tests_tests")
+CLOSES_AGAIN = os.path.join(ROOT, "crates", "sqz_test_marks", "out", "sqz_test_marks_tests")
 TEST_OF_CLOSING = "steps::one_pass"
 WANTS_MEMORY = (b"error: OutOfMemory\n", b"error: AllocError\n")
 

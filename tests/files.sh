@@ -409,8 +409,8 @@ writes_as_it_times() {
   local image=$1 answer=$2
   shift 2
   rm -f out
-  (cd "$root/crates/sqz_passes" && rt run -- --help) </dev/null >printed 2>said
-  "$root/crates/sqz_passes/out/sqz_passes" "$@" "$image" out >printed 2>said
+  (cd "$root/crates/sqz_stage_times" && rt run -- --help) </dev/null >printed 2>said
+  "$root/crates/sqz_stage_times/out/sqz_stage_times" "$@" "$image" out >printed 2>said
   status=$?
   [ "$status" -eq 0 ] && cmp -s out "$answer"
 }

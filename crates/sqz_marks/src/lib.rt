@@ -29,7 +29,7 @@
 //! ```
 //!
 //! Several workers each take a part of the pass, by `split_off`, and give it back by `join_into`. The same, as a test that is
-//! proved, stands in `sqz_mark_tests` `alone`.
+//! proved, stands in `sqz_test_marks` `alone`.
 #![tactic(auto)]
 
 mod claim;

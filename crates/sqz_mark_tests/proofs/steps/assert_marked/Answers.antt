@@ -1,8 +1,0 @@
-use Rattle.std.proofs.Common.{sym, subst}
-use Rattle.sqz_mark_tests.specs.Passes.{IsLater}
-use Rattle.sqz_mark_tests.proofs.PassLemmas.{IsLater-looked}
-use Rattle.sqz_mark_tests.proofs.steps.assert_marked.Goals as goal
-
-pub returns-clause-later : goal.returns-clause-later
-returns-clause-later g c =
-    subst (IsLater c.args.pass.now) (sym c.look-shade.ensures.step) (IsLater-looked c.args.pass.now c.args.object c.look-shade.result)

@@ -1,7 +1,0 @@
-use Rattle.sqz_mark_tests.proofs.PassLemmas.{HasCountedAll-first}
-use Rattle.sqz_mark_tests.proofs.steps.mark_dead_cycle.Goals as goal
-
-pub close_again-requires-clause-counted : goal.close_again-requires-clause-counted
-close_again-requires-clause-counted g c =
-    let first = HasCountedAll-first _ c.in_ok-table.ensures.pass.1 in
-    c.in_ok-blacken_named.ensures.counts (c.mark_named.ensures.counts (c.in_ok-mark_special.ensures.counts first))

@@ -1,6 +1,0 @@
-use Rattle.sqz_trace.specs.Targets.{IsTargetBelow}
-use Rattle.sqz_mark_tests.specs.Passes.{ClaimsTargets}
-use Rattle.sqz_mark_tests.proofs.targets.mark_targets.Given as goal
-
-abbrev pub invariant-loop-k : goal.invariant-loop-k
-invariant-loop-k l = ClaimsTargets (IsTargetBelow l.table.heap.memory l.parent.words l.k) l.fn.pass l.pass

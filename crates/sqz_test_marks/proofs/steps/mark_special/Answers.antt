@@ -1,0 +1,11 @@
+use Rattle.sqz_test_marks.proofs.PassLemmas.{IsLater-then}
+use Rattle.sqz_test_marks.proofs.steps.mark_special.Goals as goal
+
+pub returns : goal.returns
+returns g c =
+    IsLater-then _ _ _ c.assert_looks.ensures.later
+    (IsLater-then _ _ _ c.assert_claims.ensures.later
+    (IsLater-then _ _ _ c.assert_claims-2.ensures.later
+    (IsLater-then _ _ _ c.assert_claims-3.ensures.later
+    (IsLater-then _ _ _ c.assert_claims-4.ensures.later
+    (c.in_ok-assert_blackens.ensures)))))

@@ -1,0 +1,244 @@
+//! The calls of a mark table one by one, by one pass.
+
+ghost use Rattle.std.specs.Prelude.{◌≡◌, ◌≢◌, ◌<◌, true, OnOk};
+ghost use Rattle.sqz_trace.specs.declared.shades.Shade.TheVariants.{White};
+ghost use Rattle.sqz_image.specs.Objects.{object_count};
+ghost use Rattle.sqz_marks.specs.Core.{HasSeen};
+ghost use Rattle.sqz_marks.specs.Table.{IsPassOf, HasCountedAll, start_of};
+ghost use Rattle.sqz_test_marks.specs.Passes.{IsLater, Knows};
+
+use super::targets::mark_targets;
+use sqz_image::{Fault, Heap, Slot};
+use sqz_marks::{Claim, Closed, MarkTable, Pass, Workers};
+use sqz_regions::{Cut, Regions};
+use sqz_test_images::{DEAD_CYCLE, image_of};
+use sqz_trace::{Shade, Weak};
+use std::alloc::Global;
+use std::process::Abort;
+use std::test::Fail;
+
+/// The shades of the dead cycle's image when it is marked.
+const DEAD_CYCLE_SHADES: [Shade; 6] = [
+    Shade::Black,
+    Shade::Black,
+    Shade::White,
+    Shade::Black,
+    Shade::White,
+    Shade::Black,
+];
+
+/// Asserts that a heap has six objects, of which the last is the special objects array, as that of the dead cycle.
+pub(crate) fn assert_dead_cycle<R: Abort>(rt: &R, heap: &Heap)
+    ensures count { object_count heap.now ≡ 6 }
+    ensures start { start_of heap.now ≡ 5 }
+{
+    assert_eq!(rt; heap.len(), 6);
+    assert_eq!(rt; heap.special(), 5);
+}
+
+/// Asserts what a look at an object finds.
+pub(crate) fn assert_looks<R: Abort>(
+    rt: &R,
+    table: &MarkTable<'_>,
+    pass: &mut Pass,
+    object: u32,
+    wanted: Shade,
+)
+    requires of { IsPassOf table.now pass.old }
+    requires inside { object < object_count table.now.heap.memory }
+    ensures later { IsLater pass.old pass.new }
+    ensures marked { wanted ≢ White → HasSeen pass.new.view object }
+{
+    assert_eq!(rt; table.look(pass, object), wanted, "object {object}");
+}
+
+/// What a claim of the object that a slot names finds. Where the pass won it, it is counted.
+pub(crate) fn claim(table: &MarkTable<'_>, pass: &mut Pass, parent: u32, slot: Slot) -> Claim
+    requires of { IsPassOf table.now pass.old }
+    requires inside { parent < object_count table.now.heap.memory }
+    requires seen { HasSeen pass.old.view parent }
+    ensures later { IsLater pass.old pass.new }
+    ensures knows { Knows pass.new.view result }
+{
+    let found = table.claim(pass, parent, slot);
+    if let Claim::Won(object) = found {
+        table.count(pass, object);
+    }
+    found
+}
+
+/// Whether two answers are one.
+fn is_same(found: Claim, wanted: Claim) -> bool
+    ensures { result ≡ true → found ≡ wanted }
+{
+    match (found, wanted) {
+        (Claim::Won(found), Claim::Won(wanted)) => found == wanted,
+        (Claim::Seen(found), Claim::Seen(wanted)) => found == wanted,
+        (Claim::Nothing, Claim::Nothing) => true,
+        _ => false,
+    }
+}
+
+/// Asserts that an object is marked, as a look finds.
+fn assert_marked<R: Abort>(rt: &R, table: &MarkTable<'_>, pass: &mut Pass, object: u32)
+    requires of { IsPassOf table.now pass.old }
+    requires inside { object < object_count table.now.heap.memory }
+    ensures later { IsLater pass.old pass.new }
+    ensures marked { HasSeen pass.new.view object }
+{
+    let shade = table.look(pass, object);
+    assert!(rt; shade != Shade::White, "object {object}");
+}
+
+/// Asserts that an object is marked, and what a claim of the object that a slot of it names finds.
+pub(crate) fn assert_claims<R: Abort>(
+    rt: &R,
+    table: &MarkTable<'_>,
+    pass: &mut Pass,
+    parent: u32,
+    slot: Slot,
+    wanted: Claim,
+)
+    requires of { IsPassOf table.now pass.old }
+    requires inside { parent < object_count table.now.heap.memory }
+    ensures later { IsLater pass.old pass.new }
+    ensures knows { Knows pass.new.view wanted }
+{
+    assert_marked(rt, table, pass, parent);
+    let found = claim(table, pass, parent, slot);
+    assert!(rt;
+        is_same(found, wanted),
+        "object {parent}, slot {slot:?}: {found:?}"
+    );
+}
+
+/// Asserts that an object is grey, claims all that it names, asserts that this won these objects, and makes the object black.
+pub(crate) fn assert_blackens<R: Abort + AllocGlobal>(
+    rt: &R,
+    table: &MarkTable<'_>,
+    pass: &mut Pass,
+    object: u32,
+    wanted: &[u32],
+) -> Result<(), Fail>
+    requires of { IsPassOf table.now pass.old }
+    requires inside { object < object_count table.now.heap.memory }
+    ensures { OnOk result (IsLater pass.old pass.new) }
+{
+    assert_looks(rt, table, pass, object, Shade::Grey);
+    let mut won = Vec::new(rt.alloc());
+    mark_targets(table, pass, object, &mut won)?;
+    assert_eq!(rt; won.as_slice(), wanted, "object {object}");
+    Ok(())
+}
+
+/// What is left of a table. Where memory is refused once, it is asked for again: table and pass are as before.
+pub(crate) fn close_again(alloc: Global, table: MarkTable<'_>, pass: Pass) -> Result<Closed, Fault>
+    requires of { IsPassOf table pass }
+    requires whole { pass.view.weight ≡ table.workers }
+    requires counted { HasCountedAll pass.view }
+{
+    let (table, pass) = match table.close(alloc, pass) {
+        Ok(closed) => return Ok(closed),
+        Err(refused) => refused,
+    };
+    let Ok(closed) = table.close(alloc, pass) else {
+        return Err(Fault::OutOfMemory);
+    };
+    Ok(closed)
+}
+
+/// How many words the marked objects of the dead cycle's image have in each region, which is cut before objects 1 and 2.
+fn dead_cycle_words(heap: &Heap) -> [u32; 3]
+    requires { object_count heap.now ≡ 6 }
+{
+    let third = heap.chunk(3).length + heap.chunk(5).length;
+    [heap.chunk(0).length, heap.chunk(1).length, third]
+}
+
+/// Asserts that this is what is left of a table on which the dead cycle's image was marked.
+pub(crate) fn assert_closed<R: Abort>(rt: &R, heap: &Heap, closed: &Closed)
+    requires { object_count heap.now ≡ 6 }
+{
+    let words = dead_cycle_words(heap);
+    assert_eq!(rt; words.as_slice(), [1, 2, 5].as_slice());
+    assert_eq!(rt; closed.live_words.as_slice(), words.as_slice());
+    assert_eq!(rt; closed.shades.as_slice(), DEAD_CYCLE_SHADES.as_slice());
+}
+
+/// What the pass does with the special objects array.
+fn mark_special<R: Abort + AllocGlobal>(
+    rt: &R,
+    table: &MarkTable<'_>,
+    pass: &mut Pass,
+) -> Result<(), Fail>
+    requires of { IsPassOf table.now pass.old }
+    requires count { object_count table.now.heap.memory ≡ 6 }
+    ensures { OnOk result (IsLater pass.old pass.new) }
+{
+    assert_looks(rt, table, pass, 5, Shade::Grey);
+    assert_claims(rt, table, pass, 5, Slot::Field(0), Claim::Won(0));
+    assert_claims(rt, table, pass, 5, Slot::Field(0), Claim::Seen(0));
+    assert_claims(rt, table, pass, 5, Slot::ClassWord, Claim::Nothing);
+    assert_claims(rt, table, pass, 5, Slot::Field(1), Claim::Won(1));
+    assert_blackens(rt, table, pass, 5, &[])?;
+    Ok(())
+}
+
+/// What it does with what that names.
+fn mark_named<R: Abort>(rt: &R, table: &MarkTable<'_>, pass: &mut Pass)
+    requires of { IsPassOf table.now pass.old }
+    requires count { object_count table.now.heap.memory ≡ 6 }
+    ensures { IsLater pass.old pass.new }
+{
+    assert_looks(rt, table, pass, 5, Shade::Black);
+    assert_looks(rt, table, pass, 2, Shade::White);
+    assert_claims(rt, table, pass, 1, Slot::Field(0), Claim::Won(3));
+    assert_claims(rt, table, pass, 3, Slot::Field(0), Claim::Seen(1));
+}
+
+/// What it does last.
+fn blacken_named<R: Abort + AllocGlobal>(
+    rt: &R,
+    table: &MarkTable<'_>,
+    pass: &mut Pass,
+) -> Result<(), Fail>
+    requires of { IsPassOf table.now pass.old }
+    requires count { object_count table.now.heap.memory ≡ 6 }
+    ensures { OnOk result (IsLater pass.old pass.new) }
+{
+    assert_blackens(rt, table, pass, 0, &[])?;
+    assert_blackens(rt, table, pass, 1, &[])?;
+    assert_blackens(rt, table, pass, 3, &[])?;
+    Ok(())
+}
+
+/// Marks the dead cycle's image with one pass, which is so many workers' share.
+fn mark_dead_cycle<R: Abort + AllocGlobal>(
+    rt: &R,
+    heap: &Heap,
+    regions: &Regions<'_>,
+    workers: Workers,
+) -> Result<Closed, Fail>
+    requires memory { regions.now.memory ≡ heap.now }
+    requires count { object_count heap.now ≡ 6 }
+{
+    let (table, mut pass) = MarkTable::new(rt.alloc(), heap, Weak::Keep, regions, workers)?;
+    mark_special(rt, &table, &mut pass)?;
+    mark_named(rt, &table, &mut pass);
+    blacken_named(rt, &table, &mut pass)?;
+    Ok(close_again(rt.alloc(), table, pass)?)
+}
+
+#[test]
+fn one_pass(rt: HostRuntime) -> Result<(), Fail> {
+    let image = image_of(rt.alloc(), &DEAD_CYCLE, 0x1024)?;
+    let heap = image.heap();
+    assert_dead_cycle(&rt, heap);
+    let cut = Cut::at([1, 3].to_vec(rt.alloc())?)?;
+    let regions = Regions::of(rt.alloc(), heap, &cut)?;
+    for number in [1, 2, 64] {
+        let closed = mark_dead_cycle(&rt, heap, &regions, Workers::new(number)?)?;
+        assert_closed(&rt, heap, &closed);
+    }
+    Ok(())
+}

@@ -1,0 +1,288 @@
+//! The stages of a run over an image in memory, each called by itself, where memory is refused.
+
+ghost use Rattle.std.specs.Prelude.{◌≡◌, ◌+◌, ◌*◌, ◌^◌, ◌≤◌, length, sum, IfOk};
+ghost use Rattle.sqz_image.specs.Objects.{object_count};
+ghost use Rattle.sqz_regions.specs.Bases.{AreSums, AreBases, AreBasesOf};
+
+use super::again::again;
+use super::dead_cycle::{CENSUS, FILE, assert_six_objects, image_in, new_cut, regions_of};
+use sqz_census::{Row, census, print};
+use sqz_image::{Fault, Heap};
+use sqz_marks::Workers;
+use sqz_regions::{Forward, Regions, bases, live_words};
+use sqz_slide::{Pieces, slide};
+use sqz_trace::{Marks, Weak, mark_plain};
+use sqz_workers::{Marked, OpenGate, mark, mark_locked};
+use std::process::Abort;
+use std::sync::Wait;
+use std::test::Fail;
+use std::thread::Threads;
+
+/// Which objects of the dead cycle's image are reachable.
+const MARKS: [bool; 6] = [true, true, false, true, false, true];
+
+/// How many live words each region has.
+const SUMS: [u32; 3] = [1, 2, 5];
+
+/// The first address of each region's live words.
+const BASES: [u64; 3] = [0x1000, 0x1004, 0x100C];
+
+/// Where the objects go.
+const PLACES: [Option<u32>; 6] = [
+    Some(0x1000),
+    Some(0x1004),
+    None,
+    Some(0x100C),
+    None,
+    Some(0x1014),
+];
+
+/// The live words of each region in their new places.
+const PIECES: [&[u32]; 3] = [
+    &[0x1007],
+    &[0x110B, 0x100C],
+    &[0x110B, 0x1004, 0x320F, 0x1000, 0x1004],
+];
+
+/// The marks of one worker alone.
+fn plain_marks<R: Print + AllocGlobal>(rt: &R, heap: &Heap, weak: Weak) -> Result<Marks, Fail>
+    ensures { IfOk result (λ marks. length marks ≡ object_count heap.now) }
+{
+    again!(rt, "mark_plain", mark_plain(rt.alloc(), heap, weak))
+}
+
+/// The marks of workers that take turns under a lock.
+fn locked_marks<R: Threads + Wait + Sync + Print + AllocGlobal>(
+    rt: &R,
+    heap: &Heap,
+    weak: Weak,
+    workers: Workers,
+) -> Result<Marks, Fail>
+    ensures { IfOk result (λ marks. length marks ≡ object_count heap.now) }
+{
+    again!(
+        rt,
+        "mark_locked",
+        mark_locked(rt, rt.alloc(), heap, weak, workers, &OpenGate)
+    )
+}
+
+/// What workers that steal give.
+fn marked_by<R: Threads + Sync + Print + AllocGlobal>(
+    rt: &R,
+    heap: &Heap,
+    weak: Weak,
+    regions: &Regions<'_>,
+    workers: Workers,
+) -> Result<Marked, Fail>
+    requires { regions.now.memory ≡ heap.now }
+    ensures { IfOk result (λ marked. length marked.marks ≡ object_count heap.now) }
+{
+    again!(
+        rt,
+        "mark",
+        mark(rt, rt.alloc(), heap, weak, regions, workers, &OpenGate)
+    )
+}
+
+/// The live words of each region.
+fn sums_of<R: Print + AllocGlobal>(
+    rt: &R,
+    heap: &Heap,
+    regions: &Regions<'_>,
+    marks: &Marks,
+) -> Result<Vec<u32>, Fail>
+    requires regions { regions.now.memory ≡ heap.now }
+    requires sized { length marks.now ≡ object_count heap.now }
+    ensures sums { IfOk result (λ sums. AreSums regions.now marks.now sums.items) }
+    ensures room { IfOk result (λ sums. heap.now.base + 4 * sum sums.items ≤ 2 ^ 32) }
+{
+    again!(
+        rt,
+        "live_words",
+        live_words(rt.alloc(), heap, regions, marks)
+    )
+}
+
+/// The first address of each region's live words.
+fn bases_of<R: Print + AllocGlobal>(rt: &R, base: u32, sums: &[u32]) -> Result<Vec<u64>, Fail>
+    requires { base + 4 * sum sums.now ≤ 2 ^ 32 }
+    ensures { IfOk result (λ bases. AreBases base sums.now bases.items) }
+{
+    again!(rt, "bases", bases(rt.alloc(), base, sums))
+}
+
+/// Where the marked objects go.
+fn places_of<R: Threads + Sync + Print + AllocGlobal>(
+    rt: &R,
+    heap: &Heap,
+    regions: &Regions<'_>,
+    marks: &Marks,
+    bases: &[u64],
+) -> Result<Forward, Fail>
+    requires regions { regions.now.memory ≡ heap.now }
+    requires sized { length marks.now ≡ object_count heap.now }
+    requires bases { AreBasesOf regions.now marks.now bases.now }
+    ensures { IfOk result (λ forward. length forward ≡ object_count heap.now) }
+{
+    again!(
+        rt,
+        "Forward::build",
+        Forward::build(rt, rt.alloc(), heap, regions, marks, bases)
+    )
+}
+
+/// The marked objects in their new places.
+fn pieces_of<R: Threads + Sync + Print + AllocGlobal>(
+    rt: &R,
+    heap: &Heap,
+    weak: Weak,
+    regions: &Regions<'_>,
+    forward: &Forward,
+    workers: Workers,
+) -> Result<Pieces, Fail>
+    requires regions { regions.now.memory ≡ heap.now }
+    requires one_each { length forward.now ≡ object_count heap.now }
+{
+    again!(
+        rt,
+        "slide",
+        slide(
+            rt,
+            rt.alloc(),
+            heap,
+            weak,
+            regions,
+            forward,
+            workers,
+            &OpenGate
+        )
+    )
+}
+
+/// The rows of the census.
+fn rows_of<R: Threads + Sync + Print + AllocGlobal>(
+    rt: &R,
+    heap: &Heap,
+    weak: Weak,
+    marks: &Marks,
+    forward: &Forward,
+) -> Result<Vec<Row>, Fail>
+    requires sized { length marks.now ≡ object_count heap.now }
+    requires one_each { length forward.now ≡ object_count heap.now }
+{
+    again!(
+        rt,
+        "census",
+        census(rt, rt.alloc(), heap, weak, marks, forward)
+    )
+}
+
+/// The text of rows.
+fn text_of<R: Print + AllocGlobal>(rt: &R, rows: &[Row]) -> Result<Vec<u8>, Fail> {
+    again!(rt, "print", print(rt.alloc(), rows))
+}
+
+/// Asserts which objects are marked.
+fn assert_marks<R: Abort>(rt: &R, marks: &Marks)
+    requires { length marks.now ≡ 6 }
+{
+    for (object, wanted) in MARKS.iter().enumerate() {
+        assert_eq!(rt; marks.has(object as u32), *wanted, "object {object}");
+    }
+}
+
+/// Asserts where the objects go.
+fn assert_places<R: Abort>(rt: &R, forward: &Forward)
+    requires { length forward.now ≡ 6 }
+{
+    for (object, wanted) in PLACES.iter().enumerate() {
+        assert_eq!(rt; forward.place(object as u32), *wanted, "object {object}");
+    }
+}
+
+/// Asserts which words each region has.
+fn assert_pieces<R: Abort>(rt: &R, pieces: &Pieces) {
+    let pieces = pieces.as_slice();
+    assert_eq!(rt; pieces.len(), PIECES.len());
+    for (piece, wanted) in pieces.iter().zip(&PIECES) {
+        assert_eq!(rt; piece.as_slice(), *wanted);
+    }
+}
+
+/// Asserts what the ways to mark give.
+fn assert_marked<R: Threads + Wait + Sync + Abort + Print + AllocGlobal>(
+    rt: &R,
+    heap: &Heap,
+    weak: Weak,
+    regions: &Regions<'_>,
+    workers: Workers,
+) -> Result<(), Fail>
+    requires memory { regions.now.memory ≡ heap.now }
+    requires count { object_count heap.now ≡ 6 }
+{
+    let marks = locked_marks(rt, heap, weak, workers)?;
+    assert_marks(rt, &marks);
+    let marked = marked_by(rt, heap, weak, regions, workers)?;
+    assert_marks(rt, &marked.marks);
+    assert_eq!(rt; marked.live_words.as_slice(), SUMS.as_slice());
+    assert_eq!(rt; marked.claims.len(), 2);
+    Ok(())
+}
+
+/// Where the reachable objects go, of which it asserts what each stage up to there gives.
+fn placed<R: Threads + Sync + Abort + Print + AllocGlobal>(
+    rt: &R,
+    heap: &Heap,
+    regions: &Regions<'_>,
+    marks: &Marks,
+) -> Result<Forward, Fail>
+    requires memory { regions.now.memory ≡ heap.now }
+    requires count { object_count heap.now ≡ 6 }
+    requires sized { length marks.now ≡ 6 }
+    ensures { IfOk result (λ forward. length forward ≡ 6) }
+{
+    let sums = sums_of(rt, heap, regions, marks)?;
+    assert_eq!(rt; sums.as_slice(), SUMS.as_slice());
+    let bases = bases_of(rt, heap.base(), &sums)?;
+    assert_eq!(rt; bases.as_slice(), BASES.as_slice());
+    let forward = places_of(rt, heap, regions, marks, &bases)?;
+    assert_places(rt, &forward);
+    Ok(forward)
+}
+
+/// Asserts what each stage gives.
+fn assert_stages<R: Threads + Wait + Sync + Abort + Print + AllocGlobal>(
+    rt: &R,
+    heap: &Heap,
+    weak: Weak,
+    regions: &Regions<'_>,
+    workers: Workers,
+) -> Result<(), Fail>
+    requires memory { regions.now.memory ≡ heap.now }
+    requires count { object_count heap.now ≡ 6 }
+{
+    assert_marked(rt, heap, weak, regions, workers)?;
+    let marks = plain_marks(rt, heap, weak)?;
+    assert_marks(rt, &marks);
+    let forward = placed(rt, heap, regions, &marks)?;
+    let pieces = pieces_of(rt, heap, weak, regions, &forward, workers)?;
+    assert_pieces(rt, &pieces);
+    let rows = rows_of(rt, heap, weak, &marks, &forward)?;
+    let text = text_of(rt, &rows)?;
+    assert_eq!(rt; text.as_slice(), CENSUS.as_bytes());
+    Ok(())
+}
+
+#[test]
+fn stages_serve_again(rt: HostRuntime) -> Result<(), Fail> {
+    let image = image_in(&rt, &FILE)?;
+    let heap = image.heap();
+    assert_six_objects(&rt, heap);
+    let cut = new_cut(rt.alloc())?;
+    let regions = regions_of(&rt, heap, &cut)?;
+    for weak in [Weak::Keep, Weak::Clear] {
+        assert_stages(&rt, heap, weak, &regions, Workers::new(2)?)?;
+    }
+    Ok(())
+}
