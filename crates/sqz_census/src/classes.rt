@@ -14,7 +14,7 @@ use std::alloc::{AllocError, Global};
 pub(crate) const COMPACT_INDEXES: u32 = 32;
 
 /// The class that each compact index stands for, by index.
-pub(crate) fn compact_classes(
+pub(crate) fn class_table(
     alloc: Global,
     heap: &Heap,
     weak: Weak,
@@ -30,7 +30,11 @@ pub(crate) fn compact_classes(
 
 /// The class of an object, by the classes of compact indexes. Where it has a class word, its compact index leads to
 /// none.
-pub(crate) fn class_of(heap: &Heap, classes: &[Option<u32>], object: &Object<'_>) -> Option<u32>
+pub(crate) fn class_by_table(
+    heap: &Heap,
+    classes: &[Option<u32>],
+    object: &Object<'_>,
+) -> Option<u32>
     requires { length classes.now ≡ compact_indexes }
     ensures { (weak : Weak) → AreCompactClasses heap.now weak classes.now → result ≡ class_of heap.now weak object.now }
 {

@@ -5,7 +5,7 @@ ghost use Rattle.sqz_image.specs.Objects.{object_count};
 ghost use Rattle.sqz_trace.specs.declared.weak.Weak.{Weak};
 ghost use Rattle.sqz_census.specs.Keys.{compact_indexes, AreCompactClasses, IsEntryOf, AreEntries};
 
-use crate::classes::class_of;
+use crate::classes::class_by_table;
 use rayon::prelude::*;
 use sqz_image::Heap;
 use sqz_object::base_of;
@@ -67,7 +67,7 @@ fn entry_of(heap: &Heap, marks: &Marks, classes: &[Option<u32>], object: u32) ->
     }
     let object = heap.object(object);
     let header = object.header();
-    let key = match class_of(heap, classes, &object) {
+    let key = match class_by_table(heap, classes, &object) {
         Some(class) => class,
         None => heap.len() + base_of(header.base).compact,
     };

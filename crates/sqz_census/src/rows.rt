@@ -10,7 +10,7 @@ ghost use Rattle.sqz_census.specs.Keys.{key_count};
 ghost use Rattle.sqz_census.specs.Rows.{shown};
 ghost use Rattle.sqz_census.specs.Shares.{row_at};
 
-use crate::classes::compact_classes;
+use crate::classes::class_table;
 use crate::entries::entries_of;
 use crate::names::{class_name, compact_name};
 use crate::row::Row;
@@ -42,7 +42,7 @@ pub fn census(
         → IsCensus heap.now weak marks.now (map shown rows.items)) }
     ensures refused { IfErr result (λ fault. fault ≡ OutOfMemory) }
 {
-    let classes = compact_classes(alloc, heap, weak)?;
+    let classes = class_table(alloc, heap, weak)?;
     let entries = entries_of(rt, alloc, heap, marks, &classes)?;
     let tallies = tallies_of(alloc, heap, marks, &entries)?;
     let shares = shares_of(alloc, &tallies)?;

@@ -1,11 +1,11 @@
 //! The file that is written.
 
-ghost use Rattle.std.specs.Prelude.{◌≡◌, ◌<◌, ◌≤◌, None, false, length, IfOk, OnOk, OnErr};
+ghost use Rattle.std.specs.Prelude.{◌≡◌, ◌<◌, ◌≤◌, None, length, IfOk};
 ghost use Rattle.std.specs.Io.KnownBytes.{Keeps, WriteAppends};
 ghost use Rattle.sqz_image.specs.Devices.{SinkState};
 ghost use Rattle.sqz_command.specs.OutputFiles.{known_bytes, new_output};
 
-use sqz_image::{DeviceFault, Sink};
+use sqz_image::{DeviceFault, Sink, SinkCalls};
 use std::fs::File;
 use std::io;
 use std::io::Write;
@@ -18,10 +18,8 @@ pub struct OutputFile<'a, T: Files> {
     /// The path of the file.
     pub path: &'a str,
     file: Option<T::File>,
-    writes: u64,
-    unflushed: bool,
-    failed: bool,
-    ghost made_by_write: { writes ≡ 0 → file ≡ None },
+    calls: SinkCalls,
+    ghost made_by_write: { calls.writes ≡ 0 → file ≡ None },
 }
 
 impl<'a, T: Files> OutputFile<'a, T> {
@@ -34,19 +32,15 @@ impl<'a, T: Files> OutputFile<'a, T> {
             rt,
             path,
             file: None,
-            writes: 0,
-            unflushed: false,
-            failed: false,
+            calls: SinkCalls::new(),
         }
     }
 
     /// Writes to the file, which is made if it was not. The write has been counted.
     fn write_to_file(&mut self, from: &[u8]) -> io::Result<usize>
-        requires { 0 < self.old.writes }
+        requires { 0 < self.old.calls.writes }
         ensures count { IfOk result (λ count. count ≤ length from.now) }
-        ensures same_writes { self.new.writes ≡ self.old.writes }
-        ensures same_unflushed { self.new.unflushed ≡ self.old.unflushed }
-        ensures same_state { self.new.failed ≡ self.old.failed }
+        ensures same_calls { self.new.calls ≡ self.old.calls }
         ensures bytes { WriteAppends (known_bytes T.File.contents self.old.file)
             (known_bytes T.File.contents self.new.file) result from.now }
     {
@@ -61,59 +55,37 @@ impl<'a, T: Files> OutputFile<'a, T> {
 
     /// Passes on what the file took, if it was made.
     fn flush_file(&mut self) -> io::Result<()>
-        ensures flushed { OnOk result (self.new.unflushed ≡ false) }
-        ensures left { OnErr result (self.new.unflushed ≡ self.old.unflushed) }
-        ensures same_writes { self.new.writes ≡ self.old.writes }
-        ensures same_state { self.new.failed ≡ self.old.failed }
+        ensures same_calls { self.new.calls ≡ self.old.calls }
         ensures same_bytes { Keeps (known_bytes T.File.contents self.old.file) (known_bytes T.File.contents self.new.file) }
     {
-        if let Some(file) = &mut self.file {
-            file.flush()?;
+        match &mut self.file {
+            Some(file) => file.flush(),
+            None => Ok(()),
         }
-        self.unflushed = false;
-        Ok(())
     }
 }
 
 impl<T: Files> Sink for OutputFile<'_, T> {
     ghost state = { λ s. record {
       contents = known_bytes T.File.contents s.file;
-      writes = s.writes;
-      unflushed = s.unflushed;
-      failed = s.failed;
+      writes = s.calls.writes;
+      unflushed = s.calls.unflushed;
+      failed = s.calls.failed;
     } };
 
     fn write(&mut self, from: &[u8]) -> Result<usize, DeviceFault> {
-        self.writes = self.writes.saturating_add(1);
-        if self.failed {
-            return Err(DeviceFault);
-        }
-        match self.write_to_file(from) {
-            Ok(count) if count > 0 || from.is_empty() => {
-                self.unflushed = self.unflushed || count > 0;
-                Ok(count)
-            }
-            _ => {
-                self.failed = true;
-                Err(DeviceFault)
-            }
-        }
+        self.calls.begin_write()?;
+        let written = self.write_to_file(from);
+        self.calls.end_write(from, written)
     }
 
     fn flush(&mut self) -> Result<(), DeviceFault> {
-        if self.failed {
-            return Err(DeviceFault);
-        }
-        match self.flush_file() {
-            Ok(()) => Ok(()),
-            Err(_) => {
-                self.failed = true;
-                Err(DeviceFault)
-            }
-        }
+        self.calls.begin_flush()?;
+        let flushed = self.flush_file();
+        self.calls.end_flush(flushed)
     }
 
     fn failed(&self) -> bool {
-        self.failed
+        self.calls.failed
     }
 }

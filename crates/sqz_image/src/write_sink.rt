@@ -1,11 +1,10 @@
 //! A sink over any writer.
 
-ghost use Rattle.std.specs.Prelude.{◌≡◌, false, OnOk, OnErr};
-ghost use Rattle.std.specs.Io.KnownBytes.{Keeps};
+ghost use Rattle.std.specs.Prelude.{◌≡◌, false};
 ghost use Rattle.sqz_image.specs.Devices.{SinkState};
 
 use crate::device::{DeviceFault, Sink};
-use std::io;
+use crate::sink_calls::SinkCalls;
 use std::io::Write;
 
 /// Passes bytes on to a writer. Each error of the writer is a failure, an interrupted write too, and
@@ -13,9 +12,7 @@ use std::io::Write;
 #[derive(Drop)]
 pub struct WriteSink<W> {
     inner: W,
-    writes: u64,
-    unflushed: bool,
-    failed: bool,
+    calls: SinkCalls,
 }
 
 impl<W: Write> WriteSink<W> {
@@ -26,60 +23,32 @@ impl<W: Write> WriteSink<W> {
     {
         WriteSink {
             inner,
-            writes: 0,
-            unflushed: false,
-            failed: false,
+            calls: SinkCalls::new(),
         }
-    }
-
-    /// Passes on what the writer took.
-    fn flush_inner(&mut self) -> io::Result<()>
-        ensures flushed { OnOk result (self.new.unflushed ≡ false) }
-        ensures left { OnErr result (self.new.unflushed ≡ self.old.unflushed) }
-        ensures same_writes { self.new.writes ≡ self.old.writes }
-        ensures same_state { self.new.failed ≡ self.old.failed }
-        ensures same_bytes { Keeps (W.contents self.old.inner) (W.contents self.new.inner) }
-    {
-        self.inner.flush()?;
-        self.unflushed = false;
-        Ok(())
     }
 }
 
 impl<W: Write> Sink for WriteSink<W> {
-    ghost state = { λ s. record { contents = W.contents s.inner; writes = s.writes; unflushed = s.unflushed; failed = s.failed } };
+    ghost state = { λ s. record {
+      contents = W.contents s.inner;
+      writes = s.calls.writes;
+      unflushed = s.calls.unflushed;
+      failed = s.calls.failed;
+    } };
 
     fn write(&mut self, from: &[u8]) -> Result<usize, DeviceFault> {
-        self.writes = self.writes.saturating_add(1);
-        if self.failed {
-            return Err(DeviceFault);
-        }
-        match self.inner.write(from) {
-            Ok(count) if count > 0 || from.is_empty() => {
-                self.unflushed = self.unflushed || count > 0;
-                Ok(count)
-            }
-            _ => {
-                self.failed = true;
-                Err(DeviceFault)
-            }
-        }
+        self.calls.begin_write()?;
+        let written = self.inner.write(from);
+        self.calls.end_write(from, written)
     }
 
     fn flush(&mut self) -> Result<(), DeviceFault> {
-        if self.failed {
-            return Err(DeviceFault);
-        }
-        match self.flush_inner() {
-            Ok(()) => Ok(()),
-            Err(_) => {
-                self.failed = true;
-                Err(DeviceFault)
-            }
-        }
+        self.calls.begin_flush()?;
+        let flushed = self.inner.flush();
+        self.calls.end_flush(flushed)
     }
 
     fn failed(&self) -> bool {
-        self.failed
+        self.calls.failed
     }
 }

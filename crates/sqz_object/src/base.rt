@@ -3,6 +3,30 @@
 ghost use Rattle.std.specs.Prelude.{◌≡◌};
 ghost use Rattle.sqz_object.specs.Value.{base_of};
 
+use crate::bit_field::BitField;
+
+/// The bits of a base header word that its fields have.
+const KIND: BitField = BitField {
+    lowest: 0,
+    width: 2,
+};
+const SIZE_FIELD: BitField = BitField {
+    lowest: 2,
+    width: 6,
+};
+const FORMAT: BitField = BitField {
+    lowest: 8,
+    width: 4,
+};
+const COMPACT: BitField = BitField {
+    lowest: 12,
+    width: 5,
+};
+const HASH: BitField = BitField {
+    lowest: 17,
+    width: 12,
+};
+
 /// The fields of a base header word. The bits 29 to 31 belong to the garbage collector of the
 /// machine that saved the image, and no field has them.
 #[derive(Clone, Copy, Debug, PartialEq, Eq)]
@@ -24,10 +48,10 @@ pub fn base_of(word: u32) -> Base
     ensures { result ≡ base_of word }
 {
     Base {
-        kind: word % 4,
-        size_field: word / 4 % 64,
-        format: word / 256 % 16,
-        compact: word / 4096 % 32,
-        hash: word / 131072 % 4096,
+        kind: KIND.of(word),
+        size_field: SIZE_FIELD.of(word),
+        format: FORMAT.of(word),
+        compact: COMPACT.of(word),
+        hash: HASH.of(word),
     }
 }

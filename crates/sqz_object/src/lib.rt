@@ -4,6 +4,7 @@
 #![tactic(auto)]
 
 mod base;
+mod bit_field;
 mod chunk;
 pub mod laws;
 mod order;
@@ -11,6 +12,7 @@ mod value;
 mod word;
 
 pub use base::{Base, base_of};
+pub use bit_field::BitField;
 pub use chunk::{Chunk, ChunkFault, Kind, chunk_at};
 pub use order::Order;
 pub use value::{Value, value_of};

@@ -59,8 +59,8 @@ fn push_moved(
         → words.new.items ≡ words.old.items ++ moved heap.now weak marks object.now) }
 {
     push_header(heap, object, forward, words)?;
-    let strong = strong_fields(heap, weak, object) as usize;
-    let (strong, others) = object.fields().split_at(strong);
+    let count = strong_fields(heap, weak, object) as usize;
+    let (strong, others) = object.fields().split_at(count);
     push_strong(heap, strong, forward, words)?;
     if is_weak(weak, object) {
         let nil = nil_place(heap, weak, forward);

@@ -2,17 +2,17 @@
 //! program that does so with files.
 #![tactic(auto)]
 
-mod command;
 mod compact_files;
 mod compaction;
+mod entry_point;
 pub mod laws;
 mod opened;
 mod plan;
 mod running;
 mod summary;
 
-pub use command::program;
 pub use compact_files::compact;
+pub use entry_point::program;
 pub use plan::Plan;
 pub use running::run;
 pub use sqz_command::{Arguments, refuse, refuse_words};

@@ -25,24 +25,20 @@ pub fn defect(heap: &Heap, weak: Weak, object: u32) -> Option<Fault>
     ensures { result ≡ defect heap.now weak (object_at heap.now object) }
 {
     let chunk = heap.object(object);
+    let address = heap.address(object);
     if lacks_class(&chunk) {
-        let address = heap.address(object);
         return Some(Fault::NoClass { address });
     }
     if is_bad_method(&chunk) {
-        let address = heap.address(object);
         return Some(Fault::BadMethod { address });
     }
     if is_bad_context(&chunk) {
-        let address = heap.address(object);
         return Some(Fault::BadContext { address });
     }
     if is_bad_weak(heap, weak, &chunk) {
-        let address = heap.address(object);
         return Some(Fault::BadWeak { address });
     }
     let slot = bad_slot(heap, &chunk)?;
-    let address = heap.address(object);
     Some(Fault::BadPointer { address, slot })
 }
 

@@ -7,10 +7,22 @@ ghost use Rattle.sqz_trace.specs.Strong.{is_weak, fixed_in, fixed_by, unless_abo
 
 use crate::weak::Weak;
 use sqz_image::{Heap, Object};
-use sqz_object::base_of;
+use sqz_object::{BitField, base_of};
 
 /// The format of weak objects.
 const WEAK: u32 = 4;
+
+/// The bits of the word of a class's field 2 that are the lower ones of one more than its number of fixed fields.
+const LOWER_BITS: BitField = BitField {
+    lowest: 2,
+    width: 6,
+};
+
+/// The bits of that word that are the higher ones.
+const HIGHER_BITS: BitField = BitField {
+    lowest: 17,
+    width: 2,
+};
 
 /// Whether the object has weak slots that are cleared.
 pub fn is_weak(weak: Weak, object: &Object<'_>) -> bool
@@ -41,7 +53,7 @@ fn fixed_in(word: u32) -> Option<u32>
     if word % 2 != 1 {
         return None;
     }
-    let stated = word / 131_072 % 4 * 64 + word / 4 % 64;
+    let stated = HIGHER_BITS.of(word) * 64 + LOWER_BITS.of(word);
     stated.checked_sub(1)
 }
 

@@ -3,7 +3,13 @@
 ghost use Rattle.std.specs.Prelude.{◌≡◌, nat_le};
 ghost use Rattle.sqz_trace.specs.Slots.{method_fields};
 
-use sqz_object::Base;
+use sqz_object::{Base, BitField};
+
+/// The bits of a method's header that are the number of its literals.
+const LITERALS: BitField = BitField {
+    lowest: 10,
+    width: 8,
+};
 
 /// Whether an object with this base header is a compiled method.
 pub(crate) fn is_method(base: &Base) -> bool
@@ -23,5 +29,5 @@ pub(crate) fn method_fields(fields: &[u32]) -> Option<u32>
     if header % 2 != 1 {
         return None;
     }
-    Some(1 + header / 1024 % 256)
+    Some(1 + LITERALS.of(*header))
 }

@@ -1,6 +1,6 @@
 use Rattle.std.proofs.Common.{◌≡◌, ℕ, ◌<◌, length, get_or, None}
 use Rattle.sqz_trace.specs.Strong.{compact_class}
-use Rattle.sqz_census.proofs.classes.compact_classes.Given as goal
+use Rattle.sqz_census.proofs.classes.class_table.Given as goal
 
 abbrev pub invariant-loop-index : goal.invariant-loop-index
 invariant-loop-index l =

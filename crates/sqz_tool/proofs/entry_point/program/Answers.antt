@@ -4,7 +4,7 @@ use Rattle.clap.specs.Words.{kind_of}
 use Rattle.clap.specs.declared.error.kind.ErrorKind.TheVariants.{OutOfMemory}
 use Rattle.sqz_command.specs.Exits.{exit_of_kind}
 use Rattle.sqz_tool.proofs.EndingLemmas.{ends_whole, ends_faulty, ends_without_memory}
-use Rattle.sqz_tool.proofs.command.program.Goals as goal
+use Rattle.sqz_tool.proofs.entry_point.program.Goals as goal
 
 pub returns-in-Ok-clause-whole : goal.returns-in-Ok-clause-whole
 returns-in-Ok-clause-whole g c =
