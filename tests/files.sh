@@ -420,7 +420,8 @@ helps() {
   run --help
   [ "$status" -eq 0 ] && [ ! -s said ] && grep -q '^ *--workers <N> .*\[default: 4\]$' printed \
     && grep -q '^ *--region-words <N> .*\[default: 65536\]$' printed && grep -q '^ *--census ' printed \
-    && grep -q '^ *--clear-weak .*Let go of what only weak references name' printed
+    && grep -q '^ *--clear-weak .*Let go of what only weak references name' printed \
+    && head -n 1 printed | grep -q ' Version [0-9]*\.[0-9]*\.[0-9]*$'
 }
 
 if ! "$root/sqzcompact" --help >printed; then

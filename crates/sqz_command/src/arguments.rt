@@ -88,7 +88,7 @@ fn command<'a>(alloc: Global) -> Result<Command<'a>, AllocError>
         "Let go of what only weak references name",
     );
     Command::new(alloc, "sqzcompact")
-        .about("Writes an image with its reachable objects alone")
+        .about("Writes an image with its reachable objects alone. Version 1.0.0")
         .arg(input)?
         .arg(output)?
         .arg(workers)?
