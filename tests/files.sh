@@ -314,6 +314,33 @@ compacts_from_pipe() {
   wrote out "$2"
 }
 
+# Bytes come through one pipe and go through another.
+compacts_between_pipes() {
+  cat "$1" | "$root/sqzcompact" /dev/stdin /dev/stdout 2>said | cat >out
+  status=${PIPESTATUS[1]}
+  : >printed
+  wrote out "$2"
+}
+
+# A file that is there keeps its mode.
+keeps_mode() {
+  put_old_output
+  chmod 640 out
+  run "$1" out
+  wrote out "$2" && [ "$(stat -c %a out)" = 640 ]
+}
+
+# A file that is made has the mode of any new file.
+has_mode_of_new_files() {
+  local mask
+  rm -f out
+  mask=$(umask)
+  umask 027
+  run "$1" out
+  umask "$mask"
+  wrote out "$2" && [ "$(stat -c %a out)" = 640 ]
+}
+
 reports_input_without_right() {
   rm -f out closed
   cp "$1" closed
@@ -523,6 +550,9 @@ case_of 'refuses regions of more than 2^30 words' refuses_number "$image" "$cut"
 case_of 'takes the largest numbers' compacts "$image" "$answer" --workers 64 --region-words 1073741824
 case_of 'helps' helps
 case_of 'compacts from a pipe' compacts_from_pipe "$image" "$answer"
+case_of 'compacts between pipes' compacts_between_pipes "$image" "$answer"
+case_of 'keeps the mode of a file that is there' keeps_mode "$image" "$answer"
+case_of 'gives a new file the mode of new files' has_mode_of_new_files "$image" "$answer"
 case_of 'writes a dozen classes as it times them' writes_as_it_times \
   "$images/dozen_classes.image" "$images/dozen_classes.compacted.image"
 case_of 'writes a cleared weak array as it times it' writes_as_it_times \
