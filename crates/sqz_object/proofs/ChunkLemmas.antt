@@ -1,4 +1,7 @@
 -- What the words of a chunk say of it, and when no chunk begins with some words.
+-- Serves `chunk::chunk_at` and `PartitionLemmas`; `CutLemmas`, `HeapLemmas`, `IndexLemmas` and `ObjectLemmas` of
+-- `sqz_image`; `ShapeLemmas` of `sqz_trace`; `LengthLemmas`, `MovedShapeLemmas` and `SettledLemmas` of `sqz_slide`;
+-- `WorkedImages` of `sqz_examples`.
 use Rattle.std.proofs.Common.{◌≡◌, ℕ, zero, suc, ◌+◌, ◌-◌, ◌/◌, ◌%◌, ◌<◌, ◌≤◌, ◌⊎◌, Bool, true, false, not, ◌&&◌, cond}
 use Rattle.std.proofs.Common.{eqb, ltb}
 use Rattle.std.proofs.Common.{List, ◌∷◌, ◌++◌, length, take, drop, slice_index, Option, Some, None}
@@ -142,15 +145,23 @@ pub record HasRoom (words : List ℕ) : Type 0 where
   pub some_size : 0 < stated_size (chunk_kind words) words
   pub room : stated_length words ≤ length words
 
+-- the three tests of words that have no name of their own: whether their header is longer than they are, whether it
+-- states no words, and whether it states more than there are
+abbrev is_short : List ℕ → Bool
+is_short words = ltb (length words) (before words + 1)
+
+abbrev is_empty : List ℕ → Bool
+is_empty words = eqb (stated_size (chunk_kind words) words) 0
+
+abbrev is_over : List ℕ → Bool
+is_over words = ltb (length words) (stated_length words)
+
 -- such words have no fault
 pub no_fault_with_room : (words : List ℕ) → HasRoom words → chunk_fault words ≡ None
 unfolding faults
 no_fault_with_room words h =
     no_fault
-    (ltb (length words) (before words + 1))
-    (is_of_one_type words)
-    (eqb (stated_size (chunk_kind words) words) 0)
-    (ltb (length words) (stated_length words))
+    (is_short words) (is_of_one_type words) (is_empty words) (is_over words)
     (le-ltb _ _ (let lt = h.header in omega arith))
     h.one_type
     (ne_eqb _ _ (λ e. let lt = h.some_size in omega arith))
@@ -162,10 +173,7 @@ unfolding faults
 HasRoom-from_no_fault words e =
     let parts =
     no_fault_parts
-    (ltb (length words) (before words + 1))
-    (is_of_one_type words)
-    (eqb (stated_size (chunk_kind words) words) 0)
-    (ltb (length words) (stated_length words))
+    (is_short words) (is_of_one_type words) (is_empty words) (is_over words)
     e
     in
     let header : before words + 1 ≤ length words = ltb-false _ _ parts.0 in
@@ -203,10 +211,7 @@ module _ (words : List ℕ) (lt : before words < length words) where
     unfolding faults
     fault_of_zero_size zero_size =
         faults_zero_size
-        (ltb (length words) (before words + 1))
-        (is_of_one_type words)
-        (eqb (stated_size (chunk_kind words) words) 0)
-        (ltb (length words) (stated_length words))
+        (is_short words) (is_of_one_type words) (is_empty words) (is_over words)
         has_header
         types
         (eq-eqb _ _ zero_size)
@@ -217,10 +222,7 @@ module _ (words : List ℕ) (lt : before words < length words) where
     unfolding faults
     fault_of_overrun some long =
         faults_overrun
-        (ltb (length words) (before words + 1))
-        (is_of_one_type words)
-        (eqb (stated_size (chunk_kind words) words) 0)
-        (ltb (length words) (stated_length words))
+        (is_short words) (is_of_one_type words) (is_empty words) (is_over words)
         has_header
         types
         (ne_eqb _ _ (λ e. omega arith))
@@ -231,53 +233,39 @@ pub record StatesChunk (words : List ℕ) (size : ℕ) : Type 0 where
   pub has_room : HasRoom words
   pub states : stated_length words ≡ size
 
+-- words state a chunk where their header, read by its kind, states so many of them and has one type
+states_by_kind : (kind : Kind) (words : List ℕ) (size : ℕ)
+    → chunk_kind words ≡ kind → is_of_one_type words ≡ true
+    → words_before kind + size_stated kind (slice_index words 0) (slice_index words (words_before kind)) ≡ size
+    → words_before kind < size → size ≤ length words → StatesChunk words size
+states_by_kind kind words size is one_type states some room =
+    let before_is : before words ≡ words_before kind = ap words_before is in
+    let stated : stated_length words ≡ size = rw is states in
+    record {
+      has_room = record {
+        header = omega arith;
+        one_type = one_type;
+        some_size = omega arith;
+        room = omega arith;
+      };
+      states = stated;
+    }
+
 -- words that begin with a chunk do so
 pub states_chunk : (kind : Kind) (chunk rest : List ℕ)
     → IsChunkOf kind chunk → StatesChunk (chunk ++ rest) (length chunk)
 states_chunk Three (size ∷ class ∷ base ∷ fields) rest (a, b, c, len) =
-    let more : length (fields ++ rest) ≡ length fields + length rest = length-append fields rest in
-    record {
-      has_room = record {
-        header = rw a (omega arith);
-        one_type = rw (a, a, b, c) refl;
-        some_size = rw a (omega arith);
-        room = rw a (omega arith);
-      };
-      states = rw a (omega arith);
-    }
+    states_by_kind Three (size ∷ class ∷ base ∷ fields ++ rest) (length (size ∷ class ∷ base ∷ fields))
+    (kind_of-three size a) (rw (a, a, b, c) refl) (omega arith) (omega arith) (omega (arith, length-append fields rest))
 states_chunk Two (class ∷ base ∷ fields) rest (a, b, len) =
-    let more : length (fields ++ rest) ≡ length fields + length rest = length-append fields rest in
-    record {
-      has_room = record {
-        header = rw a (omega arith);
-        one_type = rw (a, a, b) refl;
-        some_size = rw a (omega arith);
-        room = rw a (omega arith);
-      };
-      states = rw a (omega arith);
-    }
+    states_by_kind Two (class ∷ base ∷ fields ++ rest) (length (class ∷ base ∷ fields))
+    (kind_of-two class a) (rw (a, a, b) refl) (omega arith) (omega arith) (omega (arith, length-append fields rest))
 states_chunk Free (free ∷ fields) rest (a, len) =
-    let more : length (fields ++ rest) ≡ length fields + length rest = length-append fields rest in
-    record {
-      has_room = record {
-        header = rw a (omega arith);
-        one_type = rw (a, a) refl;
-        some_size = rw a (omega arith);
-        room = rw a (omega arith);
-      };
-      states = rw a (omega arith);
-    }
+    states_by_kind Free (free ∷ fields ++ rest) (length (free ∷ fields))
+    (kind_of-free free a) (rw (a, a) refl) (omega arith) (omega arith) (omega (arith, length-append fields rest))
 states_chunk Short (base ∷ fields) rest (a, len) =
-    let more : length (fields ++ rest) ≡ length fields + length rest = length-append fields rest in
-    record {
-      has_room = record {
-        header = rw a (omega arith);
-        one_type = rw (a, a) refl;
-        some_size = rw a (omega arith);
-        room = rw a (omega arith);
-      };
-      states = rw a (omega arith);
-    }
+    states_by_kind Short (base ∷ fields ++ rest) (length (base ∷ fields))
+    (kind_of-short base a) (rw (a, a) refl) (omega arith) (omega arith) (omega (arith, length-append fields rest))
 states_chunk _ _ rest h = absurd h
 
 -- nothing is wrong where words begin with a chunk

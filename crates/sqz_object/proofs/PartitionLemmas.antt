@@ -1,4 +1,6 @@
 -- Partitions of words into chunks: each list of words has one, or is stuck at one place, and not both.
+-- Serves `laws::partition` and `IndexLemmas` of `sqz_image`; `MovedLemmas` and `PieceLemmas` of `sqz_slide`;
+-- `Uniqueness` of `sqz_tool`.
 use Rattle.std.proofs.Common.{◌≡◌, ℕ, zero, suc, ◌+◌, ◌-◌, ◌<◌, ◌≤◌, ◌⊎◌, List, [], ◌∷◌, ◌++◌, length, take, drop}
 use Rattle.std.proofs.Common.{Option, Some, None, refl, sym, ap, subst, ◌∙◌, arith, inl, inr}
 use Rattle.std.specs.List.{concat, AllByRecursion}
