@@ -1,4 +1,5 @@
 -- What the parts of a heap say of the objects in its words.
+-- Serves `heap::heap_bounds`, `heap::place_at` and functions of `heap::Heap`.
 use Rattle.std.proofs.Common.{◌≡◌, ◌≢◌, ℕ, ◌+◌, ◌-◌, ◌*◌, ◌%◌, ◌^◌, ◌<◌, ◌≤◌, List, [], map, length, get_or, take}
 use Rattle.std.proofs.Common.{drop, slice_index, Option, Some, None, refl, sym, ap, subst, ◌∙◌, arith}
 use Rattle.std.specs.List.{concat}

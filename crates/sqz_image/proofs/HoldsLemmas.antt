@@ -1,4 +1,5 @@
 -- A file holds one image at most.
+-- Serves `Uniqueness` of `sqz_tool`.
 use Rattle.std.proofs.Common.{◌≡◌, ℕ, List, sym, ap, ◌∙◌}
 use Rattle.std.proofs.lemmas.Option.{same_Some}
 use Rattle.sqz_object.specs.declared.order.Order.{Order}

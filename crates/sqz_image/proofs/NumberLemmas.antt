@@ -1,4 +1,5 @@
 -- The numbers of faults that tests find in turn.
+-- Serves `ReadingLemmas`; `DefectLemmas` of `sqz_trace`.
 use Rattle.std.proofs.Common.{◌≡◌, ℕ, Bool, true, false, cond, Option, Some, None, subst}
 use Rattle.std.proofs.lemmas.Option.{none-some, same_Some}
 use Rattle.sqz_image.specs.declared.fault.Fault.{Fault}

@@ -1,4 +1,5 @@
 -- A list that is given in parts.
+-- Serves `memory_source::MemorySource::read`.
 use Rattle.std.proofs.Common.{◌≡◌, ℕ, ◌+◌, ◌-◌, List, ◌++◌, length, take, drop, take-append-drop, sym, ap, ◌∙◌}
 use Rattle.std.proofs.lemmas.List.{take_rest, drop-drop}
 

@@ -1,4 +1,5 @@
 -- Counts of calls.
+-- Serves `ReadingLoop` and `WritingLoop`.
 use Rattle.std.proofs.Common.{◌≡◌, ℕ, ◌+◌, ◌<◌, arith}
 use Rattle.std.proofs.lemmas.Bool.Decides.{nat_tests}
 use Rattle.sqz_image.specs.Devices.{one_more, turn_limit, MeetsLimit, count_after}

@@ -1,4 +1,5 @@
 -- A loop of writes: what it has written so far, and how it ends.
+-- Serves `write_whole::send`, `write_words::send_words` and `write_words::write_words`.
 use Rattle.std.proofs.Common.{◌≡◌, ◌≢◌, ℕ, ◌+◌, ◌-◌, ◌<◌, List, [], ◌++◌, append-nil, append_assoc, take-append-drop}
 use Rattle.std.proofs.Common.{length, take, drop, Ok, sym, ap, ◌∙◌, refl, inl, inr, subst, arith}
 use Rattle.std.proofs.lemmas.List.{take_rest}
