@@ -1,4 +1,6 @@
 -- The marked objects of one memory, copied to another: all copies are reachable, none has a defect, and nil is there.
+-- Serves `CopiedEdgeLemmas`; `CompactedLemmas`, `CopiedLemmas` and `SettledLemmas` of `sqz_slide`;
+-- `CorrespondenceLemmas` and `SettledLemmas` of `sqz_tool`.
 use Rattle.std.proofs.Common.{◌≡◌, ℕ, zero, suc, ◌<◌, ◌≤◌, Bool, true, false, ◌&&◌, cond, eqb, ltb, leb, List, [], ◌∷◌, map}
 use Rattle.std.proofs.Common.{length, slice_index, Option, Some, None, refl, sym, ap, subst, ◌∙◌, arith, inl, inr}
 use Rattle.std.specs.Prelude.{replicate, is_none, option_map, option_and_then}
@@ -24,7 +26,7 @@ use Rattle.sqz_trace.specs.Edges.{strong_target, HasEdge, nil}
 use Rattle.sqz_trace.specs.Graph.{Graph, Leads, IsReachable, is_marked}
 use Rattle.sqz_trace.specs.Reachability.{graph_from, IsReachability}
 use Rattle.sqz_trace.specs.Defects.{states_too_many, is_bad_weak, is_bad_value, is_bad_word, defect, first_defect, lacks_nil}
-use Rattle.sqz_trace.proofs.StrongLemmas.{held_by_word-target}
+use Rattle.sqz_trace.proofs.StrongLemmas.{held_by_word-target, unless_above-le}
 use Rattle.sqz_trace.proofs.EdgeLemmas.{named_among-lt}
 use Rattle.sqz_trace.proofs.ReachabilityLemmas.{IsClosed-reachable, IsTracing, MarksReachable-from_tracing}
 use Rattle.sqz_trace.proofs.ShapeLemmas.{IsShapedAs, same_by_parts, traced-shaped, fixed_fields-shaped, is_weak-shaped}
@@ -114,15 +116,6 @@ traced-weak Keep chunk is = absurd (false≢true is)
 traced-weak Clear chunk is =
     traced_of_four (format chunk) (is_context_index (compact_index chunk)) _ _ _ (eqb-true (format chunk) 4 is)
 
--- a stated number is no more than there are
-unless_above-le : (count : ℕ) (stated : Option ℕ) → unless_above count stated ≤ count
-unless_above-le count None = omega arith
-unless_above-le count (Some stated) =
-    elim (cases_lt count stated) [
-      | inl lt ↦ rw (lt-ltb count stated lt) (omega arith)
-      | inr ge ↦ rw (le-ltb count stated ge) (omega arith)
-    ]
-
 -- whatever the class, no more fields are strong than are traced
 strong_by-traced : (memory : Memory) (weak : Weak) (chunk : List ℕ) (class : Option ℕ)
     → strong_by memory weak chunk class ≤ traced chunk
@@ -149,6 +142,24 @@ lacks_nil-mapped memory copy Clear new same has_nil = ap is_none same ∙ by_nil
     by_nil None e = e
     by_nil (Some index) e = refl
 
+-- ---- the edges of a marked object
+
+module _ (memory : Memory) (weak : Weak) (marks : List Bool) (reachable : IsReachability memory weak marks) where
+  -- a strong slot of a marked object that names an object is an edge
+  pub HasEdge-named : (i t : ℕ) (slot : Slot) → is_marked marks i ≡ true → strong_target memory weak i slot ≡ Some t
+      → HasEdge memory weak i t
+  HasEdge-named i t slot m names =
+      record {
+        inside = let lt = marked_inside marks i m in let sized = reachable.reached.sized in omega arith;
+        slot = slot;
+        names = names;
+      }
+
+  -- what a marked object has an edge to is marked
+  pub HasEdge-marked : (i t : ℕ) → is_marked marks i ≡ true → HasEdge memory weak i t → is_marked marks t ≡ true
+  HasEdge-marked i t m edge =
+      (IsClosed-reachable (graph_from reachable.start memory weak) marks reachable.reached).along i t m edge
+
 -- ---- a copy
 
 module _ (memory copy : Memory) (weak : Weak) (marks : List Bool) (new : ℕ → ℕ) (is : IsCopy memory copy marks new)
@@ -171,12 +182,7 @@ module _ (memory copy : Memory) (weak : Weak) (marks : List Bool) (new : ℕ →
   -- what a strong slot of a marked object names is marked
   strong_marked : (i : ℕ) (slot : Slot) → IsMarked i → AreMarked (strong_target memory weak i slot)
   strong_marked i slot m t names =
-      (IsClosed-reachable (graph_from reachable.start memory weak) marks reachable.reached).along i t m
-      (record {
-        inside = let lt = marked_inside marks i m in let sized = reachable.reached.sized in omega arith;
-        slot = slot;
-        names = names;
-      })
+      HasEdge-marked memory weak marks reachable i t m (HasEdge-named memory weak marks reachable i t slot m names)
 
   -- a slot's copy names the copy of what the slot names
   target-copy : (i : ℕ) (slot : Slot) → IsMarked i → AreMarked (target memory i slot)
@@ -332,7 +338,7 @@ module _ (memory copy : Memory) (weak : Weak) (marks : List Bool) (new : ℕ →
       ∙ strong_by-copy i (class_of memory weak (words i)) m (class_of-marked i m)
 
   -- a strong slot's copy names the copy of what the slot names
-  strong_target-copy : (i : ℕ) (slot : Slot) → IsMarked i
+  pub strong_target-copy : (i : ℕ) (slot : Slot) → is_marked marks i ≡ true
       → strong_target copy weak (new i) slot ≡ option_map new (strong_target memory weak i slot)
   strong_target-copy i slot m =
       let count = strong memory weak (words i) in
@@ -376,7 +382,7 @@ module _ (memory copy : Memory) (weak : Weak) (marks : List Bool) (new : ℕ →
       → Leads copied_graph (new from) (map new path) (new goal)
   Leads-copy from [] goal m same = ap new same
   Leads-copy from (next ∷ path) goal m leads =
-      let next_marked = (IsClosed-reachable graph marks reachable.reached).along from next m leads.0 in
+      let next_marked = HasEdge-marked memory weak marks reachable from next m leads.0 in
       (HasEdge-copy from next m leads.0, Leads-copy next path goal next_marked leads.1)
 
   -- the copy of a marked object is reachable

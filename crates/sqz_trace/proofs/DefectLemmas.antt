@@ -1,4 +1,5 @@
 -- Seeking the first bad slot of an object, field by field; and the numbers of defects.
+-- Serves `defects::bad_field`; `RunLemmas` of `sqz_tool`.
 use Rattle.std.proofs.Common.{◌≡◌, ◌⊎◌, ℕ, ◌+◌, ◌-◌, ◌<◌, ◌≤◌, Bool, true, false, cond, List, [], ◌∷◌, map}
 use Rattle.std.proofs.Common.{slice_index, Option, Some, None, ap, ◌∙◌, arith, inl, inr}
 use Rattle.sqz_object.specs.Value.{value_of}

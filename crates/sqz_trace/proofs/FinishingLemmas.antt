@@ -1,4 +1,5 @@
 -- How much is left to do where marking is brought to its end.
+-- Serves `finishing::finish`.
 use Rattle.std.proofs.Common.{◌≡◌, ℕ, zero, suc, ◌+◌, ◌-◌, ◌*◌, ◌<◌, List, [], ◌∷◌, length, refl, sym, ap, ◌∙◌, arith, inl, inr}
 use Rattle.std.proofs.Math.Nat.{add-mul}
 use Rattle.sqz_trace.specs.declared.shades.Shade.{Shade}

@@ -1,4 +1,6 @@
 -- The law of shades: it holds at first, it is kept, and where no object is grey it shows that marking is done.
+-- Serves `finishing::finish` and `shades::first_shades`; `laws::core`, `EventLemmas` and `RunLemmas` of `sqz_marks`;
+-- `marking::Marking::turn` and `RestLemmas` of `sqz_workers`.
 use Rattle.std.proofs.Common.{◌≡◌, ◌≢◌, ℕ, zero, suc, ◌<◌, ◌≤◌, Bool, true, false, List, [], ◌∷◌, length, set}
 use Rattle.std.proofs.Common.{refl, sym, ap, subst, ◌∙◌, arith, inl, inr}
 use Rattle.std.specs.Prelude.{replicate}

@@ -1,4 +1,6 @@
 -- Marking with a worklist: what holds between two steps of it, and what that shows at its end.
+-- Serves `finishing::finish`, `marking::mark_named`, `marking::mark_plain`, `LawLemmas` and `NamedLemmas`;
+-- `table::MarkTable::close` of `sqz_marks`; `marking::Marking::turn` and `stealing::mark` of `sqz_workers`.
 use Rattle.std.proofs.Common.{◌≡◌, ℕ, zero, suc, ◌+◌, ◌<◌, ◌⊎◌, Bool, true, false, List, [], ◌∷◌, ◌++◌, length, set}
 use Rattle.std.proofs.Common.{take, drop, refl, sym, ap, subst, ◌∙◌, arith, inl, inr}
 use Rattle.std.specs.Prelude.{replicate, Contains}

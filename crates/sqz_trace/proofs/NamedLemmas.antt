@@ -1,4 +1,5 @@
 -- The objects that the strong slots of an object name are marked where those that its class word and its strong fields name are.
+-- Serves `marking::mark_all_named` and `marking::mark_targets`.
 use Rattle.std.proofs.Common.{◌≡◌, ℕ, ◌+◌, ◌<◌, ◌≤◌, ◌⊎◌, Bool, List, length, take, slice_index}
 use Rattle.std.proofs.Common.{Some, sym, ap, subst, ◌∙◌, arith, inl, inr}
 use Rattle.std.proofs.lemmas.Bool.{cases_lt}

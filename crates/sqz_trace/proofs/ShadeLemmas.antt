@@ -1,4 +1,7 @@
 -- Shades and the marks that they are.
+-- Serves `finishing::finish`, `marking::mark_named`, `marking::mark_plain`, `GreyingLemmas`, `LawLemmas` and
+-- `TurnLemmas`; `EventLemmas`, `KeptLemmas`, `RunLemmas`, `StepLemmas` and `WonLemmas` of `sqz_marks`;
+-- `rest::mark_from` and `RestLemmas` of `sqz_workers`.
 use Rattle.std.proofs.Common.{◌≡◌, ◌⊎◌, ℕ, zero, suc, List, true, false, [], ◌∷◌, length, refl, sym, ap, ◌∙◌, inl, inr}
 use Rattle.std.specs.Prelude.{replicate}
 use Rattle.std.proofs.lemmas.List.{length-map}

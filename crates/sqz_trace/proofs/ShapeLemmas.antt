@@ -1,4 +1,5 @@
 -- The shape of an object: what its headers say, how many fields it has, and which of them hold which integers.
+-- Serves `CopyLemmas`; `CopiedLemmas` and `MovedShapeLemmas` of `sqz_slide`.
 use Rattle.std.proofs.Common.{◌≡◌, ◌⊎◌, ℕ, ◌+◌, ◌%◌, Bool, true, false, ◌&&◌, cond, eqb, ltb, leb}
 use Rattle.std.proofs.Common.{List, [], ◌∷◌, length, slice_index}
 use Rattle.std.proofs.Common.{Option, refl, sym, ap, ◌∙◌, arith, inl, inr}

@@ -1,4 +1,5 @@
 -- An object without a defect: what that says of its parts, and of all marked objects.
+-- Serves `CopyLemmas`; `CopiedLemmas` of `sqz_slide`.
 use Rattle.std.proofs.Common.{◌≡◌, ℕ, zero, suc, ◌+◌, ◌<◌, ◌≤◌, Bool, true, false, cond, List, [], ◌∷◌, ◌++◌, map, length}
 use Rattle.std.proofs.Common.{Option, Some, None, refl, ap, subst, arith, inl, inr}
 use Rattle.std.specs.Prelude.{slice_index, slice_index_or, option_map}

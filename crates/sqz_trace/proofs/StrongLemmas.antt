@@ -1,4 +1,5 @@
 -- The strong fields of an object, by its class word alone and by its class.
+-- Serves `CopyLemmas`; `MovedLemmas` and `MovedShapeLemmas` of `sqz_slide`; `GroupLemmas` of `sqz_census`.
 use Rattle.std.proofs.Common.{◌≡◌, ℕ, ◌≤◌, Bool, true, false, cond, List, length, Option, Some, None, refl, ap, subst, sym, ◌∙◌, arith, inl, inr}
 use Rattle.std.proofs.lemmas.Bool.{cases_lt, lt-ltb, le-ltb}
 use Rattle.std.specs.Prelude.{option_map, option_and_then}
@@ -55,19 +56,20 @@ module _ (memory : Memory) (weak : Weak) where
       named_among-more memory chunk (strong_by_word memory weak chunk) (strong memory weak chunk) (Field field) found
       (strong_by_word-le chunk) held
 
+-- a stated number is no more than there are
+pub unless_above-le : (count : ℕ) (stated : Option ℕ) → unless_above count stated ≤ count
+unless_above-le count None = omega arith
+unless_above-le count (Some stated) =
+    elim (cases_lt count stated) [
+      | inl lt ↦ rw (lt-ltb count stated lt) (omega arith)
+      | inr ge ↦ rw (le-ltb count stated ge) (omega arith)
+    ]
+
 -- the strong fields are some of the fields
 pub strong_inside : (memory : Memory) (weak : Weak) (chunk : List ℕ) → strong memory weak chunk ≤ length (fields chunk)
 strong_inside memory weak chunk =
     by_test (is_weak weak chunk) (length (fields chunk)) (fixed_by memory (class_of memory weak chunk)) (traced_inside chunk)
   where
-    unless_above-le : (count : ℕ) (stated : Option ℕ) → unless_above count stated ≤ count
-    unless_above-le count None = omega arith
-    unless_above-le count (Some stated) =
-        elim (cases_lt count stated) [
-          | inl lt ↦ rw (lt-ltb count stated lt) (omega arith)
-          | inr ge ↦ rw (le-ltb count stated ge) (omega arith)
-        ]
-
     by_test : (test : Bool) (count : ℕ) (stated : Option ℕ) {other : ℕ} → other ≤ count → cond test (unless_above count stated) other ≤ count
     by_test true count stated le = unless_above-le count stated
     by_test false count stated le = le

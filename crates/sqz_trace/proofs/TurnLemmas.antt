@@ -1,4 +1,5 @@
 -- Objects that become grey, one after the other, and the list that grows by them.
+-- Serves `turns::blacken_listed` and `turns::grey_listed`.
 use Rattle.std.proofs.Common.{◌≡◌, ℕ, zero, suc, ◌+◌, ◌<◌, true, List, [], ◌∷◌, ◌++◌, length, set}
 use Rattle.std.proofs.Common.{refl, sym, ap, subst, ◌∙◌, arith, inl, inr, length-append, append_assoc, append-nil}
 use Rattle.std.specs.Prelude.{Contains}

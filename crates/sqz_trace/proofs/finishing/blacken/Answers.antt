@@ -1,22 +1,15 @@
 use Rattle.std.proofs.Common.{◌≡◌, ◌<◌, ◌+◌, ◌∙◌, arith}
-use Rattle.sqz_trace.specs.Targets.{IsTargetBelow}
-use Rattle.sqz_trace.proofs.TargetLemmas.{IsTargetOf}
 use Rattle.sqz_trace.proofs.GreyingLemmas.{Greys-next_field, Blackens-after_slots, IsLowest-then, IsLowest-blackened}
 use Rattle.sqz_trace.proofs.finishing.blacken.Goals as goal
 
 pub loop-k-preserved : goal.loop-k-preserved
 loop-k-preserved c =
-    let memory = c.args.heap.now in
-    let parent = c.of-parent.result in
-    let k = c.loop-k.k in
-    let lt : c.loop-k.k < c.of-parent.result.strong = omega (arith, c.loop-k-test.true, c.strong-k-end.ensures.strong) in
     let so_far = c.loop-k.invariant in
     let step = c.grey_target-lowest-in-loop-k.ensures in
+    let lt : c.loop-k.k < c.of-parent.result.strong = omega (arith, c.loop-k-test.true, c.strong-k-end.ensures.strong) in
     record {
-      greyed = Greys-next_field memory parent.words parent.strong k c.args.shades.now _ _ lt so_far.greyed step.greyed;
-      lowest =
-          IsLowest-then (c.args.object + 1) c.args.shades.now _ _ so_far.lowest (IsTargetBelow memory parent.words k)
-          (IsTargetOf memory parent.words parent.strong k) _ _ so_far.greyed step.greyed step.lowest;
+      greyed = Greys-next_field _ _ _ _ _ _ _ lt so_far.greyed step.greyed;
+      lowest = IsLowest-then (c.args.object + 1) _ _ _ so_far.lowest _ _ _ _ so_far.greyed step.greyed step.lowest;
     }
 
 pub returns-clause-blackened : goal.returns-clause-blackened

@@ -11,20 +11,25 @@ use Rattle.sqz_trace.proofs.ShadeLemmas.{grey-black}
 use Rattle.sqz_trace.proofs.LawLemmas.{AreLawful-blackened, MarksReachable-finished, none_grey}
 use Rattle.sqz_trace.proofs.FinishingLemmas.{unfinished_count, unfinished-blackened, less_to_do}
 use Rattle.sqz_trace.proofs.finishing.finish.Goals as goal
+use Rattle.sqz_trace.proofs.finishing.finish.Goals.{In-Grey}
+
+-- the object is there
+is_there : (c : In-Grey) → c.loop-object.object < length c.loop-object.shades.items
+is_there c = omega (arith, c.loop-object-test.true, c.len.ensures.objects, c.loop-object.invariant.lawful.lawful.sized)
+
+-- and is grey
+is_grey : (c : In-Grey) → shade_at c.loop-object.shades.items c.loop-object.object ≡ Grey
+is_grey c = sym (get_or_read _ _ _ (is_there c) c.index.ensures White) ∙ c.in-Grey.is
 
 pub loop-object-smaller-in-Grey : goal.loop-object-smaller-in-Grey
 loop-object-smaller-in-Grey c =
+    let here = (goal.at.loop-object-smaller-in-Grey c).In-Grey in
     let object = c.loop-object.object in
     let old = c.loop-object.shades in
     let new = c.blacken-object.new.shades in
-    let inside : c.loop-object.object < length c.loop-object.shades.items =
-    omega (arith, c.loop-object-test.true, c.len.ensures.objects, c.loop-object.invariant.lawful.lawful.sized)
-    in
-    let grey : shade_at c.loop-object.shades.items c.loop-object.object ≡ Grey =
-    sym (get_or_read _ _ _ inside c.index.ensures White) ∙ c.in-Grey.is
-    in
     let step = rw c.deref_mut.ensures.value at c.blacken-object.ensures.blackened in
-    let less = unfinished-blackened (HasEdge c.args.heap.now c.args.weak object) object old.items new inside grey step in
+    let less =
+    unfinished-blackened (HasEdge c.args.heap.now c.args.weak object) object old.items new (is_there here) (is_grey here) step in
     rw (whole_slice old.len new old.items step.sized old.ok.0)
     (less_to_do (object_count c.args.heap.now) (unfinished_count new) (unfinished_count old.items) object c.blacken-object.result less)
 
@@ -35,12 +40,7 @@ loop-object-preserved-in-Grey c =
     let new = c.blacken-object.new.shades in
     let so_far = c.loop-object.invariant in
     let law = so_far.lawful in
-    let inside : c.loop-object.object < length c.loop-object.shades.items =
-    omega (arith, c.loop-object-test.true, c.len.ensures.objects, c.loop-object.invariant.lawful.lawful.sized)
-    in
-    let grey : shade_at c.loop-object.shades.items c.loop-object.object ≡ Grey =
-    sym (get_or_read _ _ _ inside c.index.ensures White) ∙ c.in-Grey.is
-    in
+    let grey = is_grey (goal.at.loop-object-preserved-in-Grey c).In-Grey in
     let step = rw c.deref_mut.ensures.value at c.blacken-object.ensures.blackened in
     let lowest = rw c.deref_mut.ensures.value at c.blacken-object.ensures.lowest in
     rw (whole_slice old.len new old.items step.sized old.ok.0)

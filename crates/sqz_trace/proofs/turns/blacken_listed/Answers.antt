@@ -1,6 +1,5 @@
 use Rattle.std.proofs.Common.{◌≡◌, ◌<◌, ◌∙◌, arith}
 use Rattle.sqz_trace.specs.Targets.{IsTargetBelow}
-use Rattle.sqz_trace.proofs.TargetLemmas.{IsTargetOf}
 use Rattle.sqz_trace.proofs.GreyingLemmas.{Greys-class_word, Greys-next_field, Blackens-after_slots}
 use Rattle.sqz_trace.proofs.TurnLemmas.{IsListed-then, IsListed-room, IsListed-blackened}
 use Rattle.sqz_trace.proofs.turns.blacken_listed.Goals as goal
@@ -16,17 +15,12 @@ loop-k-init c =
 
 pub loop-k-preserved : goal.loop-k-preserved
 loop-k-preserved c =
-    let memory = c.args.heap.now in
-    let parent = c.of-parent.result in
-    let k = c.loop-k.k in
-    let lt : c.loop-k.k < c.of-parent.result.strong = omega (arith, c.loop-k-test.true, c.strong-k-end.ensures.strong) in
     let so_far = c.loop-k.invariant in
     let step = c.grey_listed-in-loop-k.ensures in
+    let lt : c.loop-k.k < c.of-parent.result.strong = omega (arith, c.loop-k-test.true, c.strong-k-end.ensures.strong) in
     record {
-      greyed = Greys-next_field memory parent.words parent.strong k c.args.shades.now _ _ lt so_far.greyed step.greyed;
-      listed =
-          IsListed-then (IsTargetBelow memory parent.words k) c.args.shades.now _ _ _ so_far.greyed so_far.listed
-          (IsTargetOf memory parent.words parent.strong k) _ _ step.greyed step.listed;
+      greyed = Greys-next_field _ _ _ _ _ _ _ lt so_far.greyed step.greyed;
+      listed = IsListed-then _ _ _ _ _ so_far.greyed so_far.listed _ _ _ step.greyed step.listed;
       capacity = step.capacity ∙ so_far.capacity;
     }
 
