@@ -1,4 +1,5 @@
 -- The points of a cut.
+-- Serves `cut::is_cut_list`, `cut::Cut::count`, `cut::Cut::end` and `cut::Cut::region`.
 use Rattle.std.proofs.Common.{◌≡◌, ◌⊎◌, ◌↔◌, ℕ, zero, suc, ◌+◌, ◌^◌, ◌<◌, ◌≤◌, true, false, List, length}
 use Rattle.std.proofs.Common.{get_or, refl, leb, arith, inl, inr}
 use Rattle.std.specs.List.Sorted.{IsPartitionedBy, IsPartitionPoint, IsNonDecreasing}

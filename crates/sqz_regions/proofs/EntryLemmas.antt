@@ -1,4 +1,5 @@
 -- The entries of a table of places, from those of ranges of objects.
+-- Serves `forward::places_between`, `forward::range_places` and `forward::Forward::build`.
 use Rattle.std.proofs.Common.{◌≡◌, ℕ, zero, suc, ◌+◌, ◌-◌, ◌*◌, ◌^◌, ◌<◌, ◌≤◌, Bool, true, false, List, [], ◌∷◌, ◌++◌}
 use Rattle.std.proofs.Common.{map, length, get_or, refl, sym, ap, subst, ◌∙◌, arith, inl, inr, None, Ok, Result}
 use Rattle.std.specs.Prelude.{IfOk}
