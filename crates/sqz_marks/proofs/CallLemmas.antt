@@ -1,4 +1,5 @@
 -- What the calls on the mark table owe at their steps, from what contracts see of the table and of the pass.
+-- Serves functions of `table::MarkTable`.
 use Rattle.std.proofs.Common.{◌≡◌, ℕ, ◌+◌, ◌%◌, ◌^◌, ◌<◌, ◌≤◌, max, [], length, sym, ap, subst, ◌∙◌, arith}
 use mathlib.Core.Option.{none}
 use Rattle.std.specs.Prelude.{Some}
@@ -14,8 +15,16 @@ use Rattle.sqz_trace.proofs.TargetLemmas.{HasEdge-slot}
 use Rattle.sqz_regions.specs.Regions.{Regioning, region_at, region_count}
 use Rattle.sqz_marks.specs.declared.view.View.{View}
 use Rattle.sqz_marks.specs.Core.{Marking, times, HasWon, HasSeen, kept_of, part_of, joined, spent}
-use Rattle.sqz_marks.specs.Table.{SharedMarks, HeldPass, IsPassOf, IsSeenParent, IsKept, start_of, marking_in, Looked, Claimed, Counted, Blackened, Weighed}
-use Rattle.sqz_marks.proofs.StepLemmas.{look_allowed, claim_allowed, count_allowed, blacken_allowed, split_allowed, join_allowed, weigh_allowed}
+use Rattle.sqz_marks.specs.Table.{SharedMarks, HeldPass, IsPassOf, IsSeenParent, IsKept, start_of, marking_in, Looked}
+use Rattle.sqz_marks.specs.Table.{Claimed, Counted, Blackened, Weighed}
+use Rattle.sqz_marks.proofs.StepLemmas.{look_allowed, claim_allowed, count_allowed, blacken_allowed, split_allowed}
+use Rattle.sqz_marks.proofs.StepLemmas.{join_allowed, weigh_allowed}
+
+-- what a call owes before a step on a word: the seat is of the table, the word is one of the table's, and the rule allows the step
+module _ (marking : Marking) (id seat : TableId) (number : ℕ) {S : Type 0} (me : Me S View) where
+  abbrev pub Owes : ℕ → (ℕ → ℕ) → (ℕ → Me S View → Type 0) → Type 0
+  Owes word becomes tells =
+      (seat ≡ id) × (word < id.words) × Allows (IsKept marking {S = S}) id.slots number me word becomes tells
 
 module _
     (marks : SharedMarks)
@@ -35,6 +44,9 @@ module _
     (me : Me S View)
     (is_pass : record { table = seat; workers = pass_workers; view = me.0 } ≡ pass)
   where
+    abbrev marking : Marking
+    marking = marking_in key key_weak key_workers
+
     same_table : seat ≡ id
     same_table = ap (λ (p : HeldPass). p.table) is_pass ∙ of.0 ∙ sym (ap (λ (m : SharedMarks). m.table) is_marks)
 
@@ -65,17 +77,18 @@ module _
       in_key : object < object_count key.memory
       in_key = subst (λ (h : Regioning). object < object_count h.memory) (sym same_heap) inside
 
-      pub look_owes : 1 ≤ me.0.weight → (seat ≡ id) × (object < id.words)
-          × Allows (IsKept (marking_in key key_weak key_workers) {S = S}) id.slots number me object (λ n. n) (Looked (step id.slots object 0 0 none) me)
-      look_owes weight = (same_table, in_words, look_allowed (marking_in key key_weak key_workers) id.slots number me object in_key weight)
+      pub look_owes : 1 ≤ me.0.weight
+          → Owes (marking_in key key_weak key_workers) id seat number me object (λ n. n) (Looked (step id.slots object 0 0 none) me)
+      look_owes weight = (same_table, in_words, look_allowed marking id.slots number me object in_key weight)
 
-      pub blacken_owes : HasSeen pass.view object → ((target : ℕ) → HasEdge marks.heap.memory marks.weak object target → HasSeen pass.view target)
-          → (seat ≡ id) × (object < id.words)
-          × Allows (IsKept (marking_in key key_weak key_workers) {S = S}) id.slots number me object (λ n. max n 2) (Blackened (step id.slots object 2 0 none) me)
+      pub blacken_owes : HasSeen pass.view object
+          → ((target : ℕ) → HasEdge marks.heap.memory marks.weak object target → HasSeen pass.view target)
+          → Owes (marking_in key key_weak key_workers) id seat number me object (λ n. max n 2)
+          (Blackened (step id.slots object 2 0 none) me)
       blacken_owes seen targets = (
         same_table,
         in_words,
-        blacken_allowed (marking_in key key_weak key_workers) id.slots number me object in_key
+        blacken_allowed marking id.slots number me object in_key
             (subst (λ (v : View). HasSeen v object) (sym same_view) seen)
             (λ target edge. subst (λ (v : View). HasSeen v target) (sym same_view)
             (targets target (table_edge object target edge))),
@@ -87,12 +100,12 @@ module _
       is_inside : object < object_count marks.heap.memory
       is_inside = named_among-lt marks.heap.memory parent.strong parent.words slot object names
 
-      pub claim_owes : (seat ≡ id) × (object < id.words)
-          × Allows (IsKept (marking_in key key_weak key_workers) {S = S}) id.slots number me object (λ n. max n 1) (Claimed (step id.slots object 1 0 none) me)
+      pub claim_owes : Owes (marking_in key key_weak key_workers) id seat number me object (λ n. max n 1)
+          (Claimed (step id.slots object 1 0 none) me)
       claim_owes = (
         same_table,
         in_words object is_inside,
-        claim_allowed (marking_in key key_weak key_workers) id.slots number me seen.object object (in_key object is_inside)
+        claim_allowed marking id.slots number me seen.object object (in_key object is_inside)
             (subst (λ (v : View). HasSeen v seen.object) (sym same_view) seen.seen)
             (keyed_edge seen.object object
             (HasEdge-slot marks.heap.memory marks.weak seen.object parent seen.its slot object seen.inside names)),
@@ -120,17 +133,16 @@ module _
     pub count_owes : (word length_of : ℕ) → word ≡ object_count self.memory + region → region ≡ region_at self.cut self.memory object
         → region < region_count self.cut self.memory → length_of ≡ length (chunk_words self.memory object)
         → HasWon me.0 object → times object me.0.counted ≡ 0
-        → (seat ≡ id) × (word < id.words)
-        × Allows (IsKept (marking_in key key_weak key_workers) {S = S}) id.slots number me word (λ n. (n + length_of) % 2 ^ 64)
+        → Owes (marking_in key key_weak key_workers) id seat number me word (λ n. (n + length_of) % 2 ^ 64)
         (Counted object (step id.slots word length_of 0 none) me)
     count_owes word length_of at is_region inside long won new = (
       same,
       (let sizes = ap (λ (h : Regioning). object_count h.memory + region_count h.cut h.memory) is_heap in
           omega (arith, words, at, inside, sizes)),
-      subst (λ w. Allows (IsKept marking {S = S}) id.slots number me w (λ n. (n + length_of) % 2 ^ 64) (Counted object (step id.slots w length_of 0 none) me))
+      subst (λ w. IsAllowed w length_of)
           (sym (at ∙ ap (λ r. object_count self.memory + r) is_region
           ∙ ap (λ (h : Regioning). object_count h.memory + region_at h.cut h.memory object) keyed_self))
-          (subst (λ n. Allows (IsKept marking {S = S}) id.slots number me place (λ m. (m + n) % 2 ^ 64) (Counted object (step id.slots place n 0 none) me))
+          (subst (λ n. IsAllowed place n)
           (sym (long ∙ ap (λ (h : Regioning). length (chunk_words h.memory object)) keyed_self))
           (count_allowed marking id.slots number me object won new
           (subst (λ (h : Regioning). region_at h.cut h.memory object < region_count h.cut h.memory) keyed_self
@@ -139,6 +151,12 @@ module _
       where
         marking : Marking
         marking = marking_in key key_weak key_workers
+
+        -- so many words may be added to a word
+        IsAllowed : ℕ → ℕ → Type 0
+        IsAllowed w words =
+            Allows (IsKept marking {S = S}) id.slots number me w (λ n. (n + words) % 2 ^ 64)
+            (Counted object (step id.slots w words 0 none) me)
 
         place : ℕ
         place = object_count key.memory + region_at key.cut key.memory object
@@ -163,16 +181,21 @@ module _
         omega (arith, lt, words)
 
     pub split_owes : (weight : ℕ) → 1 ≤ weight → weight < me.0.weight
-        → (seat ≡ id) × (0 < id.words) × Splits (IsKept (marking_in key key_weak key_workers) {S = S}) number me.0 (kept_of weight me.0) (part_of weight)
+        → (seat ≡ id) × (0 < id.words)
+        × Splits (IsKept (marking_in key key_weak key_workers) {S = S}) number me.0 (kept_of weight me.0) (part_of weight)
     split_owes weight positive below =
         (same, first_word, split_allowed (marking_in key key_weak key_workers) number me.0 weight positive below)
 
     pub join_owes : (other : TableId) → other ≡ id → (other_number : ℕ) (theirs : Me S View) → theirs.1 ≡ [] → 1 ≤ theirs.0.weight
         → (seat ≡ id) × (other ≡ id) × (theirs.1 ≡ []) × (0 < id.words)
         × Joins (IsKept (marking_in key key_weak key_workers) {S = S}) number me.0 other_number theirs.0 (joined me.0 theirs.0) spent
-    join_owes other same_other other_number theirs holds weight =
-        (same, same_other, holds, first_word, join_allowed (marking_in key key_weak key_workers) number me.0 other_number theirs.0 weight)
+    join_owes other same_other other_number theirs holds weight = (
+      same,
+      same_other,
+      holds,
+      first_word,
+      join_allowed (marking_in key key_weak key_workers) number me.0 other_number theirs.0 weight,
+    )
 
-    pub weigh_owes : (seat ≡ id) × (0 < id.words)
-        × Allows (IsKept (marking_in key key_weak key_workers) {S = S}) id.slots number me 0 (λ n. n) (Weighed (step id.slots 0 0 0 none) me)
+    pub weigh_owes : Owes (marking_in key key_weak key_workers) id seat number me 0 (λ n. n) (Weighed (step id.slots 0 0 0 none) me)
     weigh_owes = (same, first_word, weigh_allowed (marking_in key key_weak key_workers) id.slots number me)

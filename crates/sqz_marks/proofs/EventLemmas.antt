@@ -1,7 +1,10 @@
 -- Each event leaves a lawful state lawful. The rule of the mark table and the law of legal runs both rest on these.
-use Rattle.std.proofs.Common.{◌≡◌, ◌≢◌, ◌⊎◌, ℕ, ◌+◌, ◌<◌, ◌≤◌, true, List, [], ◌∷◌, ◌++◌, length, set, get_or, refl, sym, ap, subst, ◌∙◌, if◌then◌else◌, eq-eqb, ne_eqb, arith, inl, inr}
+-- Serves `RunLemmas` and `StepLemmas`.
+use Rattle.std.proofs.Common.{◌≡◌, ◌≢◌, ◌⊎◌, ℕ, ◌+◌, ◌<◌, ◌≤◌, true, List, [], ◌∷◌, ◌++◌, length, set, get_or, refl}
+use Rattle.std.proofs.Common.{sym, ap, subst, ◌∙◌, if◌then◌else◌, eq-eqb, ne_eqb, arith, inl, inr}
 use Rattle.std.proofs.lemmas.Bool.{cases_eq, cases_lt}
-use Rattle.std.proofs.lemmas.List.{length-set, get_or-set_same, get_or-set_other, get_or_append_left, get_or_push, get_or_past, length_push}
+use Rattle.std.proofs.lemmas.List.{length-set, get_or-set_same, get_or-set_other, get_or_append_left, get_or_push}
+use Rattle.std.proofs.lemmas.List.{get_or_past, length_push}
 use Rattle.std.proofs.lemmas.List.Sums.{sum_by-set, sum_by_push, sum_by-cons, sum_by-append, get_or-le-sum_by}
 use Rattle.std.specs.List.{sum_by}
 use Rattle.sqz_trace.specs.declared.shades.Shade.{Shade}
@@ -12,13 +15,16 @@ use Rattle.sqz_trace.proofs.ReachabilityLemmas.{IsReachable-next}
 use Rattle.sqz_trace.proofs.ShadeLemmas.{grey-black, marked-by, marked-same, is_marked-shade}
 use Rattle.sqz_trace.proofs.LawLemmas.{AreLawful-set}
 use Rattle.sqz_marks.specs.declared.view.View.{View}
-use Rattle.sqz_marks.specs.Core.{Marking, State, HasWon, HasSeen, HasBlackened, times, spent, pass_at, looked, claimed, greyed, grown}
+use Rattle.sqz_marks.specs.Core.{Marking, State, HasWon, HasSeen, HasBlackened, times, spent, pass_at, looked, claimed}
+use Rattle.sqz_marks.specs.Core.{greyed, grown}
 use Rattle.sqz_marks.specs.Core.{seen_by, won_by, counted, blackened, kept_of, part_of, joined}
 use Rattle.sqz_marks.specs.Core.{Look, Claim, Count, Blacken, Split, Join, after}
 use Rattle.sqz_marks.specs.Lawful.{KnowsTruth, AreCounted, IsLawful, wins, words_at, words_listed, total_counted}
 use Rattle.sqz_marks.proofs.TimesLemmas.{times-same, times-other, times-more, times-append}
-use Rattle.sqz_marks.proofs.ViewLemmas.{AreDarker, AreDarker-same, weight-seen, KnowsTruth-darker, KnowsTruth-spent, KnowsTruth-part}
-use Rattle.sqz_marks.proofs.ViewLemmas.{KnowsTruth-seen, KnowsTruth-won, KnowsTruth-counted, KnowsTruth-blackened, KnowsTruth-kept, KnowsTruth-joined}
+use Rattle.sqz_marks.proofs.ViewLemmas.{AreDarker, AreDarker-same, weight-seen, KnowsTruth-darker, KnowsTruth-spent}
+use Rattle.sqz_marks.proofs.ViewLemmas.{KnowsTruth-part}
+use Rattle.sqz_marks.proofs.ViewLemmas.{KnowsTruth-seen, KnowsTruth-won, KnowsTruth-counted, KnowsTruth-blackened}
+use Rattle.sqz_marks.proofs.ViewLemmas.{KnowsTruth-kept, KnowsTruth-joined}
 
 -- shades of which one object got another shade
 module _ (shades : List Shade) (object : ℕ) (shade : Shade) (inside : object < length shades) where
@@ -29,7 +35,8 @@ module _ (shades : List Shade) (object : ℕ) (shade : Shade) (inside : object <
   shade-other other differs = get_or-set_other shades object other shade White differs
 
   -- they are darker where the shade is
-  AreDarker-set : has_mark shade ≡ true → (shade_at shades object ≡ Black → shade ≡ Black) → AreDarker shades (set shades object shade)
+  AreDarker-set : has_mark shade ≡ true → (shade_at shades object ≡ Black → shade ≡ Black)
+      → AreDarker shades (set shades object shade)
   AreDarker-set marked black =
       record {
         marked = λ other was. elim (cases_eq other object) [
@@ -49,6 +56,10 @@ module _ (marking : Marking) (state : State) (pass : ℕ) (inside : pass < lengt
   abbrev pub view : View
   view = pass_at state.passes pass
 
+  -- the state with these shades and regions' numbers, where the pass knows this
+  abbrev pub changed : List Shade → List ℕ → View → State
+  changed shades sums now = record { shades = shades; sums = sums; passes = set passes pass now }
+
   its : KnowsTruth state.shades view
   its = lawful.truth pass
 
@@ -60,7 +71,7 @@ module _ (marking : Marking) (state : State) (pass : ℕ) (inside : pass < lengt
 
   -- or of the same
   AreCounted-same : (shades : List Shade) (now : View) → now.counted ≡ view.counted
-      → AreCounted marking record { shades = shades; sums = state.sums; passes = set passes pass now }
+      → AreCounted marking (changed shades state.sums now)
   AreCounted-same shades now same =
       record {
         sized = lawful.sums.sized;
@@ -71,13 +82,14 @@ module _ (marking : Marking) (state : State) (pass : ℕ) (inside : pass < lengt
       }
 
   -- one pass learned something, and objects got darker
-  pub IsLawful-changed : (shades : List Shade) (sums : List ℕ) (now : View) → AreLawful marking.graph shades → AreDarker state.shades shades
-      → KnowsTruth shades now → now.weight ≡ view.weight
-      → ((object : ℕ) → times object now.won + wins (shade_at state.shades object) ≡ times object view.won + wins (shade_at shades object))
+  pub IsLawful-changed : (shades : List Shade) (sums : List ℕ) (now : View)
+      → AreLawful marking.graph shades → AreDarker state.shades shades → KnowsTruth shades now → now.weight ≡ view.weight
+      → ((object : ℕ)
+      → times object now.won + wins (shade_at state.shades object) ≡ times object view.won + wins (shade_at shades object))
       → ((object : ℕ) → times object view.blackened ≤ times object now.blackened)
       → ((object : ℕ) → shade_at shades object ≡ Black → (shade_at state.shades object ≡ Black) ⊎ HasBlackened now object)
-      → AreCounted marking record { shades = shades; sums = sums; passes = set passes pass now }
-      → IsLawful marking record { shades = shades; sums = sums; passes = set passes pass now }
+      → AreCounted marking (changed shades sums now)
+      → IsLawful marking (changed shades sums now)
   IsLawful-changed shades sums now law darker truth weight won grows black are_sums =
       record {
         shades = law;
@@ -106,19 +118,20 @@ module _ (marking : Marking) (state : State) (pass : ℕ) (inside : pass < lengt
   pub IsLawful-look : (object : ℕ) → 1 ≤ view.weight → IsLawful marking (after marking state pass (Look object))
   IsLawful-look object weight = by_shade (shade_at state.shades object) refl
     where
-      same : (object : ℕ) → (shade : Shade) → shade_at state.shades object ≡ shade → has_mark shade ≡ true → is_marked (marks_of state.shades) object ≡ true
+      same : (object : ℕ) (shade : Shade) → shade_at state.shades object ≡ shade → has_mark shade ≡ true
+          → is_marked (marks_of state.shades) object ≡ true
       same object shade is marked = marked-by state.shades object shade is marked
 
       known : (now : View) → KnowsTruth state.shades now → now.weight ≡ view.weight → now.won ≡ view.won → now.counted ≡ view.counted
           → ((object : ℕ) → times object view.blackened ≤ times object now.blackened)
-          → IsLawful marking record { shades = state.shades; sums = state.sums; passes = set passes pass now }
+          → IsLawful marking (changed state.shades state.sums now)
       known now truth weight won counted grows =
           IsLawful-changed state.shades state.sums now lawful.shades (AreDarker-same state.shades) truth weight
           (λ other. ap (λ list. times other list + wins (shade_at state.shades other)) won) grows (λ other black. inl black)
           (AreCounted-same state.shades now counted)
 
       by_shade : (shade : Shade) → shade_at state.shades object ≡ shade
-          → IsLawful marking record { shades = state.shades; sums = state.sums; passes = set passes pass (looked object shade view) }
+          → IsLawful marking (changed state.shades state.sums (looked object shade view))
       by_shade White is = known view its refl refl refl (λ other. omega arith)
       by_shade Grey is =
           known (seen_by object view) (KnowsTruth-seen state.shades view its object weight (same object Grey is refl)) refl refl refl
@@ -153,84 +166,105 @@ module _ (marking : Marking) (state : State) (pass : ℕ) (inside : pass < lengt
       was_black Grey e = absurd (grey-black e)
       was_black Black e = refl
 
-      law : (shade : Shade) → shade_at old object ≡ shade → AreLawful marking.graph (set old object (greyed shade))
+      -- the shades where the object's shade is greyed
+      new : Shade → List Shade
+      new shade = set old object (greyed shade)
+
+      there : (shade : Shade) → shade_at (new shade) object ≡ greyed shade
+      there shade = shade-same old object (greyed shade) within
+
+      elsewhere : (shade : Shade) (other : ℕ) → other ≢ object → shade_at (new shade) other ≡ shade_at old other
+      elsewhere shade other differs = shade-other old object (greyed shade) within other differs
+
+      law : (shade : Shade) → shade_at old object ≡ shade → AreLawful marking.graph (new shade)
       law shade is =
           AreLawful-set marking.graph object (greyed shade) old lawful.shades within (is_grey shade)
           (IsReachable-next marking.graph parent object (lawful.shades.sound parent (its.seen parent seen)) edge)
           (λ black to edge. lawful.shades.along object to (is ∙ was_black shade black) edge)
 
-      darker : (shade : Shade) → shade_at old object ≡ shade → AreDarker old (set old object (greyed shade))
+      darker : (shade : Shade) → shade_at old object ≡ shade → AreDarker old (new shade)
       darker shade is =
           AreDarker-set old object (greyed shade) within (is_grey shade)
           (λ black. subst (λ (s : Shade). greyed s ≡ Black) (sym black ∙ is) refl)
 
-      marked : (shade : Shade) → shade_at old object ≡ shade → is_marked (marks_of (set old object (greyed shade))) object ≡ true
-      marked shade is =
-          marked-by (set old object (greyed shade)) object (greyed shade) (shade-same old object (greyed shade) within) (is_grey shade)
+      marked : (shade : Shade) → shade_at old object ≡ shade → is_marked (marks_of (new shade)) object ≡ true
+      marked shade is = marked-by (new shade) object (greyed shade) (there shade) (is_grey shade)
 
-      stays_black : (shade : Shade) → shade_at old object ≡ shade → (other : ℕ) → shade_at (set old object (greyed shade)) other ≡ Black
+      stays_black : (shade : Shade) → shade_at old object ≡ shade → (other : ℕ) → shade_at (new shade) other ≡ Black
           → shade_at old other ≡ Black
       stays_black shade is other now =
           elim (cases_eq other object) [
-            | inl same ↦ ap (shade_at old) same ∙ is
-                ∙ was_black shade (sym (shade-same old object (greyed shade) within) ∙ sym (ap (shade_at (set old object (greyed shade))) same) ∙ now)
-            | inr differs ↦ sym (shade-other old object (greyed shade) within other differs) ∙ now
+            | inl same ↦
+                (let black : greyed shade ≡ Black = sym (there shade) ∙ sym (ap (shade_at (new shade)) same) ∙ now in
+                ap (shade_at old) same ∙ is ∙ was_black shade black)
+            | inr differs ↦ sym (elsewhere shade other differs) ∙ now
           ]
 
       found : (shade : Shade) → shade_at old object ≡ shade → greyed shade ≡ shade
-          → IsLawful marking record { shades = set old object (greyed shade); sums = state.sums; passes = set passes pass (seen_by object view) }
+          → IsLawful marking (changed (new shade) state.sums (seen_by object view))
       found shade is stays =
-          IsLawful-changed (set old object (greyed shade)) state.sums (seen_by object view) (law shade is) (darker shade is)
-          (KnowsTruth-seen (set old object (greyed shade)) view
-          (KnowsTruth-darker old (set old object (greyed shade)) view (darker shade is) its) object weight (marked shade is))
+          IsLawful-changed (new shade) state.sums (seen_by object view) (law shade is) (darker shade is)
+          (KnowsTruth-seen (new shade) view (KnowsTruth-darker old (new shade) view (darker shade is) its) object weight
+          (marked shade is))
           refl
           (λ other. ap (λ s. times other view.won + wins s) (sym (elim (cases_eq other object) [
-            | inl same ↦ ap (shade_at (set old object (greyed shade))) same ∙ shade-same old object (greyed shade) within ∙ stays
-                ∙ sym is ∙ sym (ap (shade_at old) same)
-            | inr differs ↦ shade-other old object (greyed shade) within other differs
+            | inl same ↦ ap (shade_at (new shade)) same ∙ there shade ∙ stays ∙ sym is ∙ sym (ap (shade_at old) same)
+            | inr differs ↦ elsewhere shade other differs
           ])))
           (λ other. omega arith)
           (λ other is_black. inl (stays_black shade is other is_black))
-          (AreCounted-same (set old object (greyed shade)) (seen_by object view) refl)
+          (AreCounted-same (new shade) (seen_by object view) refl)
+
+      -- the shades where the object was white and became grey
+      now_grey : List Shade
+      now_grey = set old object Grey
+
+      won_here : shade_at old object ≡ White
+          → times object (object ∷ view.won) + wins (shade_at old object) ≡ times object view.won + wins (shade_at now_grey object)
+      won_here is =
+          let was : wins (shade_at old object) ≡ 0 = ap wins is in
+          let now : wins (shade_at now_grey object) ≡ 1 = ap wins (there White) in
+          omega (arith, was, now, times-same object view.won)
 
       by_shade : (shade : Shade) → shade_at old object ≡ shade
-          → IsLawful marking record { shades = set old object (greyed shade); sums = state.sums; passes = set passes pass (claimed object shade view) }
+          → IsLawful marking (changed (new shade) state.sums (claimed object shade view))
       by_shade White is =
-          IsLawful-changed (set old object Grey) state.sums (won_by object view) (law White is) (darker White is)
-          (KnowsTruth-won (set old object Grey) view
-          (KnowsTruth-darker old (set old object Grey) view (darker White is) its) object weight (marked White is))
+          IsLawful-changed now_grey state.sums (won_by object view) (law White is) (darker White is)
+          (KnowsTruth-won now_grey view (KnowsTruth-darker old now_grey view (darker White is) its) object weight
+          (marked White is))
           refl
           (λ other. elim (cases_eq other object) [
-            | inl same ↦ subst (λ (o : ℕ). times o (object ∷ view.won) + wins (shade_at old o) ≡ times o view.won + wins (shade_at (set old object Grey) o))
-                (sym same)
-                (let was : wins (shade_at old object) ≡ 0 = ap wins is in
-                let now : wins (shade_at (set old object Grey) object) ≡ 1 = ap wins (shade-same old object Grey within) in
-                omega (arith, was, now, times-same object view.won))
+            | inl same ↦
+                subst
+                (λ (o : ℕ).
+                times o (object ∷ view.won) + wins (shade_at old o) ≡ times o view.won + wins (shade_at now_grey o))
+                (sym same) (won_here is)
             | inr differs ↦
-                (let same : wins (shade_at (set old object Grey) other) ≡ wins (shade_at old other) =
-                ap wins (shade-other old object Grey within other differs) in
+                (let same : wins (shade_at now_grey other) ≡ wins (shade_at old other) = ap wins (elsewhere White other differs) in
                 omega (arith, same, times-other other object view.won differs))
           ])
           (λ other. omega arith)
           (λ other is_black. inl (stays_black White is other is_black))
-          (AreCounted-same (set old object Grey) (won_by object view) refl)
+          (AreCounted-same now_grey (won_by object view) refl)
       by_shade Grey is = found Grey is refl
       by_shade Black is = found Black is refl
 
   -- an object that the pass won is counted
-  pub IsLawful-count : (object : ℕ) → HasWon view object → times object view.counted ≡ 0 → IsLawful marking (after marking state pass (Count object))
+  pub IsLawful-count : (object : ℕ) → HasWon view object → times object view.counted ≡ 0
+      → IsLawful marking (after marking state pass (Count object))
   IsLawful-count object won new =
       IsLawful-changed state.shades sums (counted object view) lawful.shades (AreDarker-same state.shades)
       (KnowsTruth-counted state.shades view its object won new (weight-seen state.shades view object its (its.won object won)))
       refl (λ other. refl) (λ other. omega arith) (λ other black. inl black)
       record {
-        sized = length-set state.sums at (get_or state.sums at 0 + marking.words object) ∙ lawful.sums.sized;
+        sized = length-set state.sums at more_there ∙ lawful.sums.sized;
         each = λ region lt. elim (cases_eq region at) [
-          | inl same ↦ subst (λ (r : ℕ). get_or sums r 0 ≡ total_counted marking (set passes pass (counted object view)) r) (sym same)
+          | inl same ↦
+              subst (λ (r : ℕ). get_or sums r 0 ≡ total_counted marking (set passes pass (counted object view)) r) (sym same)
               (here (subst (λ (r : ℕ). r < marking.regions) same lt))
           | inr differs ↦
               (let none = words_at-other region differs in
-              let other = get_or-set_other state.sums at region (get_or state.sums at 0 + marking.words object) 0 differs in
+              let other = get_or-set_other state.sums at region more_there 0 differs in
               omega (arith, lawful.sums.each region lt, total-changed (counted object view) region, more region, none, other))
         ];
       }
@@ -240,6 +274,10 @@ module _ (marking : Marking) (state : State) (pass : ℕ) (inside : pass < lengt
 
       sums : List ℕ
       sums = grown state.sums at (marking.words object)
+
+      -- the new number of its region
+      more_there : ℕ
+      more_there = get_or state.sums at 0 + marking.words object
 
       more : (region : ℕ) → words_listed marking region (object ∷ view.counted)
           ≡ words_at marking region object + words_listed marking region view.counted
@@ -253,7 +291,7 @@ module _ (marking : Marking) (state : State) (pass : ℕ) (inside : pass < lengt
 
       here : at < marking.regions → get_or sums at 0 ≡ total_counted marking (set passes pass (counted object view)) at
       here lt =
-          let set = get_or-set_same state.sums at (get_or state.sums at 0 + marking.words object) 0 (omega (arith, lt, lawful.sums.sized)) in
+          let set = get_or-set_same state.sums at more_there 0 (omega (arith, lt, lawful.sums.sized)) in
           omega (arith, set, lawful.sums.each at lt, total-changed (counted object view) at, more at, words_at-same)
 
   -- an object becomes black
@@ -261,42 +299,57 @@ module _ (marking : Marking) (state : State) (pass : ℕ) (inside : pass < lengt
       → ((target : ℕ) → marking.graph.Edge object target → HasSeen view target)
       → IsLawful marking (after marking state pass (Blacken object))
   IsLawful-blacken object seen lt targets =
-      IsLawful-changed (set old object Black) state.sums (blackened object view)
+      IsLawful-changed new state.sums (blackened object view)
       (AreLawful-set marking.graph object Black old lawful.shades within refl (lawful.shades.sound object marked)
       (λ e to edge. its.seen to (targets to edge)))
       darker
-      (KnowsTruth-blackened (set old object Black) view (KnowsTruth-darker old (set old object Black) view darker its) object
-      (weight-seen old view object its seen) (shade-same old object Black within))
+      (KnowsTruth-blackened new view (KnowsTruth-darker old new view darker its) object (weight-seen old view object its seen) there)
       refl
-      (λ other. elim (cases_eq other object) [
-        | inl same ↦ ap (λ n. times other view.won + n) (subst (λ (o : ℕ). wins (shade_at old o) ≡ wins (shade_at (set old object Black) o)) (sym same)
-            (won_once (shade_at old object) (sym (is_marked-shade old object) ∙ marked)
-            ∙ sym (ap wins (shade-same old object Black within))))
-        | inr differs ↦ ap (λ s. times other view.won + wins s) (sym (shade-other old object Black within other differs))
-      ])
+      (λ other. ap (λ n. times other view.won + n) (same_wins other))
       (λ other. times-more other object view.blackened)
       (λ other black. elim (cases_eq other object) [
-        | inl same ↦ inr (subst (λ (o : ℕ). 0 < times o (object ∷ view.blackened)) (sym same) (omega (arith, times-same object view.blackened)))
-        | inr differs ↦ inl (sym (shade-other old object Black within other differs) ∙ black)
+        | inl same ↦ inr (subst (λ (o : ℕ). 0 < times o (object ∷ view.blackened)) (sym same) known_here)
+        | inr differs ↦ inl (sym (elsewhere other differs) ∙ black)
       ])
-      (AreCounted-same (set old object Black) (blackened object view) refl)
+      (AreCounted-same new (blackened object view) refl)
     where
       old : List Shade
       old = state.shades
 
+      new : List Shade
+      new = set old object Black
+
       within : object < length old
       within = subst (λ n. object < n) (sym lawful.shades.sized) lt
+
+      there : shade_at new object ≡ Black
+      there = shade-same old object Black within
+
+      elsewhere : (other : ℕ) → other ≢ object → shade_at new other ≡ shade_at old other
+      elsewhere = shade-other old object Black within
 
       marked : is_marked (marks_of old) object ≡ true
       marked = its.seen object seen
 
-      darker : AreDarker old (set old object Black)
+      darker : AreDarker old new
       darker = AreDarker-set old object Black within refl (λ black. refl)
 
       won_once : (shade : Shade) → has_mark shade ≡ true → wins shade ≡ 1
       won_once White e = absurd cc
       won_once Grey e = refl
       won_once Black e = refl
+
+      same_wins : (other : ℕ) → wins (shade_at old other) ≡ wins (shade_at new other)
+      same_wins other =
+          elim (cases_eq other object) [
+            | inl same ↦
+                subst (λ (o : ℕ). wins (shade_at old o) ≡ wins (shade_at new o)) (sym same)
+                (won_once (shade_at old object) (sym (is_marked-shade old object) ∙ marked) ∙ sym (ap wins there))
+            | inr differs ↦ ap wins (sym (elsewhere other differs))
+          ]
+
+      known_here : 0 < times object (object ∷ view.blackened)
+      known_here = omega (arith, times-same object view.blackened)
 
   -- a pass gives a part of its weight to a new one
   pub IsLawful-split : (weight : ℕ) → 1 ≤ weight → weight < view.weight → IsLawful marking (after marking state pass (Split weight))
@@ -312,11 +365,12 @@ module _ (marking : Marking) (state : State) (pass : ℕ) (inside : pass < lengt
             let total = sum_by-set (λ v. times object v.blackened) passes pass (kept_of weight view) spent inside in
             omega (arith, push, total, lawful.black object is);
         truth = λ other. elim (cases_lt other (length rest)) [
-          | inl lt ↦ subst (KnowsTruth state.shades) (sym (get_or_append_left rest (part_of weight ∷ []) spent other lt)) (of_rest other)
+          | inl lt ↦ knows other (get_or_append_left rest (part_of weight ∷ []) spent other lt) (of_rest other)
           | inr ge ↦ elim (cases_eq other (length rest)) [
-            | inl same ↦ subst (KnowsTruth state.shades) (sym (get_or_push rest (part_of weight) spent other (sym same)))
-                (KnowsTruth-part state.shades weight some)
-            | inr differs ↦ subst (KnowsTruth state.shades) (sym (get_or_past (rest ++ part_of weight ∷ []) other spent (past other ge differs)))
+            | inl same ↦
+                knows other (get_or_push rest (part_of weight) spent other (sym same)) (KnowsTruth-part state.shades weight some)
+            | inr differs ↦
+                knows other (get_or_past (rest ++ part_of weight ∷ []) other spent (past other ge differs))
                 (KnowsTruth-spent state.shades)
           ]
         ];
@@ -335,6 +389,10 @@ module _ (marking : Marking) (state : State) (pass : ℕ) (inside : pass < lengt
         rest : List View
         rest = set passes pass (kept_of weight view)
 
+        knows : (other : ℕ) {now : View} → pass_at (rest ++ part_of weight ∷ []) other ≡ now → KnowsTruth state.shades now
+            → KnowsTruth state.shades (pass_at (rest ++ part_of weight ∷ []) other)
+        knows other is truth = subst (KnowsTruth state.shades) (sym is) truth
+
         past : (other : ℕ) → length rest ≤ other → other ≢ length rest → length (rest ++ part_of weight ∷ []) ≤ other
         past other ge differs = cases_past (cases_lt (length rest) other)
           where
@@ -348,8 +406,9 @@ module _ (marking : Marking) (state : State) (pass : ℕ) (inside : pass < lengt
               | inl same ↦ subst (KnowsTruth state.shades)
                   (sym (ap (pass_at rest) same ∙ get_or-set_same passes pass (kept_of weight view) spent inside))
                   (KnowsTruth-kept state.shades view its weight below)
-              | inr differs ↦ subst (KnowsTruth state.shades) (sym (get_or-set_other passes pass other (kept_of weight view) spent differs))
-                  (lawful.truth other)
+              | inr differs ↦
+                  subst (KnowsTruth state.shades)
+                  (sym (get_or-set_other passes pass other (kept_of weight view) spent differs)) (lawful.truth other)
             ]
 
   -- a pass takes in another
@@ -360,12 +419,15 @@ module _ (marking : Marking) (state : State) (pass : ℕ) (inside : pass < lengt
         shades = lawful.shades;
         won = λ object. of_total (λ v. times object v.won) refl (times-append object view.won theirs.won) ∙ lawful.won object;
         black = λ object is.
-            subst (λ n. 0 < n) (sym (of_total (λ v. times object v.blackened) refl (times-append object view.blackened theirs.blackened)))
-            (lawful.black object is);
+            let both = times-append object view.blackened theirs.blackened in
+            subst (λ n. 0 < n) (sym (of_total (λ v. times object v.blackened) refl both)) (lawful.black object is);
         truth = λ third. elim (cases_eq third other) [
-          | inl same ↦ subst (KnowsTruth state.shades)
-              (sym (ap (pass_at (set one other spent)) same ∙ get_or-set_same one other spent spent in_one)) (KnowsTruth-spent state.shades)
-          | inr third_differs ↦ subst (KnowsTruth state.shades) (sym (get_or-set_other one other third spent spent third_differs)) (of_one third)
+          | inl same ↦
+              subst (KnowsTruth state.shades)
+              (sym (ap (pass_at (set one other spent)) same ∙ get_or-set_same one other spent spent in_one))
+              (KnowsTruth-spent state.shades)
+          | inr third_differs ↦
+              subst (KnowsTruth state.shades) (sym (get_or-set_other one other third spent spent third_differs)) (of_one third)
         ];
         sums =
             record {
@@ -391,7 +453,8 @@ module _ (marking : Marking) (state : State) (pass : ℕ) (inside : pass < lengt
         of_total f none both =
             let first = sum_by-set f passes pass (joined view theirs) spent inside in
             let second = sum_by-set f one other spent spent in_one in
-            let same : f (get_or one other spent) ≡ f theirs = ap f (get_or-set_other passes pass other (joined view theirs) spent differs) in
+            let same : f (get_or one other spent) ≡ f theirs =
+            ap f (get_or-set_other passes pass other (joined view theirs) spent differs) in
             omega (arith, first, second, same, none, both)
 
         of_one : (third : ℕ) → KnowsTruth state.shades (pass_at one third)
@@ -400,6 +463,7 @@ module _ (marking : Marking) (state : State) (pass : ℕ) (inside : pass < lengt
               | inl same ↦ subst (KnowsTruth state.shades)
                   (sym (ap (pass_at one) same ∙ get_or-set_same passes pass (joined view theirs) spent inside))
                   (KnowsTruth-joined state.shades view its theirs (lawful.truth other) weight)
-              | inr differs ↦ subst (KnowsTruth state.shades) (sym (get_or-set_other passes pass third (joined view theirs) spent differs))
-                  (lawful.truth third)
+              | inr differs ↦
+                  subst (KnowsTruth state.shades)
+                  (sym (get_or-set_other passes pass third (joined view theirs) spent differs)) (lawful.truth third)
             ]

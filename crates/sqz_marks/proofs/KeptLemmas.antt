@@ -1,5 +1,7 @@
 -- The rule of the mark table when it is made and when it is closed.
-use Rattle.std.proofs.Common.{◌≡◌, ℕ, zero, suc, ◌+◌, ◌-◌, ◌^◌, ◌<◌, ◌≤◌, if◌then◌else◌, cond, ltb, List, [], ◌∷◌, ◌++◌, length, map, take, set, get_or, Some}
+-- Serves `table::MarkTable::close` and `table::MarkTable::new`.
+use Rattle.std.proofs.Common.{◌≡◌, ℕ, zero, suc, ◌+◌, ◌-◌, ◌^◌, ◌<◌, ◌≤◌, if◌then◌else◌, cond, ltb, List, [], ◌∷◌, ◌++◌}
+use Rattle.std.proofs.Common.{length, map, take, set, get_or, Some}
 use Rattle.std.proofs.Common.{refl, sym, ap, subst, ◌∙◌, arith, inl, inr}
 use mathlib.Core.Option.{some}
 use lib.ListN.{get_elem?}
@@ -27,7 +29,8 @@ use Rattle.sqz_marks.proofs.RunLemmas.{none_at}
 use Rattle.sqz_marks.specs.declared.view.View.{View}
 use Rattle.sqz_marks.specs.Core.{Marking, times, spent, pass_at, first_view, grown}
 use Rattle.sqz_marks.specs.Lawful.{KnowsTruth, wins, words_listed}
-use Rattle.sqz_marks.specs.Table.{number_of, shade_of, HasFewWords, HasCountedAll, IsKept, marking_in, start_of, shade_known, AreClosed}
+use Rattle.sqz_marks.specs.Table.{number_of, shade_of, HasFewWords, HasCountedAll, IsKept, marking_in, start_of}
+use Rattle.sqz_marks.specs.Table.{shade_known, AreClosed}
 use Rattle.sqz_marks.proofs.RunLemmas.{IsLawful-opening}
 use Rattle.sqz_marks.proofs.StepLemmas.{inside_at, item_at, shade_of-number, sized, sum_is}
 use Rattle.sqz_marks.proofs.CountLemmas.{total_counted-few}
@@ -45,7 +48,8 @@ pub IsKept-opening : (heap : Regioning) (weak : Weak) (workers : ℕ) (words : L
     → find heap.memory heap.memory.special ≡ Some (start_of heap.memory) → 1 ≤ workers → workers ≤ 64
     → HasFewWords (marking_in heap weak workers)
     → words ≡ set (set (replicate (object_count heap.memory + region_count heap.cut heap.memory) 0) (start_of heap.memory) 1)
-    (object_count heap.memory + region_at heap.cut heap.memory (start_of heap.memory)) (length (chunk_words heap.memory (start_of heap.memory)))
+    (object_count heap.memory + region_at heap.cut heap.memory (start_of heap.memory))
+    (length (chunk_words heap.memory (start_of heap.memory)))
     → {S : Type 0} → IsKept (marking_in heap weak workers) (opening_of {S = S} words [] (first_view workers (start_of heap.memory)))
 IsKept-opening heap weak workers words special positive few few_words are =
     record {
@@ -133,7 +137,9 @@ module _ (marking : Marking) {S : Type 0} (table : State S View) (kept : IsKept 
       let knowns = sum_by-set known table.views id spent spent inside in
       let weight : (pass_at table.views id).weight ≡ view.weight = ap (λ (v : View). v.weight) is_view in
       let here : known (pass_at table.views id) ≡ known view = ap known is_view in
-      let rest = none_known (set table.views id spent) others (omega (arith, weights, weight, whole, kept.lawful.weights)) known nothing in
+      let weightless : sum_by (λ (v : View). v.weight) (set table.views id spent) ≡ 0 =
+      omega (arith, weights, weight, whole, kept.lawful.weights) in
+      let rest = none_known (set table.views id spent) others weightless known nothing in
       omega (arith, knowns, here, rest, nothing)
     where
       others : (pass : ℕ) → (pass_at (set table.views id spent) pass).weight ≡ 0 → pass_at (set table.views id spent) pass ≡ spent
@@ -159,7 +165,8 @@ module _ (marking : Marking) {S : Type 0} (table : State S View) (kept : IsKept 
     where
       by_shade : (shade : Shade) (black won : ℕ) → (shade ≡ Black → 0 < black) → (0 < black → shade ≡ Black) → won ≡ wins shade
           → shade ≡ (if ltb 0 black then Black else (if ltb 0 won then Grey else White))
-      by_shade Black black won is known once = sym (ap (λ b. if b then Black else (if ltb 0 won then Grey else White)) (lt-ltb 0 black (is refl)))
+      by_shade Black black won is known once =
+          sym (ap (λ b. if b then Black else (if ltb 0 won then Grey else White)) (lt-ltb 0 black (is refl)))
       by_shade Grey zero won is known once = sym (ap (λ w. if ltb 0 w then Grey else White) once)
       by_shade White zero won is known once = sym (ap (λ w. if ltb 0 w then Grey else White) once)
       by_shade Grey (suc black) won is known once = absurd (grey-black (known (omega arith)))
@@ -186,49 +193,48 @@ pub shade_of-numbers : (shades : List Shade) → map shade_of (map number_of sha
 shade_of-numbers [] = refl
 shade_of-numbers (shade ∷ shades) = λ k. shade_of-number shade k ∷ shade_of-numbers shades k
 
--- the shades that the words say when the table is closed
-pub AreClosed-kept : (heap : Regioning) (weak : Weak) (workers : ℕ) {S : Type 0} (table : State S View)
-    (kept : IsKept (marking_in heap weak workers) {S = S} table) (id : ℕ) (view : View) → get_elem? table.views id ≡ some view → view.weight ≡ workers
-    → find heap.memory heap.memory.special ≡ Some (start_of heap.memory) → AreClosed heap.memory weak view kept.shades
-AreClosed-kept heap weak workers table kept id view at whole special =
-    record {
-      known = shade_at-known (marking_in heap weak workers) table kept id view at whole;
-      once = won_once (marking_in heap weak workers) table kept id view at whole;
-      seen = (subst (KnowsTruth kept.shades) (item_at table.views id view spent at) (kept.lawful.truth id)).seen;
-      lawful = record { start = start_of heap.memory; is_special = special; lawful = kept.lawful.shades };
-    }
-
--- and the sums of the regions, where all that was won is counted
-pub AreSums-kept : (heap : Regioning) (weak : Weak) (workers : ℕ) {S : Type 0} (table : State S View)
-    (kept : IsKept (marking_in heap weak workers) {S = S} table) (id : ℕ) (view : View) → get_elem? table.views id ≡ some view → view.weight ≡ workers → HasCountedAll view
-    → AreSums heap (marks_of kept.shades) kept.sums
-AreSums-kept heap weak workers table kept id view at whole all =
-    record {
-      sized = kept.lawful.sums.sized;
-      each = λ region lt.
-          sums_counted (marking_in heap weak workers) table kept id view at whole region lt
-          ∙ live_words_in-listed heap.cut heap.memory (marks_of kept.shades) view.counted region
-          (length-map kept.shades has_mark ∙ kept.lawful.shades.sized)
-          (counted_once (marking_in heap weak workers) table kept id view at whole all);
-    }
-
--- the words of a table that is closed say the shades, and behind these the regions' numbers
 module _ (heap : Regioning) (weak : Weak) (workers : ℕ) {S : Type 0} (table : State S View)
-    (kept : IsKept (marking_in heap weak workers) {S = S} table) (words : List ℕ) (are : table.words ≡ words) (count : ℕ) (count_is : count ≡ object_count heap.memory) where
-  pub shades_read : map shade_of (take count words) ≡ kept.shades
-  shades_read =
-      ap (λ ws. map shade_of (take count ws)) (sym are ∙ kept.words)
-      ∙ ap (λ n. map shade_of (take n (map number_of kept.shades ++ kept.sums))) (count_is ∙ sym (sized (marking_in heap weak workers) table kept))
-      ∙ ap (map shade_of) (take-append_seam (map number_of kept.shades) kept.sums)
-      ∙ shade_of-numbers kept.shades
+    (kept : IsKept (marking_in heap weak workers) {S = S} table) where
+  module _ (id : ℕ) (view : View) (at : get_elem? table.views id ≡ some view) (whole : view.weight ≡ workers) where
+    -- the shades that the words say when the table is closed
+    pub AreClosed-kept : find heap.memory heap.memory.special ≡ Some (start_of heap.memory)
+        → AreClosed heap.memory weak view kept.shades
+    AreClosed-kept special =
+        record {
+          known = shade_at-known (marking_in heap weak workers) table kept id view at whole;
+          once = won_once (marking_in heap weak workers) table kept id view at whole;
+          seen = (subst (KnowsTruth kept.shades) (item_at table.views id view spent at) (kept.lawful.truth id)).seen;
+          lawful = record { start = start_of heap.memory; is_special = special; lawful = kept.lawful.shades };
+        }
 
-  pub sum_read : (region : ℕ) → get_or words (count + region) 0 ≡ get_or kept.sums region 0
-  sum_read region =
-      ap (λ ws. get_or ws (count + region) 0) (sym are) ∙ ap (λ n. get_or table.words (n + region) 0) count_is
-      ∙ sum_is (marking_in heap weak workers) table kept region
+    -- and the sums of the regions, where all that was won is counted
+    pub AreSums-kept : HasCountedAll view → AreSums heap (marks_of kept.shades) kept.sums
+    AreSums-kept all =
+        record {
+          sized = kept.lawful.sums.sized;
+          each = λ region lt.
+              sums_counted (marking_in heap weak workers) table kept id view at whole region lt
+              ∙ live_words_in-listed heap.cut heap.memory (marks_of kept.shades) view.counted region
+              (length-map kept.shades has_mark ∙ kept.lawful.shades.sized)
+              (counted_once (marking_in heap weak workers) table kept id view at whole all);
+        }
 
-  pub sum_few : (region : ℕ) → region < region_count heap.cut heap.memory → get_or words (count + region) 0 < 2 ^ 30
-  sum_few region inside =
-      subst (λ n. n < 2 ^ 30) (sym (sum_read region ∙ kept.lawful.sums.each region inside))
-      (total_counted-few (marking_in heap weak workers) record { shades = kept.shades; sums = kept.sums; passes = table.views } kept.lawful
-      kept.few_words region)
+  -- the words of a table that is closed say the shades, and behind these the regions' numbers
+  module _ (words : List ℕ) (are : table.words ≡ words) (count : ℕ) (count_is : count ≡ object_count heap.memory) where
+    pub shades_read : map shade_of (take count words) ≡ kept.shades
+    shades_read =
+        ap (λ ws. map shade_of (take count ws)) (sym are ∙ kept.words)
+        ∙ ap (λ n. map shade_of (take n (map number_of kept.shades ++ kept.sums)))
+        (count_is ∙ sym (sized (marking_in heap weak workers) table kept))
+        ∙ ap (map shade_of) (take-append_seam (map number_of kept.shades) kept.sums)
+        ∙ shade_of-numbers kept.shades
+
+    pub sum_read : (region : ℕ) → get_or words (count + region) 0 ≡ get_or kept.sums region 0
+    sum_read region =
+        ap (λ ws. get_or ws (count + region) 0) (sym are) ∙ ap (λ n. get_or table.words (n + region) 0) count_is
+        ∙ sum_is (marking_in heap weak workers) table kept region
+
+    pub sum_few : (region : ℕ) → region < region_count heap.cut heap.memory → get_or words (count + region) 0 < 2 ^ 30
+    sum_few region inside =
+        subst (λ n. n < 2 ^ 30) (sym (sum_read region ∙ kept.lawful.sums.each region inside))
+        (total_counted-few (marking_in heap weak workers) _ kept.lawful kept.few_words region)

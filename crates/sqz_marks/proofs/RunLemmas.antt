@@ -1,5 +1,7 @@
 -- Marking begins in a lawful state, and each legal run leads to one.
-use Rattle.std.proofs.Common.{◌≡◌, ◌≢◌, ℕ, zero, suc, ◌+◌, ◌<◌, ◌≤◌, List, [], ◌∷◌, length, set, get_or, refl, sym, ap, subst, ◌∙◌, if◌then◌else◌, eq-eqb, ne_eqb, arith, inl, inr}
+-- Serves `laws::core` and `KeptLemmas`.
+use Rattle.std.proofs.Common.{◌≡◌, ◌≢◌, ℕ, zero, suc, ◌+◌, ◌<◌, ◌≤◌, List, [], ◌∷◌, length, set, get_or, refl, sym, ap}
+use Rattle.std.proofs.Common.{subst, ◌∙◌, if◌then◌else◌, eq-eqb, ne_eqb, arith, inl, inr}
 use Rattle.std.specs.Prelude.{replicate}
 use Rattle.std.proofs.lemmas.Bool.{cases_eq}
 use Rattle.std.proofs.lemmas.List.{length-replicate, length-set, get_or-set_same, get_or-set_other}
@@ -14,7 +16,8 @@ use Rattle.sqz_marks.specs.Core.{Event, Look, Claim, Count, Blacken, Split, Join
 use Rattle.sqz_marks.specs.Lawful.{KnowsTruth, IsLawful, wins, times_won, words_at, total_counted}
 use Rattle.sqz_marks.proofs.TimesLemmas.{times-same, times-other, times-either}
 use Rattle.sqz_marks.proofs.ViewLemmas.{KnowsTruth-spent}
-use Rattle.sqz_marks.proofs.EventLemmas.{IsLawful-look, IsLawful-claim, IsLawful-count, IsLawful-blacken, IsLawful-split, IsLawful-join}
+use Rattle.sqz_marks.proofs.EventLemmas.{IsLawful-look, IsLawful-claim, IsLawful-count, IsLawful-blacken}
+use Rattle.sqz_marks.proofs.EventLemmas.{IsLawful-split, IsLawful-join}
 
 -- where nothing was counted
 abbrev nothing : ℕ → List ℕ
@@ -46,13 +49,12 @@ module _ (marking : Marking) where
         sums =
             record {
               sized =
-                  length-set (replicate marking.regions 0) at (get_or (replicate marking.regions 0) at 0 + marking.words start)
-                  ∙ length-replicate {A = ℕ} marking.regions 0;
+                  length-set (nothing marking.regions) at first_number ∙ length-replicate {A = ℕ} marking.regions 0;
               each = λ region lt. elim (cases_eq region at) [
                 | inl same ↦ subst (λ (r : ℕ). get_or sums r 0 ≡ total_counted marking views r) (sym same)
                     (here (subst (λ (r : ℕ). r < marking.regions) same lt))
                 | inr differs ↦
-                    (let other = get_or-set_other (replicate marking.regions 0) at region (get_or (replicate marking.regions 0) at 0 + marking.words start) 0 differs in
+                    (let other = get_or-set_other (nothing marking.regions) at region first_number 0 differs in
                     omega (arith, other, none_at marking.regions region, one region, words_at-other region differs))
               ];
             };
@@ -76,7 +78,11 @@ module _ (marking : Marking) where
         at = marking.region start
 
         sums : List ℕ
-        sums = grown (replicate marking.regions 0) at (marking.words start)
+        sums = grown (nothing marking.regions) at (marking.words start)
+
+        -- the number of the start's region
+        first_number : ℕ
+        first_number = get_or (nothing marking.regions) at 0 + marking.words start
 
         one : (region : ℕ) → total_counted marking views region ≡ words_at marking region start
         one region = omega arith
@@ -89,7 +95,7 @@ module _ (marking : Marking) where
 
         here : at < marking.regions → get_or sums at 0 ≡ total_counted marking views at
         here lt =
-            let set = get_or-set_same (replicate marking.regions 0) at (get_or (replicate marking.regions 0) at 0 + marking.words start) 0
+            let set = get_or-set_same (nothing marking.regions) at first_number 0
             (omega (arith, lt, length-replicate {A = ℕ} marking.regions 0)) in
             omega (arith, set, none_at marking.regions at, one at, words_at-same)
 

@@ -1,4 +1,5 @@
 -- What passes know stays so as objects get darker, and what a step tells them is so.
+-- Serves `EventLemmas` and `RunLemmas`.
 use Rattle.std.proofs.Common.{◌≡◌, ℕ, zero, suc, ◌<◌, ◌≤◌, true, List, ◌∷◌, refl, sym, subst, arith, inl, inr}
 use Rattle.std.proofs.lemmas.Bool.{cases_eq}
 use Rattle.sqz_trace.specs.declared.shades.Shade.{Shade}
@@ -108,7 +109,8 @@ module _ (shades : List Shade) where
         }
 
     -- it knows a black object
-    pub KnowsTruth-blackened : (object : ℕ) → 1 ≤ view.weight → shade_at shades object ≡ Black → KnowsTruth shades (blackened object view)
+    pub KnowsTruth-blackened : (object : ℕ) → 1 ≤ view.weight → shade_at shades object ≡ Black
+        → KnowsTruth shades (blackened object view)
     KnowsTruth-blackened object weight black =
         record {
           won = truth.won;

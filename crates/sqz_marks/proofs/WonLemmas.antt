@@ -1,5 +1,7 @@
 -- How many objects were won, where each marked object was won once.
-use Rattle.std.proofs.Common.{◌≡◌, ℕ, Bool, true, false, zero, suc, ◌+◌, ◌≤◌, cond, List, [], ◌∷◌, length, take, refl, sym, ap, subst, ◌∙◌, arith}
+-- Serves `KeptLemmas`; `stealing::mark` of `sqz_workers`.
+use Rattle.std.proofs.Common.{◌≡◌, ℕ, Bool, true, false, zero, suc, ◌+◌, ◌≤◌, cond, List, [], ◌∷◌, length, take, refl}
+use Rattle.std.proofs.Common.{sym, ap, subst, ◌∙◌, arith}
 use Rattle.std.specs.Prelude.{count_by}
 use Rattle.std.specs.List.{sum_by}
 use Rattle.std.proofs.lemmas.List.{take_all, get_or_past}
@@ -25,7 +27,8 @@ upto-wins : (shades : List Shade) (count : ℕ) → count ≤ length shades
 upto-wins shades zero le = refl
 upto-wins shades (suc count) le =
     let next : count + 1 ≡ suc count = omega arith in
-    let same : sum_by wins (take (count + 1) shades) ≡ sum_by wins (take (suc count) shades) = ap (λ n. sum_by wins (take n shades)) next in
+    let same : sum_by wins (take (count + 1) shades) ≡ sum_by wins (take (suc count) shades) =
+    ap (λ n. sum_by wins (take n shades)) next in
     omega (arith, upto-wins shades count (omega arith), sum_by_more wins shades count White (omega arith), same)
 
 pub wins-mark : (shade : Shade) → wins shade ≡ cond (has_mark shade) 1 0

@@ -1,6 +1,7 @@
 use Rattle.std.proofs.Common.{◌≡◌, ◌<◌, ◌≤◌, length, get_or, map, take, set, sym, ap, subst, ◌∙◌, arith, inl, inr}
 use Rattle.std.proofs.lemmas.Bool.{cases_eq}
-use Rattle.std.proofs.lemmas.List.{ext_get_or, get_or-map, get_or-set_same, get_or-set_other, get_or-take, length-map, length-set, length-take-le}
+use Rattle.std.proofs.lemmas.List.{ext_get_or, get_or-map, get_or-set_same, get_or-set_other, get_or-take, length-map}
+use Rattle.std.proofs.lemmas.List.{length-set, length-take-le}
 use Rattle.std.specs.Slots.{slots_items, slots_counts}
 use Rattle.sqz_trace.specs.declared.shades.Shade.TheVariants.{White}
 use Rattle.sqz_marks.specs.Table.{shade_of}

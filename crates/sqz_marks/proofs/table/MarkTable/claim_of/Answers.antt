@@ -10,7 +10,7 @@ fetch_max-requires c =
     let marks = c.self.inside in let shared = marks.table.shared in let pass = c.pass.inside in
     let same = c.self.invariant.0 ∙ ap (λ (m : SharedMarks). m.heap.memory) c.self.view_is in
     claim_owes c.args.self.now c.args.pass.now c.requires.of shared.table_id shared.key.0.value marks.regions.now shared.key.1
-    marks.weak shared.key.2 marks.workers pass.workers c.self.view_is c.self.invariant.1 c.self.invariant.2 c.self.invariant.4 pass.seat.table_id pass.seat.id pass.seat.me
-    c.pass.view_is c.args.parent.now c.args.slot c.in-Some.object c.requires.seen
+    marks.weak shared.key.2 marks.workers pass.workers c.self.view_is c.self.invariant.1 c.self.invariant.2 c.self.invariant.4
+    pass.seat.table_id pass.seat.id pass.seat.me c.pass.view_is c.args.parent.now c.args.slot c.in-Some.object c.requires.seen
     (subst (λ (memory : Memory). strong_named memory c.args.parent.now c.args.slot ≡ Some c.in-Some.object) same
     (sym c.target.ensures.named ∙ c.in-Some.is))

@@ -8,10 +8,15 @@ use Rattle.sqz_marks.proofs.table.MarkTable.grow.Goals as goal
 
 pub fetch_add-requires : goal.fetch_add-requires
 fetch_add-requires g c =
-    let marks = c.self.inside in let shared = marks.table.shared in let seat = c.args.seat.now in let self = c.args.self.now.heap in
+    let marks = c.self.inside in
+    let shared = marks.table.shared in
+    let seat = c.args.seat.now in
+    let self = c.args.self.now.heap in
     let is_heap = ap (λ (m : SharedMarks). m.heap) c.self.view_is in
-    let count = c.len.ensures.objects ∙ ap object_count (c.self.invariant.0 ∙ ap (λ (m : SharedMarks). m.heap.memory) c.self.view_is) in
-    count_owes shared.table_id shared.key.0.value marks.regions.now self shared.key.1 shared.key.2 c.self.invariant.1 is_heap c.self.invariant.4 seat.table_id
+    let memory = c.self.invariant.0 ∙ ap (λ (m : SharedMarks). m.heap.memory) c.self.view_is in
+    let count = c.len.ensures.objects ∙ ap object_count memory in
+    count_owes shared.table_id shared.key.0.value marks.regions.now self shared.key.1 shared.key.2 c.self.invariant.1 is_heap
+    c.self.invariant.4 seat.table_id
     (c.requires.of ∙ sym (ap (λ (m : SharedMarks). m.table) c.self.view_is)) seat.id seat.me g.O.CountedObject.object c.args.region
     _ _ (ap (λ n. n + c.args.region) count)
     (subst (λ o. c.args.region ≡ region_at self.cut self.memory o) c.requires.object c.requires.region) c.requires.inside

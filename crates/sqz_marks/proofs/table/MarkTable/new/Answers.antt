@@ -22,10 +22,12 @@ of_words-requires c =
     c.region.ensures.region ∙ (λ k. region_at (is_key k).cut (is_key k).memory (start k)) in
     let long : c.from.result ≡ length (chunk_words key.memory (start_of key.memory)) =
     c.from.ensures ∙ c.chunk_length.ensures.length ∙ (λ k. length (chunk_words (heap k) (start k))) in
+    let zeros = c.in_ok-words.ensures.items_if_clones_equal (λ word same. same) in
     IsKept-opening key c.args.weak c.args.workers c.deref.result.now (found ∙ ap Some start)
     (subst (λ n. 1 ≤ n) c.number-weight.ensures.number c.number-weight.ensures.some)
     (subst (λ n. n ≤ 64) c.number-weight.ensures.number c.number-weight.ensures.few)
-    (HasFewWords-heap key c.args.weak c.args.workers (subst (λ (m : Memory). length (concat m.chunks) < 2 ^ 30) heap c.heap_bounds.ensures.words))
+    (HasFewWords-heap key c.args.weak c.args.workers
+    (subst (λ (m : Memory). length (concat m.chunks) < 2 ^ 30) heap c.heap_bounds.ensures.words))
     (c.deref.ensures.value
-    ∙ (λ k. set (set (c.in_ok-words.ensures.items_if_clones_equal (λ word same. same) k) special 1) (c.len-objects.result + c.region.result) c.from.result)
+    ∙ (λ k. set (set (zeros k) special 1) (c.len-objects.result + c.region.result) c.from.result)
     ∙ (λ k. set (set (replicate (count k + regions k) 0) (start k) 1) (count k + region k) (long k)))
