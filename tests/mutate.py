@@ -23,14 +23,12 @@ import subprocess
 import sys
 import tempfile
 
-ROOT = os.path.dirname(os.path.dirname(os.path.realpath(__file__)))
-IMAGES = os.path.join(ROOT, "images")
-PROGRAM = os.path.join(ROOT, "crates", "sqzcompact", "out", "sqzcompact")
+from common import IMAGES, OLD, PROGRAM, Tests, read, write
+
 # What a run may take: seconds, and bytes of address space.
 SECONDS = 20
 MEMORY = 2 << 30
 FAULT = re.compile(rb"fault ([1-9]|1[0-4]|2[01]): [^\n]+\n\Z")
-OLD = b"as it was\n"
 # Numbers at which a test of a word may turn.
 LIMITS = (0, 1, 2, 3, 4, 60, 63, 64, 65, 68, 6502, 6504, 0x7FFFFFFC, 0x80000000, 0xFFFFFFE8, 0xFFFFFFFC, 0xFFFFFFFF)
 WORD = 4
@@ -136,16 +134,6 @@ def run(words):
         return None
 
 
-def read(path):
-    with open(path, "rb") as file:
-        return file.read()
-
-
-def write(path, data):
-    with open(path, "wb") as file:
-        file.write(data)
-
-
 def what_is_wrong(folder, file, weak, others):
     """What is wrong with a run over a file; None where nothing is."""
     source, answer, again = (os.path.join(folder, name) for name in ("in", "out", "again"))
@@ -175,25 +163,22 @@ def main():
     generator = random.Random(options.seed)
     names = sorted(name for name in os.listdir(IMAGES) if name.endswith(".image"))
     images = [read(os.path.join(IMAGES, name)) for name in names]
-    passed = failed = accepted = 0
+    accepted = 0
+    tests = Tests()
     with tempfile.TemporaryDirectory() as folder:
         for number in range(options.count):
             index = generator.randrange(len(images))
             file = broken(generator, images[index])
             weak, others = random_options(generator)
             wrong = what_is_wrong(folder, file, weak, others)
+            tests.add(f"file {number} of {names[index]} with {' '.join([*weak, *others])} {wrong}", wrong is None)
             if wrong is None:
-                passed += 1
                 accepted += read(os.path.join(folder, "out")) != OLD
-                continue
-            failed += 1
-            print(f"failed: file {number} of {names[index]} with {' '.join([*weak, *others])} {wrong}")
-            if options.keep:
+            elif options.keep:
                 os.makedirs(options.keep, exist_ok=True)
                 shutil.copy(os.path.join(folder, "in"), os.path.join(options.keep, f"{number}.image"))
     print(f"{accepted} of the files were accepted", file=sys.stderr)
-    print(f"{passed} passed, {failed} failed")
-    return 1 if failed else 0
+    return tests.end()
 
 
 if __name__ == "__main__":

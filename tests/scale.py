@@ -19,8 +19,8 @@ import sys
 import tempfile
 import time
 
-ROOT = os.path.dirname(os.path.dirname(os.path.realpath(__file__)))
-PROGRAM = os.path.join(ROOT, "crates", "sqzcompact", "out", "sqzcompact")
+from common import PROGRAM, ROOT, Tests
+
 GIB = 1 << 30
 # The size of the data and the base, in bytes: together 2^32 at most.
 IMAGES = ((GIB, 0), (GIB, 3 * GIB), (4 * GIB - 4, 0), (4 * GIB - 4, 4))
@@ -52,7 +52,7 @@ def main():
     parser.add_argument("--folder")
     parser.add_argument("--workers", type=int, default=4)
     options = parser.parse_args()
-    passed = failed = 0
+    tests = Tests()
     with tempfile.TemporaryDirectory(dir=options.folder) as folder:
         maker, image, answer = (os.path.join(folder, name) for name in ("make_large", "image", "answer"))
         subprocess.run(["cc", "-O2", "-o", maker, os.path.join(ROOT, "tests", "make_large.c")], check=True)
@@ -60,13 +60,8 @@ def main():
             subprocess.run([maker, str(size), str(base), image, answer], check=True)
             for source in (image, answer):
                 what = f"{size / GIB:.1f} GiB at {base:08x}{'' if source == image else ' again'}"
-                if compacts(what, source, answer, options.workers):
-                    passed += 1
-                else:
-                    failed += 1
-                    print(f"failed: {what}")
-    print(f"{passed} passed, {failed} failed")
-    return 1 if failed else 0
+                tests.add(what, compacts(what, source, answer, options.workers))
+    return tests.end()
 
 
 if __name__ == "__main__":
