@@ -79,7 +79,8 @@ pub sound_header : (bytes : List ℕ) (order : Order)
     → header_bytes_fault bytes ≡ None → order_of bytes ≡ Some order → IsSoundHeader (header_of order bytes) (length bytes)
 sound_header bytes order sound is =
     IsSoundHeader-from_no_fault (header_of order bytes) (length bytes)
-    (in_order_parts bytes (order_of bytes) order is (long_enough (ltb (length bytes) header_size) (fault_in_order (order_of bytes) bytes) sound))
+    (in_order_parts bytes (order_of bytes) order is
+    (long_enough (ltb (length bytes) header_size) (fault_in_order (order_of bytes) bytes) sound))
 
 -- bytes at the front are bytes
 pub front_fits : (bytes : List ℕ) (count : ℕ) → ((i : ℕ) → slice_index bytes i < 256) → (i : ℕ) → slice_index (take count bytes) i < 256

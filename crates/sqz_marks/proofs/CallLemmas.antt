@@ -1,5 +1,5 @@
 -- What the calls on the mark table owe at their steps, from what contracts see of the table and of the pass.
--- Serves functions of `table::MarkTable`.
+-- Serves `table::MarkTable::blacken`, `::claim_of`, `::grow`, `::join_into`, `::look` and `::part`.
 use Rattle.std.proofs.Common.{◌≡◌, ℕ, ◌+◌, ◌%◌, ◌^◌, ◌<◌, ◌≤◌, max, [], length, sym, ap, subst, ◌∙◌, arith}
 use mathlib.Core.Option.{none}
 use Rattle.std.specs.Prelude.{Some}

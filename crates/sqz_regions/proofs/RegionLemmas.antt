@@ -1,6 +1,6 @@
 -- Regions along the objects: they never fall, and so the objects of each stand together.
--- Serves `regions::end_of`, functions of `regions::Regions`, `sums::live_words`, `EntryLemmas` and `RisingLemmas`;
--- `moved_objects::piece_of` and `PieceLemmas` of `sqz_slide`.
+-- Serves `regions::end_of`, `regions::Regions::before`, `::count`, `::objects`, `::of`, `::region`, `sums::live_words`,
+-- `EntryLemmas` and `RisingLemmas`; `moved_objects::piece_of` and `PieceLemmas` of `sqz_slide`.
 use Rattle.std.proofs.Common.{◌≡◌, ℕ, zero, suc, ◌+◌, ◌-◌, ◌/◌, ◌<◌, ◌≤◌, Bool, true, false, cond, List, [], ◌∷◌, ◌++◌}
 use Rattle.std.proofs.Common.{map, length, get_or, refl, sym, ap, subst, ◌∙◌, ◌↔◌, leb, arith, inl, inr}
 use Rattle.std.specs.List.{concat}

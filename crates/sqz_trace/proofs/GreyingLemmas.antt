@@ -16,7 +16,8 @@ use Rattle.sqz_trace.specs.Shades.{shade_at, marks_of}
 use Rattle.sqz_trace.specs.Targets.{named_in, IsTargetBelow}
 use Rattle.sqz_trace.specs.Greying.{Greys, Blackens, BecameGrey, IsLowest}
 use Rattle.sqz_trace.proofs.ShadeLemmas.{white-grey, marked-by, marked-same}
-use Rattle.sqz_trace.proofs.TargetLemmas.{IsTargetOf, IsTargetBelow-next, IsTargetBelow-more, IsTargetBelow-field, IsTargetBelow-none}
+use Rattle.sqz_trace.proofs.TargetLemmas.{IsTargetOf, IsTargetBelow-next, IsTargetBelow-more, IsTargetBelow-field}
+use Rattle.sqz_trace.proofs.TargetLemmas.{IsTargetBelow-none}
 use Rattle.sqz_trace.proofs.TargetLemmas.{IsTargetBelow-edge, HasEdge-below}
 
 -- ---- targets that become grey

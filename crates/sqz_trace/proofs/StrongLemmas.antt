@@ -1,6 +1,7 @@
 -- The strong fields of an object, by its class word alone and by its class.
 -- Serves `CopyLemmas`; `MovedLemmas` and `MovedShapeLemmas` of `sqz_slide`; `GroupLemmas` of `sqz_census`.
-use Rattle.std.proofs.Common.{◌≡◌, ℕ, ◌≤◌, Bool, true, false, cond, List, length, Option, Some, None, refl, ap, subst, sym, ◌∙◌, arith, inl, inr}
+use Rattle.std.proofs.Common.{◌≡◌, ℕ, ◌≤◌, Bool, true, false, cond, List, length, Option, Some, None, refl, ap, subst}
+use Rattle.std.proofs.Common.{sym, ◌∙◌, arith, inl, inr}
 use Rattle.std.proofs.lemmas.Bool.{cases_lt, lt-ltb, le-ltb}
 use Rattle.std.specs.Prelude.{option_map, option_and_then}
 use Rattle.sqz_object.specs.declared.chunk.Kind.{Kind}
@@ -70,6 +71,7 @@ pub strong_inside : (memory : Memory) (weak : Weak) (chunk : List ℕ) → stron
 strong_inside memory weak chunk =
     by_test (is_weak weak chunk) (length (fields chunk)) (fixed_by memory (class_of memory weak chunk)) (traced_inside chunk)
   where
-    by_test : (test : Bool) (count : ℕ) (stated : Option ℕ) {other : ℕ} → other ≤ count → cond test (unless_above count stated) other ≤ count
+    by_test : (test : Bool) (count : ℕ) (stated : Option ℕ) {other : ℕ} → other ≤ count
+        → cond test (unless_above count stated) other ≤ count
     by_test true count stated le = unless_above-le count stated
     by_test false count stated le = le

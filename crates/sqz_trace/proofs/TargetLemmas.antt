@@ -1,7 +1,8 @@
 -- The slots of an object, one after the other, and what they name.
 -- Serves `GreyingLemmas`, `NamedLemmas` and `StrongLemmas`; `CallLemmas` of `sqz_marks`; `claiming::mark_slots` and
 -- `GainLemmas` of `sqz_workers`; `targets::mark_targets` of `sqz_test_marks`.
-use Rattle.std.proofs.Common.{◌≡◌, ◌⊎◌, ℕ, ◌+◌, ◌<◌, ◌≤◌, cond, List, slice_index, ltb, Some, None, sym, ap, subst, ◌∙◌, arith, inl, inr}
+use Rattle.std.proofs.Common.{◌≡◌, ◌⊎◌, ℕ, ◌+◌, ◌<◌, ◌≤◌, cond, List, slice_index, ltb, Some, None, sym, ap, subst, ◌∙◌}
+use Rattle.std.proofs.Common.{arith, inl, inr}
 use Rattle.std.specs.Prelude.{option_and_then}
 use Rattle.std.proofs.lemmas.Bool.{cases_lt, lt-ltb, ltb-true}
 use Rattle.std.proofs.lemmas.Option.{cond_some, option_and_then_some}

@@ -21,9 +21,11 @@ words_are c =
     c.in_ok-words.ensures
     ∙ ap (λ (bytes : List ℕ). words_of header.header.order (take (data_size header.header.words) bytes))
     (take_rest c.split_at.result.1.now header_size)
-    ∙ data_is c.split_at.result.1.now header.header.words header.header.order header.ensures.sound header.ensures.order header.ensures.words
+    ∙ data_is c.split_at.result.1.now header.header.words header.header.order
+    header.ensures.sound header.ensures.order header.ensures.words
 
-bounds : (c : In_ok-words) → HasBounds (data_of c.in_ok-header.header.order c.split_at.result.1.now) (base_address c.in_ok-header.header.words)
+bounds : (c : In_ok-words)
+    → HasBounds (data_of c.in_ok-header.header.order c.split_at.result.1.now) (base_address c.in_ok-header.header.words)
 bounds c =
     let header = c.in_ok-header in
     data_bounds c.split_at.result.1.now header.header.words header.header.order header.ensures.sound header.ensures.order

@@ -11,7 +11,8 @@ returns-in_err-send-clause-stopped g c =
     let p = err_from_is_err_and c.from_residual.result c.from_residual.ensures.1 in
     let words = spelling_of c.args.order (c.args.header.now ++ words_in c.args.pieces.now) in
     let start = IsSending-none (g.W.Sink.state c.args.sink.now) (c.args.prefix.now ++ words) turn_limit (omega arith) in
-    rw (p.1, p.2) (WriteStops-sent _ _ _ _ (SendStops-more _ _ _ _ _ _ start _ c.args.prefix.now words refl _ c.in_err-send.ensures.stopped))
+    rw (p.1, p.2)
+    (WriteStops-sent _ _ _ _ (SendStops-more _ _ _ _ _ _ start _ c.args.prefix.now words refl _ c.in_err-send.ensures.stopped))
 
 pub returns-in_err-send_words-clause-stopped : goal.returns-in_err-send_words-clause-stopped
 returns-in_err-send_words-clause-stopped g c =

@@ -10,7 +10,8 @@ pub returns-then-is_some : goal.returns-then-is_some
 returns-then-is_some c =
     let memory = c.args.heap.now in
     let reported =
-    defect_at-marked memory c.args.weak c.args.marks.now c.loop-object.object (sym c.has.ensures ∙ c.if-has.true) ∙ sym c.defect-found.ensures in
+    defect_at-marked memory c.args.weak c.args.marks.now c.loop-object.object (sym c.has.ensures ∙ c.if-has.true)
+    ∙ sym c.defect-found.ensures in
     let found = ap is_some reported ∙ sym c.is_some.ensures ∙ c.if-is_some.true in
     sym
     (c.loop-object.invariant

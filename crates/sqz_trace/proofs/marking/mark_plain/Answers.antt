@@ -19,7 +19,8 @@ loop-object-init c start is_special =
 
 pub mark_targets-requires-clause-object : goal.mark_targets-requires-clause-object
 mark_targets-requires-clause-object c =
-    IsMarking-inside (graph_from c.special.result c.args.heap.now c.args.weak) (marks_of c.loop-object.shades.items) c.loop-object.worklist.items
+    IsMarking-inside (graph_from c.special.result c.args.heap.now c.args.weak)
+    (marks_of c.loop-object.shades.items) c.loop-object.worklist.items
     c.in-Some.object (c.loop-object.invariant c.special.result c.special.ensures.special)
     (rw c.in-Some.ensures.items (Contains-push c.pop.new.self.items c.in-Some.object))
 
