@@ -1,4 +1,5 @@
 -- The census, from the shares of groups and their rows.
+-- Serves `rows::census`.
 use Rattle.std.proofs.Common.{◌≡◌, ℕ, zero, suc, ◌+◌, ◌-◌, ◌*◌, ◌<◌, ◌≤◌, Bool, true, List, [], ◌∷◌, map, length, get_or}
 use Rattle.std.proofs.Common.{Option, Some, None, refl, sym, ap, subst, ◌∙◌, arith, inl, inr}
 use Rattle.std.specs.List.{All, Contains}
@@ -60,7 +61,8 @@ module _ (memory : Memory) (marks : List Bool) where
 
 module _ (memory : Memory) (weak : Weak) (marks : List Bool) (places : List (Option ℕ)) (entries : List Entry)
     (tallies : List Tally) (shares : List Share) (kept : AreEntries memory weak marks entries)
-    (counted : AreTallies memory weak marks tallies) (in_order : AreSharesInOrder tallies shares) (reach : IsReachability memory weak marks)
+    (counted : AreTallies memory weak marks tallies) (in_order : AreSharesInOrder tallies shares)
+    (reach : IsReachability memory weak marks)
     (placed : ArePlacesOf memory marks places) where
   -- the group of a share
   abbrev group_of_share : Share → Group

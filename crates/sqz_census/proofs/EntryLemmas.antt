@@ -1,4 +1,5 @@
 -- The entries of all objects, from those of one after the other.
+-- Serves `entries::entries_of`.
 use Rattle.std.proofs.Common.{◌≡◌, ℕ, zero, suc, ◌+◌, ◌<◌, Bool, List, [], ◌∷◌, length, get_or, refl, ap, subst, ◌∙◌, arith}
 use Rattle.std.specs.List.{AllZip, range_with_len}
 use Rattle.sqz_image.specs.Objects.{Memory, object_count}

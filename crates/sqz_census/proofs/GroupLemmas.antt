@@ -1,4 +1,5 @@
 -- Groups, their keys, and the objects that they have.
+-- Serves `CensusLemmas`, `SumLemmas` and `TallyLemmas`.
 use Rattle.std.proofs.Common.{◌≡◌, ℕ, zero, suc, ◌+◌, ◌-◌, ◌<◌, ◌≤◌, Bool, true, false, List, [], ◌∷◌}
 use Rattle.std.proofs.Common.{filter, length, get_or, Option, Some, None, refl, sym, ap, subst, ◌∙◌, arith, inl, inr}
 use Rattle.std.specs.Prelude.{option_and_then}
@@ -130,31 +131,39 @@ some_marked p (true ∷ marks) (x ∷ xs) d lt =
       | inl passes ↦ (0, omega arith, refl, passes)
       | inr fails ↦
           let fewer : 0 < length (filter p (marked marks xs)) = rw fails at lt in
-          let rest = some_marked p marks xs d fewer in (suc rest.0, omega (arith, rest.1), rest.2, rest.3)
+          let (index, inside, alive, passes) = some_marked p marks xs d fewer in (suc index, omega arith, alive, passes)
     ]
 some_marked p (false ∷ marks) (x ∷ xs) d lt =
-    let rest = some_marked p marks xs d lt in (suc rest.0, omega (arith, rest.1), rest.2, rest.3)
+    let (index, inside, alive, passes) = some_marked p marks xs d lt in (suc index, omega arith, alive, passes)
 
 abbrev pub no_object : Object
 no_object = record { first = 0; chunk = [] }
 
 module _ (memory : Memory) (weak : Weak) (marks : List Bool) (group : Group) (some : 0 < length (members memory weak marks group)) where
-  -- a group that has a member has one with an index
-  abbrev IsMember : ℕ → Type 0
-  IsMember index =
-      (index < object_count memory) × (is_marked marks index ≡ true)
-      × (group_of memory weak (chunk_words memory index) ≡ group)
+  -- a live object of the group
+  record HasMember : Type 0 where
+    index : ℕ
+    inside : index < object_count memory
+    alive : is_marked marks index ≡ true
+    its : group_of memory weak (chunk_words memory index) ≡ group
 
-  pub some_member : (index : ℕ) × IsMember index
+  -- a group that has a member has one with an index
+  some_member : HasMember
   some_member =
-      let found = some_marked (λ object. is_same group (group_of memory weak object.chunk)) marks (objects memory) no_object some in
-      (found.0, (found.1, found.2, sym (is_same-equal group (group_of memory weak (chunk_words memory found.0)) found.3)))
+      let (index, inside, alive, same) =
+      some_marked (λ object. is_same group (group_of memory weak object.chunk)) marks (objects memory) no_object some in
+      record {
+        index = index;
+        inside = inside;
+        alive = alive;
+        its = sym (is_same-equal group (group_of memory weak (chunk_words memory index)) same);
+      }
 
   -- and so some object may be in it
   pub member-inside : IsInside (object_count memory) group
   member-inside =
-      let found = some_member in
-      subst (IsInside (object_count memory)) found.1.2 (group_of-inside memory weak (chunk_words memory found.0))
+      let member = some_member in
+      subst (IsInside (object_count memory)) member.its (group_of-inside memory weak (chunk_words memory member.index))
 
 -- ---- the class of a live object is live
 
@@ -208,8 +217,8 @@ module _ (memory : Memory) (weak : Weak) (marks : List Bool) (reach : IsReachabi
   -- the class of a group that has a member is marked
   pub class_of_group-marked : (class : ℕ) → 0 < length (members memory weak marks (Class class)) → is_marked marks class ≡ true
   class_of_group-marked class some =
-      let found = some_member memory weak marks (Class class) some in
-      by_class found.0 found.1.0 found.1.1 (class_of memory weak (chunk_words memory found.0)) refl found.1.2
+      let member = some_member memory weak marks (Class class) some in
+      by_class member.index member.inside member.alive (class_of memory weak (chunk_words memory member.index)) refl member.its
     where
       by_class : (index : ℕ) → index < object_count memory → is_marked marks index ≡ true
           → (its : Option ℕ) → class_of memory weak (chunk_words memory index) ≡ its

@@ -1,4 +1,5 @@
 -- The sums of a census: each live object is counted in one group.
+-- Serves `laws::census_sums`.
 use Rattle.std.proofs.Common.{◌≡◌, ◌⊎◌, ℕ, ◌+◌, ◌*◌, ◌<◌, Bool, true, cond, List, [], ◌∷◌, map, length}
 use Rattle.std.proofs.Common.{filter, refl, sym, ap, subst, ◌∙◌, inl, inr, arith}
 use Rattle.std.specs.List.{Contains, sum_by}

@@ -1,4 +1,5 @@
 -- Tallies, as objects are counted one after the other.
+-- Serves `tallies::tallies_of`.
 use Rattle.std.proofs.Common.{◌≡◌, ℕ, ◌+◌, ◌^◌, ◌<◌, ◌≤◌, Bool, true, false, cond, List, [], ◌∷◌, ◌++◌, filter}
 use Rattle.std.proofs.Common.{length, get_or, take}
 use Rattle.std.proofs.Common.{refl, sym, ap, subst, ◌∙◌, arith, inl, inr, set, replicate, append-nil}

@@ -1,4 +1,5 @@
 -- What the holes of a format write.
+-- Serves `printing::columns` and `printing::place_text`.
 use Rattle.std.proofs.Common.{◌≡◌, ℕ, zero, suc, ◌-◌, ◌^◌, false, List, [], ◌∷◌, ◌++◌, length, replicate, refl, ap}
 use Rattle.std.proofs.Common.{arith, append-nil, append_assoc, codes}
 use Rattle.std.specs.Fmt.{padded_integral, format_spec, char_count, decimal}

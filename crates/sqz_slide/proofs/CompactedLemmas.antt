@@ -1,11 +1,13 @@
 -- The live objects in their new places: each is an object of the compacted memory, and is found at its place.
+-- Serves `CopiedLemmas` and `WordLemmas`; `CorrespondenceLemmas` and `SettledLemmas` of `sqz_tool`.
 use Rattle.std.proofs.Common.{◌≡◌, ℕ, ◌+◌, ◌*◌, ◌%◌, ◌<◌, Bool, true, false, List, [], ◌∷◌, length, map, take, cond}
 use Rattle.std.proofs.Common.{slice_index_or, Some, refl, ap, subst, ◌∙◌, arith}
 use Rattle.std.specs.List.{concat, AllByRecursion}
 use Rattle.std.proofs.ByRecursion.{All-append, All-map, All-take, All-weaker}
 use Rattle.std.proofs.lemmas.List.{get_or-map, take-map, length-map}
 use Rattle.sqz_object.specs.Chunk.{IsChunk, before, is_object}
-use Rattle.sqz_image.specs.Objects.{Memory, Object, moved_on, objects_of, objects, object_count, object_at, chunk_words, address_of, find}
+use Rattle.sqz_image.specs.Objects.{Memory, Object, moved_on, objects_of, objects, object_count, object_at, chunk_words}
+use Rattle.sqz_image.specs.Objects.{address_of, find}
 use Rattle.sqz_image.proofs.ObjectLemmas.{objects_keep, All_at}
 use Rattle.sqz_image.proofs.FoundLemmas.{find-address, objects_of-all, object-all}
 use Rattle.sqz_trace.specs.declared.weak.Weak.{Weak}
@@ -24,7 +26,8 @@ no_object = record { first = 0; chunk = [] }
 -- ---- what holds of all
 
 -- both hold of each
-pub All-both : {X : Type 0} (P Q : X → Type 0) (xs : List X) → AllByRecursion P xs → AllByRecursion Q xs → AllByRecursion (λ x. P x × Q x) xs
+pub All-both : {X : Type 0} (P Q : X → Type 0) (xs : List X)
+    → AllByRecursion P xs → AllByRecursion Q xs → AllByRecursion (λ x. P x × Q x) xs
 All-both P Q [] p q = tt
 All-both P Q (x ∷ xs) p q = ((p.0, q.0), All-both P Q xs p.1 q.1)
 
@@ -98,7 +101,8 @@ module _ (memory : Memory) (weak : Weak) (marks : List Bool) (aligned : memory.b
     inside_memory = omega (arith, marked_inside marks i m, sized)
 
     pub chunk_is : IsChunk (chunk_words memory i)
-    chunk_is = All_at (λ object. IsChunk object.chunk) (objects memory) i no_object inside_memory (objects_keep IsChunk memory.chunks chunks)
+    chunk_is =
+        All_at (λ object. IsChunk object.chunk) (objects memory) i no_object inside_memory (objects_keep IsChunk memory.chunks chunks)
 
     inside_live : new_index i < length (live memory marks)
     inside_live = marked-inside marks (objects memory) i inside_memory m

@@ -1,5 +1,7 @@
 -- The compacted memory is a copy of the live objects: its slots name the copies of what the objects' slots named.
-use Rattle.std.proofs.Common.{◌≡◌, ℕ, ◌%◌, Bool, true, false, cond, eqb, List, [], length, Option, Some, None, refl, sym, ap, subst, ◌∙◌}
+-- Serves `CorrespondenceLemmas` and `SettledLemmas` of `sqz_tool`.
+use Rattle.std.proofs.Common.{◌≡◌, ℕ, ◌%◌, Bool, true, false, cond, eqb, List, [], length, Option, Some, None, refl}
+use Rattle.std.proofs.Common.{sym, ap, subst, ◌∙◌}
 use Rattle.std.proofs.Common.{arith, inl, inr}
 use Rattle.std.specs.Prelude.{unwrap_or, option_and_then}
 use Rattle.std.specs.Option.{is_none}
@@ -47,7 +49,8 @@ unnamed_value memory copy (Odd word) none good = absurd (false≢true (sym good)
 
 module _ (memory : Memory) (marks : List Bool) (word : ℕ) where
   -- a word that names a marked object becomes its place
-  moved_field-marked : (t : ℕ) → named_by memory word ≡ Some t → is_marked marks t ≡ true → moved_field memory marks word ≡ place memory marks t
+  moved_field-marked : (t : ℕ) → named_by memory word ≡ Some t → is_marked marks t ≡ true
+      → moved_field memory marks word ≡ place memory marks t
   moved_field-marked t names m =
       ap (new_address memory marks word) names ∙ ap (λ (test : Bool). cond test (place memory marks t) word) m
 
@@ -165,7 +168,8 @@ module _ (memory : Memory) (weak : Weak) (marks : List Bool) (aligned : memory.b
                 → (other : ℕ) × (target copy (new i) slot ≡ Some other)
             by_word None e names = absurd (none-some t names)
             by_word (Some word) e names =
-                elim (slot_word-moved memory weak marks aligned (words i) (chunk_is memory weak marks aligned chunks sized i m) slot word e) [
+                let is_chunk = chunk_is memory weak marks aligned chunks sized i m in
+                elim (slot_word-moved memory weak marks aligned (words i) is_chunk slot word e) [
                   | inl h ↦ absurd (not_strong (ap (option_and_then (named_by memory)) h.1 ∙ names))
                   | inr h ↦ (
                     new n,

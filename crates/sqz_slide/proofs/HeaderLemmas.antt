@@ -1,4 +1,5 @@
 -- What an object's header becomes as it moves.
+-- Serves `moved_objects::push_header`, `LengthLemmas`, `MovedLemmas` and `MovedShapeLemmas`.
 use Rattle.std.proofs.Common.{◌≡◌, ℕ, ◌+◌, ◌<◌, Bool, List, [], ◌∷◌, length, slice_index}
 use Rattle.std.proofs.Common.{refl, sym, ap, subst, ◌∙◌, arith}
 use Rattle.sqz_object.specs.declared.chunk.Kind.{Kind}

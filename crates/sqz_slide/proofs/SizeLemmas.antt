@@ -1,4 +1,5 @@
 -- The live words between two objects, of which some are not live.
+-- Serves `piece_sizes::piece_size`.
 use Rattle.std.proofs.Common.{◌≡◌, ℕ, zero, suc, ◌+◌, ◌-◌, ◌<◌, ◌≤◌, Bool, true, false, List, Option, None, is_some}
 use Rattle.std.proofs.Common.{slice_index_or, refl, ap, ◌∙◌, arith}
 use Rattle.sqz_image.specs.Objects.{Memory, object_count}

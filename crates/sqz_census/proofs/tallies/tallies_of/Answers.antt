@@ -1,13 +1,13 @@
-use Rattle.std.proofs.Common.{◌<◌, arith}
+use Rattle.std.proofs.Common.{◌+◌, ◌^◌, ◌<◌, get_or, arith}
 use Rattle.sqz_image.specs.Objects.{object_count}
+use Rattle.sqz_census.specs.Keys.{no_entry}
 use Rattle.sqz_census.proofs.TallyLemmas.{entry_key-lt, entry_room, entry_more, dead_more, FitWords-tallies, AreTallies-all}
 use Rattle.sqz_census.proofs.tallies.tallies_of.Goals as goal
-use Rattle.sqz_census.proofs.tallies.tallies_of.Goals.{then-entry, else-entry}
+use Rattle.sqz_census.proofs.tallies.tallies_of.Goals.{then-entry, else-entry, After-index_mut-tally}
 
 pub index_mut-tally-requires : goal.index_mut-tally-requires
 index_mut-tally-requires c =
-    let weak = c.requires.entries.0 in
-    let kept = c.requires.entries.1 in
+    let (weak, kept) = c.requires.entries in
     let object = c.loop-entry.entry-index in
     let inside : c.loop-entry.entry-index < object_count c.args.heap.now = omega (arith, c.loop-entry-test.true, kept.sized) in
     let lt =
@@ -15,29 +15,24 @@ index_mut-tally-requires c =
     (kept.each object inside) c.if-entry.true in
     omega (arith, lt, c.loop-entry.tallies.ok.0)
 
-pub overflow_add-tally : goal.overflow_add-tally
-overflow_add-tally c =
-    let weak = c.requires.entries.0 in
-    let kept = c.requires.entries.1 in
+-- the tally of an entry has room for one object more and its words
+has_room : (c : After-index_mut-tally)
+    → (c.index_mut-tally.result.now.count + 1 < 2 ^ 32)
+    × (c.index_mut-tally.result.now.words + (get_or c.args.entries.now c.loop-entry.entry-index no_entry).words < 2 ^ 32)
+has_room c =
+    let (weak, kept) = c.requires.entries in
     let object = c.loop-entry.entry-index in
     let inside : c.loop-entry.entry-index < object_count c.args.heap.now = omega (arith, c.loop-entry-test.true, kept.sized) in
-    let room =
     entry_room c.args.heap.now weak c.args.marks.now object inside c.loop-entry.tallies.items (c.loop-entry.invariant weak kept) _
     (kept.each object inside) c.if-entry.true c.index_mut-tally.result.now c.index_mut-tally.ensures.value
-    c.heap_bounds.ensures.words (omega (arith, inside, c.len.ensures.objects, c.len.ensures.few)) in
-    omega (arith, room.0)
+    c.heap_bounds.ensures.words (omega (arith, inside, c.len.ensures.objects, c.len.ensures.few))
+
+pub overflow_add-tally : goal.overflow_add-tally
+overflow_add-tally c = omega (arith, (has_room (goal.at.overflow_add-tally c).After-index_mut-tally).0)
 
 pub overflow_add-tally-then-entry : goal.overflow_add-tally-then-entry
 overflow_add-tally-then-entry c =
-    let weak = c.requires.entries.0 in
-    let kept = c.requires.entries.1 in
-    let object = c.loop-entry.entry-index in
-    let inside : c.loop-entry.entry-index < object_count c.args.heap.now = omega (arith, c.loop-entry-test.true, kept.sized) in
-    let room =
-    entry_room c.args.heap.now weak c.args.marks.now object inside c.loop-entry.tallies.items (c.loop-entry.invariant weak kept) _
-    (kept.each object inside) c.if-entry.true c.index_mut-tally.result.now c.index_mut-tally.ensures.value
-    c.heap_bounds.ensures.words (omega (arith, inside, c.len.ensures.objects, c.len.ensures.few)) in
-    omega (arith, room.1)
+    omega (arith, (has_room (goal.at.overflow_add-tally-then-entry c).After-index_mut-tally).1)
 
 pub loop-entry-preserved : goal.loop-entry-preserved
 loop-entry-preserved c weak kept =
@@ -65,6 +60,6 @@ returns-clause-tallies c weak kept =
 
 pub returns-clause-fit : goal.returns-clause-fit
 returns-clause-fit c =
-    let weak = c.requires.entries.0 in
+    let (weak, kept) = c.requires.entries in
     FitWords-tallies c.args.heap.now weak c.args.marks.now c.loop-entry.tallies.items c.requires.sized c.heap_bounds.ensures.words
-    (omega (arith, c.len.ensures.objects, c.len.ensures.few)) (returns-clause-tallies c weak c.requires.entries.1)
+    (omega (arith, c.len.ensures.objects, c.len.ensures.few)) (returns-clause-tallies c weak kept)

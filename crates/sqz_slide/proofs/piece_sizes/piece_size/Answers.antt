@@ -34,4 +34,15 @@ returns c marks places =
     let more = live_words_more_yes memory marks (back.result - 1) last last_marked in
     let next : c.end_of_live-end.result - 1 + 1 ≡ c.end_of_live-end.result = omega arith in
     let rises = live_words_below-rises memory marks front.result back.result back.ensures.low (omega arith) in
-    omega (arith, before, behind, begin, end, c.chunk_length.ensures.length, rw next at more, rises, c.saturating_sub.ensures, c.from-length.ensures)
+    omega (
+      arith,
+      before,
+      behind,
+      begin,
+      end,
+      c.chunk_length.ensures.length,
+      rw next at more,
+      rises,
+      c.saturating_sub.ensures,
+      c.from-length.ensures,
+    )
