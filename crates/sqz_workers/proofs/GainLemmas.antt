@@ -1,4 +1,5 @@
--- What a pass gains by one step after another.
+-- What a pass gains by one step after another. Serves `claiming::mark_taken`, `claiming::mark_slots`, `claiming::claim_slot`, the
+-- functions of `rest`, `shared_work::SharedWork::take_turns` and `stealing::mark`.
 use Rattle.std.proofs.Common.{◌≡◌, ◌≢◌, ℕ, ◌+◌, ◌<◌, List, ◌∷◌, Some, refl, sym, ap, subst, ◌∙◌, cond, eqb, arith, inl, inr}
 use Rattle.std.specs.Prelude.{Option, None}
 use Rattle.std.proofs.lemmas.Bool.{cases_lt}
@@ -11,7 +12,7 @@ use Rattle.sqz_trace.specs.declared.shades.Shade.TheVariants.{White, Grey, Black
 use Rattle.sqz_trace.specs.Targets.{named_among, named_in, IsTargetBelow}
 use Rattle.sqz_trace.proofs.TargetLemmas.{IsTargetBelow-next, IsTargetBelow-none}
 use Rattle.sqz_marks.specs.declared.view.View.{View}
-use Rattle.sqz_marks.specs.Core.{times, HasSeen, looked, claimed, seen_by, counted, blackened}
+use Rattle.sqz_marks.specs.Core.{times, HasSeen, HasBlackened, looked, claimed, seen_by, counted, blackened}
 use Rattle.sqz_marks.specs.Table.{SharedMarks, HeldPass, IsPassOf, HasCountedAll, knowing}
 use Rattle.sqz_marks.proofs.TimesLemmas.{times-same, times-more}
 use Rattle.sqz_marks.specs.declared.claim.Claim.{Claim}
@@ -19,18 +20,25 @@ use Rattle.sqz_marks.specs.declared.claim.Claim.TheVariants.{Won, Seen, Nothing}
 use Rattle.sqz_marks.specs.Claims.{IsClaim}
 use Rattle.sqz_workers.specs.Gains.{HasGained, HasGainedSome}
 
-pub HasGained-none : (pass : HeldPass) → HasGained pass pass 0
-HasGained-none pass =
+-- a pass that came to know more, and won none more
+HasGained-known : (old : HeldPass) (seen black : List ℕ) → ((object : ℕ) → HasSeen old.view object → 0 < times object seen)
+    → ((object : ℕ) → HasBlackened old.view object → 0 < times object black)
+    → HasGained old
+    (knowing old record { weight = old.view.weight; won = old.view.won; seen = seen; counted = old.view.counted; blackened = black }) 0
+HasGained-known old seen black sees knows =
     record {
       table = refl;
       workers = refl;
       weight = refl;
       won = omega arith;
       kept = λ object. omega arith;
-      seen = λ object seen. seen;
-      counted = λ other. omega arith;
-      blackened = λ object known. known;
+      seen = sees;
+      counted = λ object. omega arith;
+      blackened = knows;
     }
+
+pub HasGained-none : (pass : HeldPass) → HasGained pass pass 0
+HasGained-none pass = HasGained-known pass pass.view.seen pass.view.blackened (λ object seen. seen) (λ object known. known)
 
 pub HasGained-then : (old pass new : HeldPass) (first more : ℕ) → HasGained old pass first → HasGained pass new more
     → HasGained old new (first + more)
@@ -62,16 +70,8 @@ HasGained-before old pass new objects before after =
 -- an object that became black
 pub HasGained-blackened : (old : HeldPass) (object : ℕ) → HasGained old (knowing old (blackened object old.view)) 0
 HasGained-blackened old object =
-    record {
-      table = refl;
-      workers = refl;
-      weight = refl;
-      won = omega arith;
-      kept = λ other. omega arith;
-      seen = λ other seen. seen;
-      counted = λ other. omega arith;
-      blackened = λ other known. omega (arith, known, times-more other object old.view.blackened);
-    }
+    HasGained-known old old.view.seen (object ∷ old.view.blackened) (λ other seen. seen)
+    (λ other known. omega (arith, known, times-more other object old.view.blackened))
 
 -- a look
 pub HasGained-looked : (old new : HeldPass) (shade : Shade) (object : ℕ) → new ≡ knowing old (looked object shade old.view)
@@ -80,16 +80,8 @@ HasGained-looked old new shade object step = subst (λ (pass : HeldPass). HasGai
   where
     saw : HasGained old (knowing old (seen_by object old.view)) 0
     saw =
-        record {
-          table = refl;
-          workers = refl;
-          weight = refl;
-          won = omega arith;
-          kept = λ other. omega arith;
-          seen = λ other seen. omega (arith, seen, times-more other object old.view.seen);
-          counted = λ other. omega arith;
-          blackened = λ other known. known;
-        }
+        HasGained-known old (object ∷ old.view.seen) old.view.blackened
+        (λ other seen. omega (arith, seen, times-more other object old.view.seen)) (λ other known. known)
 
     by_shade : (shade : Shade) → HasGained old (knowing old (looked object shade old.view)) 0
     by_shade White = HasGained-none old

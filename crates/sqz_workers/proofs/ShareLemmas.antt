@@ -1,6 +1,8 @@
--- What a pass gains whose shares were worked on apart.
-use Rattle.std.proofs.Common.{◌≡◌, ℕ, ◌+◌, ◌≤◌, List, [], ◌∷◌, length, set, sum, sym, subst, arith}
+-- What a pass gains whose shares were worked on apart. Serves `shared_work::SharedWork::mark_alone` and
+-- `shared_work::SharedWork::mark_by_halves`.
+use Rattle.std.proofs.Common.{◌≡◌, ℕ, ◌+◌, ◌≤◌, List, [], ◌∷◌, ◌++◌, length, set, sum, sym, subst, ◌∙◌, ap, arith}
 use Rattle.std.proofs.lemmas.List.{length-append}
+use Rattle.std.proofs.lemmas.List.Sums.{sum_by-append}
 use Rattle.sqz_marks.specs.Core.{kept_of, part_of, joined}
 use Rattle.sqz_marks.specs.Table.{HeldPass, knowing}
 use Rattle.sqz_marks.proofs.TimesLemmas.{times-append}
@@ -42,3 +44,16 @@ HasGained-joined old kept part first second new weight one other below is_kept i
           blackened = λ object known.
               omega (arith, own.blackened object known, times-append object first.view.blackened second.view.blackened);
         }
+
+-- a pass that took in one takes in the same one
+pub knowing-joined_same : (first other second new : HeldPass) → other ≡ second → new ≡ knowing first (joined first.view other.view)
+    → new ≡ knowing first (joined first.view second.view)
+knowing-joined_same first other second new same is_new = is_new ∙ ap (λ (p : HeldPass). knowing first (joined first.view p.view)) same
+
+-- two teams gained what their numbers say, which stand in the halves of a list
+pub HasGained-halves : (old new : HeldPass) (low high first second : List ℕ) → low ≡ first → high ≡ second
+    → HasGained old new (sum first + sum second) → HasGained old new (sum (low ++ high))
+HasGained-halves old new low high first second low_is high_is gained =
+    let both : sum first + sum second ≡ sum (low ++ high) =
+    omega (arith, sum_by-append (λ claims. claims) low high, ap sum low_is, ap sum high_is) in
+    subst (HasGained old new) both gained

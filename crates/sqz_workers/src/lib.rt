@@ -4,9 +4,11 @@
 mod claiming;
 mod gate;
 mod locked;
-mod marking;
+mod locked_marking;
 mod rest;
+mod shared_work;
 mod stealing;
+mod teams;
 mod turns;
 mod worklist;
 

@@ -5,8 +5,8 @@ ghost use Rattle.sqz_image.specs.declared.fault.Fault.TheVariants.{OutOfMemory};
 ghost use Rattle.sqz_trace.specs.Reachability.{IsReachability};
 
 use crate::gate::{Gate, Phase};
-use crate::marking::{MarkedMemory, Marking};
-use crate::turns::{MOST_EMPTY_TURNS, most_turns};
+use crate::locked_marking::{LockedMarking, MarkedMemory};
+use crate::turns::Turns;
 use sqz_image::{Fault, Heap};
 use sqz_marks::Workers;
 use sqz_trace::{Marks, Weak};
@@ -48,7 +48,7 @@ fn mark_in_turns<M: MarkedMemory + Send + Sync, R: Threads + Wait + Sync, G: Gat
     ensures reachable { IfOk result (λ marks. IsReachability heap.now weak marks) }
     ensures refused { IfErr result (λ fault. fault ≡ OutOfMemory) }
 {
-    let marking: Mutex<Marking<M>> = Mutex::new(Marking::new(alloc, heap)?);
+    let marking: Mutex<LockedMarking<M>> = Mutex::new(LockedMarking::new(alloc, heap)?);
     thread::map_indices(
         rt,
         alloc,
@@ -65,7 +65,7 @@ fn mark_in_turns<M: MarkedMemory + Send + Sync, R: Threads + Wait + Sync, G: Gat
 /// The turns of a worker.
 fn work<M: MarkedMemory, R: Wait, G: Gate>(
     rt: &R,
-    marking: &Mutex<Marking<M>>,
+    marking: &Mutex<LockedMarking<M>>,
     heap: &Heap,
     weak: Weak,
     worker: u32,
@@ -74,16 +74,10 @@ fn work<M: MarkedMemory, R: Wait, G: Gate>(
     requires heap { heap.now ≡ M.memory }
     requires weak { weak ≡ M.weak }
 {
-    let mut empty = 0;
-    for turn in 0..most_turns(heap) {
+    let mut turns = Turns::new(heap);
+    while let Some(turn) = turns.next() {
         gate.pass(Phase::Mark, worker, turn);
-        if marking.lock(rt).turn(heap, weak) {
-            empty = 0;
-        } else {
-            empty += 1;
-        }
-        if empty == MOST_EMPTY_TURNS {
-            return;
-        }
+        let found = marking.lock(rt).turn(heap, weak);
+        turns.found(found);
     }
 }

@@ -1,24 +1,21 @@
 //! Marking by workers that share the mark table and steal from each other's deques.
 
 ghost use Rattle.std.specs.Prelude.{◌≡◌, ◌+◌, ◌*◌, ◌^◌, ◌≤◌, length, sum, count_by, IfOk, IfErr};
-ghost use Rattle.std.specs.Thread.{IsSync};
 ghost use Rattle.sqz_image.specs.declared.fault.Fault.TheVariants.{OutOfMemory};
 ghost use Rattle.sqz_trace.specs.Reachability.{IsReachability};
 ghost use Rattle.sqz_regions.specs.Bases.{AreSums};
 ghost use Rattle.sqz_regions.specs.Places.{live_words};
-ghost use Rattle.sqz_marks.specs.Table.{IsPassOf};
-ghost use Rattle.sqz_workers.specs.Gains.{HasGained};
 
 use crate::gate::Gate;
 use crate::rest::mark_rest;
-use crate::turns::take_turns;
+use crate::shared_work::SharedWork;
 use crossbeam_deque::{Stealer, Worker};
 use sqz_image::{Fault, Heap};
-use sqz_marks::{MarkTable, Pass, Workers};
+use sqz_marks::{MarkTable, Workers};
 use sqz_regions::Regions;
 use sqz_trace::{Marks, Weak, finish};
 use std::alloc::{AllocError, Global};
-use std::thread::{Threads, join_mut};
+use std::thread::Threads;
 
 /// What marking gives.
 #[derive(Drop)]
@@ -61,17 +58,14 @@ pub fn mark<R: Threads + Sync, G: Gate>(
     let mut claims = vec![in alloc; 0u64; count]?;
     let (table, mut pass) = MarkTable::new(alloc, heap, weak, regions, workers)?;
     let _refused = deques[0].push(heap.special());
-    mark_by_shares(
+    let work = SharedWork {
         rt,
         heap,
-        &table,
-        &stealers,
+        table: &table,
+        stealers: &stealers,
         gate,
-        0,
-        &mut pass,
-        &mut deques,
-        &mut claims,
-    );
+    };
+    work.mark_all(&mut pass, &mut deques, &mut claims);
     mark_rest(heap, &table, &mut pass, &mut worklist);
     let Ok(closed) = table.close(alloc, pass) else {
         return Err(Fault::OutOfMemory);
@@ -117,115 +111,4 @@ fn counted(alloc: Global, claims: &[u64], marked: u32) -> Result<(Vec<u32>, u32)
         rest -= claim;
     }
     Ok((counts, rest))
-}
-
-/// Marks by as many workers as the pass has shares, each in a thread of its own where one can be started, and each with a
-/// deque and a place for the number of objects that it wins. The first of them has this number.
-#[cycle(halves)]
-fn mark_by_shares<R: Threads + Sync, G: Gate>(
-    rt: &R,
-    heap: &Heap,
-    table: &MarkTable<'_>,
-    stealers: &[Stealer<u32>],
-    gate: &G,
-    first: u32,
-    pass: &mut Pass,
-    deques: &mut [Worker<u32>],
-    claims: &mut [u64],
-)
-    requires heap { table.now.heap.memory ≡ heap.now }
-    requires of { IsPassOf table.now pass.old }
-    requires shares { pass.old.view.weight ≡ length claims.old }
-    requires deques { length deques.old ≡ length claims.old }
-    requires numbers { first + length claims.old ≤ 64 }
-    ensures gained { HasGained pass.old pass.new (sum claims.new) }
-    ensures sized { length claims.new ≡ length claims.old }
-{
-    let shares = pass.weight();
-    if shares == 1 {
-        claims[0] = take_turns(heap, table, pass, &mut deques[0], stealers, first, gate);
-        return;
-    }
-    let high = shares / 2;
-    let low = shares - high;
-    let mut part = table.split_off(pass, high);
-    let (low_claims, high_claims) = claims.split_at_mut(low as usize);
-    let (low_deques, high_deques) = deques.split_at_mut(low as usize);
-    let second = first + low;
-    mark_by_halves(
-        rt,
-        heap,
-        table,
-        stealers,
-        gate,
-        first,
-        pass,
-        low_deques,
-        low_claims,
-        second,
-        &mut part,
-        high_deques,
-        high_claims,
-    );
-    table.join_into(pass, part);
-}
-
-/// Marks by the workers of two passes at one time.
-#[cycle(halves)]
-fn mark_by_halves<R: Threads + Sync, G: Gate>(
-    rt: &R,
-    heap: &Heap,
-    table: &MarkTable<'_>,
-    stealers: &[Stealer<u32>],
-    gate: &G,
-    first: u32,
-    pass: &mut Pass,
-    deques: &mut [Worker<u32>],
-    claims: &mut [u64],
-    second: u32,
-    part: &mut Pass,
-    part_deques: &mut [Worker<u32>],
-    part_claims: &mut [u64],
-)
-    requires heap { table.now.heap.memory ≡ heap.now }
-    requires of { IsPassOf table.now pass.old }
-    requires shares { pass.old.view.weight ≡ length claims.old }
-    requires deques { length deques.old ≡ length claims.old }
-    requires numbers { first + length claims.old ≤ 64 }
-    requires some { 1 ≤ length claims.old }
-    requires part_of { IsPassOf table.now part.old }
-    requires part_shares { part.old.view.weight ≡ length part_claims.old }
-    requires part_deques { length part_deques.old ≡ length part_claims.old }
-    requires part_numbers { second + length part_claims.old ≤ 64 }
-    requires part_some { 1 ≤ length part_claims.old }
-    ensures gained { HasGained pass.old pass.new (sum claims.new) }
-    ensures sized { length claims.new ≡ length claims.old }
-    ensures part_gained { HasGained part.old part.new (sum part_claims.new) }
-    ensures part_sized { length part_claims.new ≡ length part_claims.old }
-{
-    let mut front = ||
-        requires { IsSync R.row × IsSync G.row × (table.now.heap.memory ≡ heap.now) × IsPassOf table.now pass.now
-            × (pass.now.view.weight ≡ length claims.now) × (length deques.now ≡ length claims.now) × (first + length claims.now ≤ 64) }
-        ensures { HasGained pass.entry.now pass.exit.now (sum claims.exit.now) × (length claims.exit.now ≡ length claims.entry.now) }
-    { mark_by_shares(rt, heap, table, stealers, gate, first, pass, deques, claims) };
-    let mut back = ||
-        requires { IsSync R.row × IsSync G.row × (table.now.heap.memory ≡ heap.now) × IsPassOf table.now part.now
-            × (part.now.view.weight ≡ length part_claims.now) × (length part_deques.now ≡ length part_claims.now)
-            × (second + length part_claims.now ≤ 64) }
-        ensures { HasGained part.entry.now part.exit.now (sum part_claims.exit.now)
-            × (length part_claims.exit.now ≡ length part_claims.entry.now) }
-    {
-        mark_by_shares(
-            rt,
-            heap,
-            table,
-            stealers,
-            gate,
-            second,
-            part,
-            part_deques,
-            part_claims,
-        )
-    };
-    join_mut(rt, &mut front, &mut back);
 }

@@ -15,20 +15,20 @@ use Rattle.sqz_workers.proofs.stealing.mark.Goals as goal
 pub close-requires-clause-counted : goal.close-requires-clause-counted
 close-requires-clause-counted g c =
     let first = subst (λ (view : View). HasCountedAll view) (sym c.in_ok-table.ensures.pass.1) (λ object won. won) in
-    let shared = c.mark_by_shares.new.pass in let rest = c.mark_rest.ensures.gained in
+    let shared = c.mark_all.new.pass in let rest = c.mark_rest.ensures.gained in
     HasCountedAll-gained shared c.mark_rest.new.pass rest.objects rest.gained
-    (HasCountedAll-gained c.in_ok-table.pass shared (sum c.mark_by_shares.new.claims) c.mark_by_shares.ensures.gained first)
+    (HasCountedAll-gained c.in_ok-table.pass shared (sum c.mark_all.new.claims) c.mark_all.ensures.gained first)
 
 pub counted-requires : goal.counted-requires
 counted-requires g c =
-    let pass = c.mark_rest.new.pass in let claims = c.mark_by_shares.new.claims in let vec = c.in_ok-claims.claims in
+    let pass = c.mark_rest.new.pass in let claims = c.mark_all.new.claims in let vec = c.in_ok-claims.claims in
     let shades = c.in-Ok.closed.shades.items in
     let table = c.in_ok-table.ensures.table in let memory = ap (λ (h : Regioning). h.memory) table.0 ∙ c.requires in
     let closed = AreClosed-of pass.view shades memory table.1 c.in-Ok.ensures.closed in
     let won = length-won-le c.args.heap.now c.args.weak pass.view shades c.finish-marks.result closed c.finish-marks.ensures in
-    let sized : length claims ≡ length vec.items = c.mark_by_shares.ensures.sized ∙ ap length c.deref_mut-2.ensures.value in
+    let sized : length claims ≡ length vec.items = c.mark_all.ensures.sized ∙ ap length c.deref_mut-2.ensures.value in
     let same : c.deref-2.result.now ≡ claims = c.deref-2.ensures.value ∙ whole_slice vec.len claims vec.items sized vec.ok.0 in
-    omega (arith, won, c.count.ensures, c.mark_rest.ensures.gained.gained.won, c.mark_by_shares.ensures.gained.won, ap sum same)
+    omega (arith, won, c.count.ensures, c.mark_rest.ensures.gained.gained.won, c.mark_all.ensures.gained.won, ap sum same)
 
 pub returns-clause-sums : goal.returns-clause-sums
 returns-clause-sums g c =

@@ -5,7 +5,7 @@ use Rattle.sqz_trace.specs.Shades.{shade_at, AreLawfulOf}
 use Rattle.sqz_trace.proofs.MarkingLemmas.{whole_slice}
 use Rattle.sqz_trace.proofs.LawLemmas.{AreLawful-blackened}
 use Rattle.sqz_workers.proofs.TurnLemmas.{AreLawfulOf-same}
-use Rattle.sqz_workers.proofs.marking.Marking.turn.Goals as goal
+use Rattle.sqz_workers.proofs.locked_marking.LockedMarking.turn.Goals as goal
 
 pub invariant_of-self-in-Grey-1 : goal.invariant_of-self-in-Grey-1
 invariant_of-self-in-Grey-1 g c =

@@ -3,7 +3,7 @@ use Rattle.std.proofs.lemmas.Option.{same_Some}
 use Rattle.sqz_image.specs.Objects.{Memory, object_count}
 use Rattle.sqz_trace.specs.Shades.{AreLawfulOf}
 use Rattle.sqz_workers.proofs.TurnLemmas.{white_count-first}
-use Rattle.sqz_workers.proofs.marking.Marking.new.Goals as goal
+use Rattle.sqz_workers.proofs.locked_marking.LockedMarking.new.Goals as goal
 
 pub invariant_of-result : goal.invariant_of-result
 invariant_of-result g c =

@@ -30,14 +30,14 @@ impl MarkedMemory for Brand {
 
 /// How far the marking of an object memory has come. Each worker changes it by turns.
 #[derive(Drop)]
-pub(crate) struct Marking<M: MarkedMemory> {
+pub(crate) struct LockedMarking<M: MarkedMemory> {
     shades: Shades,
     /// Grey objects, with room for all that are white yet.
     list: Vec<u32>,
     of: PhantomData<M>,
 }
 
-impl<M: MarkedMemory> Model for Marking<M> {
+impl<M: MarkedMemory> Model for LockedMarking<M> {
     ghost use Rattle.std.specs.Prelude.{◌+◌, ◌≤◌, length, vec_capacity};
     ghost use Rattle.sqz_trace.specs.Shades.{AreLawfulOf};
     ghost use Rattle.sqz_trace.specs.Greying.{white_count};
@@ -51,9 +51,9 @@ impl<M: MarkedMemory> Model for Marking<M> {
         × (length marking.list.items + white_count marking.shades.items ≤ vec_capacity marking.list) };
 }
 
-impl<M: MarkedMemory> Marking<M> {
+impl<M: MarkedMemory> LockedMarking<M> {
     /// The marking that begins: the special objects array is grey and alone in the list. Fails for want of memory alone.
-    pub fn new(alloc: Global, heap: &Heap) -> Result<Marking<M>, Fault>
+    pub fn new(alloc: Global, heap: &Heap) -> Result<LockedMarking<M>, Fault>
         requires { heap.now ≡ M.memory }
         ensures begun { IfOk result (λ marking. IsBegun heap.now marking) }
         ensures refused { IfErr result (λ fault. fault ≡ OutOfMemory) }
@@ -61,7 +61,7 @@ impl<M: MarkedMemory> Marking<M> {
         let shades = first_shades(alloc, heap)?;
         let mut list = Vec::with_capacity(alloc, shades.len())?;
         list.push(heap.special())?;
-        Ok(Marking {
+        Ok(LockedMarking {
             shades,
             list,
             of: PhantomData,
