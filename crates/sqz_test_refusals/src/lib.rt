@@ -7,12 +7,14 @@ mod again;
 #[cfg(test)]
 mod dead_cycle;
 #[cfg(test)]
-mod stages;
+mod files;
 #[cfg(test)]
 mod reading;
 #[cfg(test)]
 mod rows;
 #[cfg(test)]
 mod runs;
+#[cfg(test)]
+mod stages;
 #[cfg(test)]
 mod tables;

@@ -1,7 +1,8 @@
 //! Reading a file and its image, and a sink, where memory is refused.
 
 use super::again::again;
-use super::dead_cycle::{FILE, assert_six_objects, image_in, new_sink};
+use super::dead_cycle::{assert_six_objects, image_in, new_sink};
+use super::rows::DEAD_CYCLE;
 use sqz_image::{Fault, Image, ReadSource, Sink, read_all};
 use std::process::Abort;
 use std::test::Fail;
@@ -21,7 +22,7 @@ fn file_read<R: Print + AllocGlobal>(rt: &R) -> Result<Vec<u8>, Fail> {
     again!(
         rt,
         "read_all",
-        read_all(rt.alloc(), &mut ReadSource::new(FILE.as_slice()))
+        read_all(rt.alloc(), &mut ReadSource::new(DEAD_CYCLE.file))
     )
 }
 
@@ -41,10 +42,10 @@ fn assert_image<R: Abort>(rt: &R, image: &Image) {
 #[test]
 fn reading_serves_again(rt: HostRuntime) -> Result<(), Fail> {
     let file = file_read(&rt)?;
-    assert_eq!(rt; file.as_slice(), FILE.as_slice());
+    assert_eq!(rt; file.as_slice(), DEAD_CYCLE.file);
     assert_image(&rt, &image_in(&rt, &file)?);
     let mut sink = new_sink(&rt)?;
     assert_eq!(rt; sink.write(&file), Ok(112));
-    assert_eq!(rt; sink.contents(), FILE.as_slice());
+    assert_eq!(rt; sink.contents(), DEAD_CYCLE.file);
     Ok(())
 }

@@ -1,7 +1,7 @@
 //! A whole run, where memory is refused.
 
-use super::dead_cycle::{ANSWER, CENSUS, FILE, new_cut, new_sink};
-use super::rows::{ROWS, Row};
+use super::dead_cycle::{new_cut, new_sink};
+use super::rows::{DEAD_CYCLE, ROWS, Row};
 use sqz_image::{Fault, MemorySink, MemorySource, ReadSource};
 use sqz_marks::Workers;
 use sqz_regions::Cut;
@@ -13,14 +13,6 @@ use std::process::Abort;
 use std::test::Fail;
 use std::thread::Threads;
 
-/// What a run over the dead cycle's image gives.
-const SUMMARY: Summary = Summary {
-    objects: 6,
-    kept: 4,
-    data_before: 48,
-    data_after: 32,
-};
-
 /// A run over the dead cycle's file.
 fn run_once<R: Threads + Sync + AllocGlobal>(
     rt: &R,
@@ -28,7 +20,7 @@ fn run_once<R: Threads + Sync + AllocGlobal>(
     sink: &mut MemorySink,
     report: &mut MemorySink,
 ) -> Result<Summary, Fault> {
-    let mut source = ReadSource::new(FILE.as_slice());
+    let mut source = ReadSource::new(DEAD_CYCLE.file);
     run(rt, rt.alloc(), plan, &mut source, sink, report, &OpenGate)
 }
 
@@ -62,9 +54,9 @@ fn run_serves_again(rt: HostRuntime) -> Result<(), Fail> {
         let mut sink = new_sink(&rt)?;
         let mut report = new_sink(&rt)?;
         let summary = run_again(&rt, &plan, &mut sink, &mut report)?;
-        assert_eq!(rt; summary, SUMMARY, "{weak:?}");
-        assert_eq!(rt; sink.contents(), ANSWER.as_slice(), "{weak:?}");
-        assert_eq!(rt; report.contents(), CENSUS.as_bytes(), "{weak:?}");
+        assert_eq!(rt; summary, DEAD_CYCLE.summary, "{weak:?}");
+        assert_eq!(rt; sink.contents(), DEAD_CYCLE.answer, "{weak:?}");
+        assert_eq!(rt; report.contents(), DEAD_CYCLE.census.as_bytes(), "{weak:?}");
     }
     Ok(())
 }

@@ -5,7 +5,8 @@ ghost use Rattle.sqz_image.specs.Objects.{object_count};
 ghost use Rattle.sqz_regions.specs.Bases.{AreSums, AreBases, AreBasesOf};
 
 use super::again::again;
-use super::dead_cycle::{CENSUS, FILE, assert_six_objects, image_in, new_cut, regions_of};
+use super::dead_cycle::{assert_six_objects, image_in, new_cut, regions_of};
+use super::rows::DEAD_CYCLE;
 use sqz_census::{Row, census, print};
 use sqz_image::{Fault, Heap};
 use sqz_marks::Workers;
@@ -270,13 +271,13 @@ fn assert_stages<R: Threads + Wait + Sync + Abort + Print + AllocGlobal>(
     assert_pieces(rt, &pieces);
     let rows = rows_of(rt, heap, weak, &marks, &forward)?;
     let text = text_of(rt, &rows)?;
-    assert_eq!(rt; text.as_slice(), CENSUS.as_bytes());
+    assert_eq!(rt; text.as_slice(), DEAD_CYCLE.census.as_bytes());
     Ok(())
 }
 
 #[test]
 fn stages_serve_again(rt: HostRuntime) -> Result<(), Fail> {
-    let image = image_in(&rt, &FILE)?;
+    let image = image_in(&rt, DEAD_CYCLE.file)?;
     let heap = image.heap();
     assert_six_objects(&rt, heap);
     let cut = new_cut(rt.alloc())?;

@@ -4,7 +4,8 @@ ghost use Rattle.std.specs.Prelude.{◌≡◌, IfOk};
 ghost use Rattle.sqz_marks.specs.Table.{IsPassOf, HasCountedAll};
 
 use super::again::again;
-use super::dead_cycle::{FILE, assert_six_objects, image_in, new_cut, regions_of};
+use super::dead_cycle::{assert_six_objects, image_in, new_cut, regions_of};
+use super::rows::DEAD_CYCLE;
 use sqz_image::{Fault, Heap};
 use sqz_marks::{Closed, MarkTable, Pass, Workers};
 use sqz_regions::Regions;
@@ -62,7 +63,7 @@ fn closed<R: Print + AllocGlobal>(rt: &R, table: MarkTable<'_>, pass: Pass) -> R
 
 #[test]
 fn mark_table_serves_again(rt: HostRuntime) -> Result<(), Fail> {
-    let image = image_in(&rt, &FILE)?;
+    let image = image_in(&rt, DEAD_CYCLE.file)?;
     let heap = image.heap();
     assert_six_objects(&rt, heap);
     let cut = new_cut(rt.alloc())?;
