@@ -1,322 +1,350 @@
 //! Images without weak objects that are accepted.
 
-use super::images::Words;
+use super::chunks::Chunk::{Array, Classed, Free, Long, LongArray, Short, Words};
+use super::chunks::{NIL, ODD};
+use super::dozen_classes::DOZEN_CLASSES;
+use super::images::{EMPTY, TestImage};
 use sqz_object::Order;
 
-/// The images.
-pub const ACCEPTED: [Words; 29] = [
-    // big endian
-    Words {
-        order: Order::Big,
-        base: 0x1000,
-        words: &[0x1007, 0x320F, 1, 1, 0x320B, 0x1000],
-        special: 0x1010,
-    },
-    // big endian bytes
-    Words {
-        order: Order::Big,
-        base: 0x1000,
-        words: &[
-            0x1007, 0x320F, 1, 1, 0x100B, 1, 0x1011, 0xA0D, 0x53717565, 0x616B0000, 0x320F, 0x1000,
-            0x101C,
-        ],
-        special: 0x1028,
-    },
-    // big endian class names
-    Words {
-        order: Order::Big,
-        base: 0x1000,
-        words: &[
-            0x1007, 0x1123, 1, 1, 1, 1, 1, 1, 0x1024, 0x2A0F, 0x656A624F, 0x7463, 0x320B, 0x1004,
-            0x327B, 0x1000, 1, 1, 1, 1, 1, 1, 1, 1, 1, 1, 1, 1, 1, 1, 1, 1, 1, 1, 1, 1, 1, 1, 1, 1,
-            1, 1, 1, 0x1030,
-        ],
-        special: 0x1038,
-    },
-    // bytes after data
-    Words {
-        order: Order::Little,
-        base: 0x1000,
-        words: &[0x1007, 0x320B, 0x1000],
-        special: 0x1004,
-    },
-    // class edge
-    Words {
-        order: Order::Little,
-        base: 0x1000,
-        words: &[
-            0x1007, 0x320F, 1, 1, 0x100B, 1, 0x1011, 0x109, 1, 0x320F, 0x1000, 0x101C,
-        ],
-        special: 0x1024,
-    },
-    // class edge of three words
-    Words {
-        order: Order::Little,
-        base: 0x1000,
-        words: &[
-            0x1007, 0x320F, 1, 1, 0x100B, 1, 8, 0x1010, 0x3FC, 1, 0x320F, 0x1000, 0x1020,
-        ],
-        special: 0x1028,
-    },
-    // class names
-    Words {
-        order: Order::Little,
-        base: 0x1000,
-        words: &[
-            0x1007, 0x1123, 1, 1, 1, 1, 1, 1, 0x1024, 0x2A0F, 0x656A624F, 0x7463, 0x320B, 0x1004,
-            0x327B, 0x1000, 1, 1, 1, 1, 1, 1, 1, 1, 1, 1, 1, 1, 1, 1, 1, 1, 1, 1, 1, 1, 1, 1, 1, 1,
-            1, 1, 1, 0x1030,
-        ],
-        special: 0x1038,
-    },
-    // context stack
-    Words {
-        order: Order::Little,
-        base: 0x1000,
-        words: &[
-            0x1007, 0x100B, 1, 0x100B, 1, 0x100B, 1, 0xD32F, 0x1000, 1, 3, 0x1000, 0x1000, 0x1000,
-            0x100C, 0x1014, 2, 0xFFFFFFFE, 0x320F, 0x1000, 0x101C,
-        ],
-        special: 0x1048,
-    },
-    // context with class word
-    Words {
-        order: Order::Little,
-        base: 0x1000,
-        words: &[
-            0x1007, 0x320F, 1, 1, 0x100B, 1, 0x1011, 0xE325, 0x1000, 1, 3, 0x1000, 0x1000, 0x1000,
-            0x1010, 0x1002, 0x320F, 0x1000, 0x101C,
-        ],
-        special: 0x1040,
-    },
-    // context without stack pointer
-    Words {
-        order: Order::Little,
-        base: 0x1000,
-        words: &[
-            0x1007, 0xD323, 0x1000, 1, 0x1000, 0x1000, 0x1000, 0x1000, 0x1002, 0x320F, 0x1000,
-            0x1004,
-        ],
-        special: 0x1024,
-    },
-    // dead array
-    Words {
-        order: Order::Little,
-        base: 0x1000,
-        words: &[0x1007, 0x320F, 1, 1, 0x320B, 0x1000],
-        special: 0x1010,
-    },
-    // dead bad context
-    Words {
-        order: Order::Little,
-        base: 0x1000,
-        words: &[0x1007, 0xD30B, 1, 0x320B, 0x1000],
-        special: 0x100C,
-    },
-    // dead bad method
-    Words {
-        order: Order::Little,
-        base: 0x1000,
-        words: &[0x1007, 0x5C0B, 0x1000, 0x320B, 0x1000],
-        special: 0x100C,
-    },
-    // dead bad pointer
-    Words {
-        order: Order::Little,
-        base: 0x1000,
-        words: &[0x1007, 0x320F, 0x1002, 1, 0x320B, 0x1000],
-        special: 0x1010,
-    },
-    // dead cycle
-    Words {
-        order: Order::Little,
-        base: 0x1000,
-        words: &[
-            0x1007, 0x110B, 0x1014, 0x110B, 0x101C, 0x110B, 0x1004, 0x110B, 0x100C, 0x320F, 0x1000,
-            0x1004,
-        ],
-        special: 0x1024,
-    },
-    // dead without class
-    Words {
-        order: Order::Little,
-        base: 0x1000,
-        words: &[0x1007, 0x10B, 1, 0x320B, 0x1000],
-        special: 0x100C,
-    },
-    // dozen classes
-    Words {
-        order: Order::Little,
-        base: 0x1000,
-        words: &[
-            0x11F1, 0xEEC0005, 0x1249, 0x14360005, 0x1299, 0x19800005, 0x104D, 0x1ECA0121, 0x1004,
-            0x1004, 0x105, 0x1004, 0x1004, 0x15B0, 0x103C, 0x4142A0F, 0x656A624F, 0x7463, 0x1119,
-            0x95E011D, 0x10C8, 0x1004, 0x121, 0x1004, 0x1004, 0x101C, 0xEA8B80F, 0x20646C6F,
-            0x74786574, 0x10A9, 0x13F20121, 0x101C, 0x1004, 0x119, 0x1004, 0x1004, 0x15DC, 0x1098,
-            0x193C280F, 0x61686542, 0x726F6976, 0x1119, 0x1E86011D, 0x104C, 0x1004, 0x121, 0x1004,
-            0x1004, 0x1078, 0x10F9, 0x3D00121, 0x1078, 0x1004, 0x121, 0x1004, 0x1004, 0x1004,
-            0x10E8, 0x91A2B0F, 0x73616C43, 0x73, 0x1119, 0xE64011D, 0x10A8, 0x1004, 0x121, 0x1004,
-            0x1004, 0x10C8, 0x114D, 0x13AE0121, 0x1078, 0x1004, 0x11D, 0x1004, 0x1004, 0x1004,
-            0x1138, 0x18F82B13, 0x6174654D, 0x73616C63, 0x73, 0x1119, 0x1E42011D, 0x10A8, 0x1004,
-            0x121, 0x1004, 0x1004, 0x1118, 0x38C910F, 0xF, 0x160C, 0x8D6327B, 0x1004, 0x100C,
-            0x1014, 0x16C4, 0x1004, 0x1004, 0x13B4, 0x12E4, 0x1708, 0x1004, 0x155C, 0x1004, 0x14B4,
-            0x1004, 0x1004, 0x1004, 0x1504, 0x1004, 0x1004, 0x1004, 0x161C, 0x1634, 0x1004, 0x1694,
-            0x1004, 0x1648, 0x1004, 0x1004, 0x1330, 0x1229, 0xE200121, 0x101C, 0x1004, 0x105,
-            0x1004, 0x1004, 0x1004, 0x1210, 0x136A2917, 0x65646E55, 0x656E6966, 0x6A624F64,
-            0x746365, 0x1119, 0x18B4011D, 0x104C, 0x1004, 0x121, 0x1004, 0x1004, 0x11F0, 0x1279,
-            0x1DFE0121, 0x101C, 0x1004, 0x105, 0x1004, 0x1004, 0x1004, 0x1268, 0x3482B0F,
-            0x736C6146, 0x65, 0x1119, 0x892011D, 0x104C, 0x1004, 0x121, 0x1004, 0x1004, 0x1248,
-            0x12C5, 0xDDC0121, 0x101C, 0x1004, 0x105, 0x1004, 0x1004, 0x1004, 0x12B8, 0x1326280B,
-            0x65757254, 0x1119, 0x1870011D, 0x104C, 0x1004, 0x121, 0x1004, 0x1004, 0x1298, 0x1315,
-            0x1DBA0121, 0x101C, 0x1004, 0x3205, 0x1004, 0x1004, 0x1004, 0x1304, 0x3042B0F,
-            0x61727241, 0x79, 0x1119, 0x84E011D, 0x104C, 0x1004, 0x121, 0x1004, 0x1004, 0x12E4,
-            0x4D983283, 0x1504, 0x1404, 0x12E4, 0x1004, 0x1004, 0x1004, 0x1004, 0x1460, 0x14B4,
-            0x1004, 0x13B4, 0x1004, 0x1004, 0x155C, 0x1004, 0x1004, 0x1004, 0x1004, 0x1004, 0x1004,
-            0x1004, 0x1004, 0x1004, 0x1004, 0x1004, 0x1004, 0x1004, 0x1004, 0x1004, 0x1004, 0x1004,
-            0x13E5, 0x12E20121, 0x101C, 0x1004, 0xB805, 0x1004, 0x1004, 0x15E8, 0x13D4, 0x182C2A0F,
-            0x69727453, 0x676E, 0x1119, 0x1D76011D, 0x104C, 0x1004, 0x121, 0x1004, 0x1004, 0x13B4,
-            0x1435, 0x2C00121, 0x13B4, 0x1004, 0x2805, 0x1004, 0x1004, 0x1004, 0x1424, 0x80A2A0F,
-            0x626D7953, 0x6C6F, 0x1119, 0xD54011D, 0x13E4, 0x1004, 0x121, 0x1004, 0x1004, 0x1404,
-            0xE, 0xEEEEEEEE, 0xEEEEEEEE, 0x1495, 0x129E0121, 0x101C, 0x1004, 0x810D, 0x1004,
-            0x1004, 0x1004, 0x1480, 0x17E82913, 0x6F737341, 0x74616963, 0x6E6F69, 0x1119,
-            0x1D32011D, 0x104C, 0x1004, 0x121, 0x1004, 0x1004, 0x1460, 0x14E5, 0x27C0121, 0x101C,
-            0x16A0, 0x910D, 0x15F0, 0x1004, 0x1004, 0x14D4, 0x7C62B0F, 0x6E696F50, 0x74, 0x1119,
-            0xD10011D, 0x104C, 0x1004, 0x121, 0x1004, 0x1004, 0x14B4, 0x153D, 0x125A0121, 0x101C,
-            0x1004, 0x1C05, 0x1004, 0x1004, 0x1004, 0x1524, 0x17A42A17, 0x706D6F43, 0x64656C69,
-            0x6874654D, 0x646F, 0x1119, 0x1CEE011D, 0x104C, 0x1004, 0x121, 0x1004, 0x1004, 0x1504,
-            0x1595, 0x2380121, 0x101C, 0x1004, 0xE31D, 0x1004, 0x1004, 0x1004, 0x157C, 0x7822B17,
-            0x6874654D, 0x6F43646F, 0x7865746E, 0x74, 0x1119, 0xCCC011D, 0x104C, 0x1004, 0x121,
-            0x1004, 0x1004, 0x155C, 0x1216322F, 0x1078, 0x11F0, 0x1248, 0x1298, 0x12E4, 0x13B4,
-            0x1460, 0x14B4, 0x1504, 0x155C, 0x1760320F, 0x10C8, 0x1118, 0x1CAA320B, 0x1404,
-            0x1F4320F, 0x15FC, 0x1604, 0x73EBB0B, 0x78, 0xC88BB0B, 0x79, 0x11D23213, 0x1168,
-            0x1068, 0x14D4, 0x171C2A1B, 0x73656F64, 0x55746F4E, 0x7265646E, 0x6E617473, 0x3A64,
-            0x1C662B17, 0x6E6E6163, 0x6552746F, 0x6E727574, 0x3A, 0x1B02B17, 0x7473756D,
-            0x6F426542, 0x61656C6F, 0x6E, 0x6FA2B0B, 0x2B, 0xC442B13, 0x636F7250, 0x6F737365, 0x72,
-            0x118E2A0F, 0x6769724F, 0x6E69, 0x16D8280B, 0x6B636F4C, 0x1C22280F, 0x65657247,
-            0x676E6974, 0x16C320F, 0x165C, 3, 0x6B6320F, 0x165C, 0x16AC, 0xC001E1B, 0x2080801,
-            0x165C, 0x16D0, 0x1B01000, 0x2B7C, 0x114A810F, 0x1664, 0x1754, 0x1694810F, 0x14D4,
-            0x14B4, 0x1BDE810F, 0x1674, 0x171C, 0x128810F, 0x1680, 0x16F8, 0x101D, 0x6720005,
-            0xBBC810F, 0x1688, 0x1734, 0x11063217, 0x16D0, 0x16DC, 0x16E8, 0x16FC, 0x1650910F, 1,
-            1, 0x1B9A910F, 0x501, 0x3C1, 0xE4B813, 0x6C6C6548, 0x77202C6F, 0x646C726F, 0x62E2B13,
-            0x67726F66, 0x6574746F, 0x6E, 0xB78E32F, 0x1004, 0x1F, 5, 0x16AC, 0x1004, 0x171C,
-            0x1728, 0xFFFFFFFF, 0x1744, 0x1002, 0x10C2E31F, 0x1754, 0x13, 1, 0x16AC, 0x1004,
-            0x171C,
-        ],
-        special: 0x1174,
-    },
-    // free chunk
-    Words {
-        order: Order::Little,
-        base: 0x1000,
-        words: &[0x1007, 0xE, 1, 1, 0x320B, 0x1000],
-        special: 0x1010,
-    },
-    // highest base
-    Words {
-        order: Order::Little,
-        base: 0xFFFFFFE8,
-        words: &[0x1007, 0x320F, 1, 1, 0x320B, 0xFFFFFFE8],
-        special: 0xFFFFFFF8,
-    },
-    // integers
-    Words {
-        order: Order::Little,
-        base: 0x1000,
-        words: &[0x1007, 0x3217, 0x1000, 0x7FFFFFFF, 0xFFFFFFFF, 0x80000001],
-        special: 0x1004,
-    },
-    // largest short object
-    Words {
-        order: Order::Little,
-        base: 0x1000,
-        words: &[
-            0x1007, 0x12FF, 1, 1, 1, 1, 1, 1, 1, 1, 1, 1, 1, 1, 1, 1, 1, 1, 1, 1, 1, 1, 1, 1, 1, 1,
-            1, 1, 1, 1, 1, 1, 1, 1, 1, 1, 1, 1, 1, 1, 1, 1, 1, 1, 1, 1, 1, 1, 1, 1, 1, 1, 1, 1, 1,
-            1, 1, 1, 1, 1, 1, 1, 1, 1, 0x320F, 0x1000, 0x1004,
-        ],
-        special: 0x1100,
-    },
-    // like contexts
-    Words {
-        order: Order::Little,
-        base: 0x1000,
-        words: &[
-            0x1007, 0x4313, 1, 1, 0xFFFFFFFF, 0xC313, 1, 1, 0xFFFFFFFF, 0xF313, 1, 1, 0xFFFFFFFF,
-            0xD213, 1, 1, 0xFFFFFFFF, 0x321B, 0x1000, 0x1004, 0x1014, 0x1024, 0x1034,
-        ],
-        special: 0x1044,
-    },
-    // long name
-    Words {
-        order: Order::Little,
-        base: 0x1000,
-        words: &[
-            0x1007, 0x1123, 1, 1, 1, 1, 1, 1, 0x1044, 0x1123, 1, 1, 1, 1, 1, 0x1004, 1, 0x2B37,
-            0x616E2041, 0x6F20656D, 0x35342066, 0x74796220, 0x203A7365, 0x7F7E201F, 0x6120FF80,
-            0x6D20646E, 0x2C65726F, 0x74756320, 0x72656820, 0x7A797865, 0x1025, 0x109, 1, 0x320B,
-            0x1004, 0x327B, 0x1000, 0x107C, 1, 1, 1, 1, 1, 1, 1, 1, 1, 1, 1, 1, 1, 1, 1, 1, 1, 1,
-            1, 1, 1, 1, 1, 1, 1, 1, 0x1084,
-        ],
-        special: 0x108C,
-    },
-    // metaclass
-    Words {
-        order: Order::Little,
-        base: 0x1000,
-        words: &[
-            0x1007, 0x1123, 1, 1, 1, 1, 1, 0x1024, 1, 0x1123, 1, 1, 1, 1, 1, 1, 0x1044, 0x2A0F,
-            0x656A624F, 0x7463, 0x320B, 0x1004, 0x327B, 0x1000, 1, 1, 1, 1, 1, 1, 1, 1, 1, 1, 1, 1,
-            1, 1, 1, 1, 1, 1, 1, 1, 1, 1, 1, 1, 1, 1, 1, 0x1050,
-        ],
-        special: 0x1058,
-    },
-    // method literals
-    Words {
-        order: Order::Little,
-        base: 0x1000,
-        words: &[
-            0x1007, 0x100B, 1, 0x100B, 1, 0x5C17, 0x801, 0x100C, 0x1000, 0x100C, 0x320F, 0x1000,
-            0x1014,
-        ],
-        special: 0x1028,
-    },
-    // special array alone
-    Words {
-        order: Order::Little,
-        base: 0x1000,
-        words: &[0x3207],
-        special: 0x1000,
-    },
-    // three word header
-    Words {
-        order: Order::Little,
-        base: 0x1000,
-        words: &[
-            0x1007, 0x320F, 1, 1, 0x100, 0x1000, 0x200, 1, 1, 1, 1, 1, 1, 1, 1, 1, 1, 1, 1, 1, 1,
-            1, 1, 1, 1, 1, 1, 1, 1, 1, 1, 1, 1, 1, 1, 1, 1, 1, 1, 1, 1, 1, 1, 1, 1, 1, 1, 1, 1, 1,
-            1, 1, 1, 1, 1, 1, 1, 1, 1, 1, 1, 1, 1, 1, 1, 1, 1, 1, 1, 1, 0x320F, 0x1000, 0x1018,
-        ],
-        special: 0x1118,
-    },
-    // traced formats
-    Words {
-        order: Order::Little,
-        base: 0x1000,
-        words: &[
-            0x1007, 0x320F, 1, 1, 0x100B, 0x1018, 0x110B, 0x1020, 0x120B, 0x1028, 0x130B, 0x1030,
-            0x140B, 0x1000, 0x320B, 0x1010,
-        ],
-        special: 0x1038,
-    },
-    // untraced formats
-    Words {
-        order: Order::Little,
-        base: 0x1000,
-        words: &[
-            0x1007, 0x320F, 1, 1, 0x150B, 0x1010, 0x160B, 0x1010, 0x170B, 0x1010, 0x180B, 0x1010,
-            0x190B, 0x1010, 0x1A0B, 0x1010, 0x1B0B, 0x1010, 0x3227, 0x1000, 0x1010, 0x1018, 0x1020,
-            0x1028, 0x1030, 0x1038, 0x1040,
-        ],
-        special: 0x1048,
-    },
+/// Each of these, and an image as people know it.
+pub const ACCEPTED: [TestImage; 29] = [
+    NIL_ALONE,
+    DEAD_ARRAY,
+    BIG_ENDIAN,
+    DEAD_BAD_POINTER,
+    FREE_CHUNK,
+    DEAD_WITHOUT_CLASS,
+    DEAD_BAD_METHOD,
+    DEAD_BAD_CONTEXT,
+    HIGHEST_BASE,
+    SPECIAL_ARRAY_ALONE,
+    INTEGERS,
+    DEAD_CYCLE,
+    DOZEN_CLASSES,
+    LARGEST_SHORT_OBJECT,
+    THREE_WORD_HEADER,
+    CLASS_EDGE,
+    CLASS_EDGE_OF_THREE_WORDS,
+    BIG_ENDIAN_BYTES,
+    CLASS_NAMES,
+    BIG_ENDIAN_CLASS_NAMES,
+    METACLASS,
+    LONG_NAME,
+    METHOD_LITERALS,
+    CONTEXT_STACK,
+    CONTEXT_WITH_CLASS_WORD,
+    CONTEXT_WITHOUT_STACK_POINTER,
+    LIKE_CONTEXTS,
+    TRACED_FORMATS,
+    UNTRACED_FORMATS,
 ];
+
+/// Nil, and a special objects array that names it: what is left of many an image.
+pub const NIL_ALONE: TestImage = TestImage {
+    chunks: &[NIL, Array(&[0x1000])],
+    special: 0x1004,
+    ..EMPTY
+};
+
+/// An array that nothing names is left out, and what follows moves down.
+pub const DEAD_ARRAY: TestImage = TestImage {
+    chunks: &[NIL, Array(&[1, 1]), Array(&[0x1000])],
+    special: 0x1010,
+    ..EMPTY
+};
+
+/// The same in a big-endian file.
+pub const BIG_ENDIAN: TestImage = TestImage {
+    order: Order::Big,
+    ..DEAD_ARRAY
+};
+
+/// A word of a dead object may be anything.
+pub const DEAD_BAD_POINTER: TestImage = TestImage {
+    chunks: &[NIL, Array(&[0x1002, 1]), Array(&[0x1000])],
+    special: 0x1010,
+    ..EMPTY
+};
+
+/// A free chunk is left out.
+pub const FREE_CHUNK: TestImage = TestImage {
+    chunks: &[NIL, Free(&[1, 1]), Array(&[0x1000])],
+    special: 0x1010,
+    ..EMPTY
+};
+
+/// A dead object may have no class.
+pub const DEAD_WITHOUT_CLASS: TestImage = TestImage {
+    chunks: &[NIL, Short(0, 1, &[1]), Array(&[0x1000])],
+    special: 0x100C,
+    ..EMPTY
+};
+
+/// A dead method may be bad: its field 0 is no integer.
+pub const DEAD_BAD_METHOD: TestImage = TestImage {
+    chunks: &[NIL, Short(5, 12, &[0x1000]), Array(&[0x1000])],
+    special: 0x100C,
+    ..EMPTY
+};
+
+/// A dead context may be bad: it has no stack pointer.
+pub const DEAD_BAD_CONTEXT: TestImage = TestImage {
+    chunks: &[NIL, Short(13, 3, &[1]), Array(&[0x1000])],
+    special: 0x100C,
+    ..EMPTY
+};
+
+/// An image that ends at the address 2^32.
+pub const HIGHEST_BASE: TestImage = TestImage {
+    base: 0xFFFF_FFE8,
+    chunks: &[NIL, Array(&[1, 1]), Array(&[0xFFFF_FFE8])],
+    special: 0xFFFF_FFF8,
+    ..EMPTY
+};
+
+/// The special objects array is the only object.
+pub const SPECIAL_ARRAY_ALONE: TestImage = TestImage {
+    chunks: &[Array(&[])],
+    ..EMPTY
+};
+
+/// The ends of the range of integers are kept.
+pub const INTEGERS: TestImage = TestImage {
+    chunks: &[NIL, Array(&[0x1000, 0x7FFF_FFFF, 0xFFFF_FFFF, 0x8000_0001])],
+    special: 0x1004,
+    ..EMPTY
+};
+
+/// Two dead objects name each other, and two live ones do so.
+pub const DEAD_CYCLE: TestImage = TestImage {
+    chunks: &[
+        NIL,
+        Short(1, 1, &[0x1014]),
+        Short(1, 1, &[0x101C]),
+        Short(1, 1, &[0x1004]),
+        Short(1, 1, &[0x100C]),
+        Array(&[0x1000, 0x1004]),
+    ],
+    special: 0x1024,
+    ..EMPTY
+};
+
+/// An object of 63 words, which are all that a size field can say.
+pub const LARGEST_SHORT_OBJECT: TestImage = TestImage {
+    chunks: &[NIL, Short(1, 2, &[1; 62]), Array(&[0x1000, 0x1004])],
+    special: 0x1100,
+    ..EMPTY
+};
+
+/// An object of 64 words from its base header on, which are more than a size field can say.
+pub const THREE_WORD_HEADER: TestImage = TestImage {
+    chunks: &[
+        NIL,
+        Array(&[1, 1]),
+        Long(0x1000, 0, 2, &[1; 63], &[]),
+        Array(&[0x1000, 0x1018]),
+    ],
+    special: 0x1118,
+    ..EMPTY
+};
+
+/// A class word keeps a class that no field names, and is renewed as the class moves.
+pub const CLASS_EDGE: TestImage = TestImage {
+    chunks: &[
+        NIL,
+        Array(&[1, 1]),
+        Short(1, 0, &[1]),
+        Classed(0x1010, 0, 1, &[1]),
+        Array(&[0x1000, 0x101C]),
+    ],
+    special: 0x1024,
+    ..EMPTY
+};
+
+/// The same in a header of three words, of which the base header states 63 words that are not there.
+pub const CLASS_EDGE_OF_THREE_WORDS: TestImage = TestImage {
+    chunks: &[
+        NIL,
+        Array(&[1, 1]),
+        Short(1, 0, &[1]),
+        Words(&[8, 0x1010, 0x3FC, 1]),
+        Array(&[0x1000, 0x1020]),
+    ],
+    special: 0x1028,
+    ..EMPTY
+};
+
+/// The bytes of an object with a class word come back as they were in a big-endian file.
+pub const BIG_ENDIAN_BYTES: TestImage = TestImage {
+    order: Order::Big,
+    chunks: &[
+        NIL,
+        Array(&[1, 1]),
+        Short(1, 0, &[1]),
+        Classed(0x1010, 0, 10, &[0x5371_7565, 0x616B_0000]),
+        Array(&[0x1000, 0x101C]),
+    ],
+    special: 0x1028,
+    ..EMPTY
+};
+
+/// Of the compact classes that the last field of the special objects array names, that of the compact index 1 has a name.
+pub const CLASS_NAMES: TestImage = TestImage {
+    chunks: &[
+        NIL,
+        Short(1, 1, &[1, 1, 1, 1, 1, 1, 0x1024]),
+        Short(2, 10, &[0x656A_624F, 0x7463]),
+        Array(&[0x1004]),
+        LongArray(&[0x1000], 0x1030),
+    ],
+    special: 0x1038,
+    ..EMPTY
+};
+
+/// The same words in a big-endian file, which spell another name.
+pub const BIG_ENDIAN_CLASS_NAMES: TestImage = TestImage {
+    order: Order::Big,
+    ..CLASS_NAMES
+};
+
+/// A class without a name of its own is named for its one instance.
+pub const METACLASS: TestImage = TestImage {
+    chunks: &[
+        NIL,
+        Short(1, 1, &[1, 1, 1, 1, 1, 0x1024, 1]),
+        Short(1, 1, &[1, 1, 1, 1, 1, 1, 0x1044]),
+        Short(2, 10, &[0x656A_624F, 0x7463]),
+        Array(&[0x1004]),
+        LongArray(&[0x1000], 0x1050),
+    ],
+    special: 0x1058,
+    ..EMPTY
+};
+
+/// The bytes of a name, and three more, which its object does not have.
+const FORTY_FIVE_BYTES: &[u32] = &[
+    0x616E2041, 0x6F20656D, 0x35342066, 0x74796220, 0x203A7365, 0x7F7E201F, 0x6120FF80, 0x6D20646E,
+    0x2C65726F, 0x74756320, 0x72656820, 0x7A797865,
+];
+
+/// Of a long name 40 bytes are printed, ` class` behind them, and `?` for each that is not printable.
+pub const LONG_NAME: TestImage = TestImage {
+    chunks: &[
+        NIL,
+        Short(1, 1, &[1, 1, 1, 1, 1, 1, 0x1044]),
+        Short(1, 1, &[1, 1, 1, 1, 1, 0x1004, 1]),
+        Short(2, 11, FORTY_FIVE_BYTES),
+        Classed(0x1024, 0, 1, &[1]),
+        Array(&[0x1004]),
+        LongArray(&[0x1000, 0x107C], 0x1084),
+    ],
+    special: 0x108C,
+    ..EMPTY
+};
+
+/// The literals of a method are traced, and the words behind them are kept as they are.
+pub const METHOD_LITERALS: TestImage = TestImage {
+    chunks: &[
+        NIL,
+        Short(1, 0, &[1]),
+        Short(1, 0, &[1]),
+        Short(5, 12, &[0x801, 0x100C, 0x1000, 0x100C]),
+        Array(&[0x1000, 0x1014]),
+    ],
+    special: 0x1028,
+    ..EMPTY
+};
+
+/// The fields of a context: six fixed ones, of which the stack pointer says that the stack holds one, that one, and three above.
+const STACK_OF_ONE: &[u32] = &[0x1000, 1, 3, 0x1000, 0x1000, 0x1000, 0x100C, 0x1014, 2, ODD];
+
+/// The fields of a context up to the top of its stack, whose pointer is data word 10, are traced, and those above are kept as they are.
+pub const CONTEXT_STACK: TestImage = TestImage {
+    chunks: &[
+        NIL,
+        Short(1, 0, &[1]),
+        Short(1, 0, &[1]),
+        Short(1, 0, &[1]),
+        Short(13, 3, STACK_OF_ONE),
+        Array(&[0x1000, 0x101C]),
+    ],
+    special: 0x1048,
+    ..EMPTY
+};
+
+/// The fields of a context whose stack holds one, and one above.
+const STACK_BELOW_ODD: &[u32] = &[0x1000, 1, 3, 0x1000, 0x1000, 0x1000, 0x1010, 0x1002];
+
+/// The same of a context with a class word, and the other compact index.
+pub const CONTEXT_WITH_CLASS_WORD: TestImage = TestImage {
+    chunks: &[
+        NIL,
+        Array(&[1, 1]),
+        Short(1, 0, &[1]),
+        Classed(0x1010, 14, 3, STACK_BELOW_ODD),
+        Array(&[0x1000, 0x101C]),
+    ],
+    special: 0x1040,
+    ..EMPTY
+};
+
+/// Where the stack pointer is no integer, the stack is empty.
+pub const CONTEXT_WITHOUT_STACK_POINTER: TestImage = TestImage {
+    chunks: &[
+        NIL,
+        Short(13, 3, &[0x1000, 1, 0x1000, 0x1000, 0x1000, 0x1000, 0x1002]),
+        Array(&[0x1000, 0x1004]),
+    ],
+    special: 0x1024,
+    ..EMPTY
+};
+
+/// Format 3 with other compact indexes, and another format with that of a context, make no contexts.
+pub const LIKE_CONTEXTS: TestImage = TestImage {
+    chunks: &[
+        NIL,
+        Short(4, 3, &[1, 1, 0xFFFF_FFFF]),
+        Short(12, 3, &[1, 1, 0xFFFF_FFFF]),
+        Short(15, 3, &[1, 1, 0xFFFF_FFFF]),
+        Short(13, 2, &[1, 1, 0xFFFF_FFFF]),
+        Array(&[0x1000, 0x1004, 0x1014, 0x1024, 0x1034]),
+    ],
+    special: 0x1044,
+    ..EMPTY
+};
+
+/// All fields of the formats 0 to 4 are traced.
+pub const TRACED_FORMATS: TestImage = TestImage {
+    chunks: &[
+        NIL,
+        Array(&[1, 1]),
+        Short(1, 0, &[0x1018]),
+        Short(1, 1, &[0x1020]),
+        Short(1, 2, &[0x1028]),
+        Short(1, 3, &[0x1030]),
+        Short(1, 4, &[0x1000]),
+        Array(&[0x1010]),
+    ],
+    special: 0x1038,
+    ..EMPTY
+};
+
+/// No field of the formats 5 to 11 is traced.
+pub const UNTRACED_FORMATS: TestImage = TestImage {
+    chunks: &[
+        NIL,
+        Array(&[1, 1]),
+        Short(1, 5, &[0x1010]),
+        Short(1, 6, &[0x1010]),
+        Short(1, 7, &[0x1010]),
+        Short(1, 8, &[0x1010]),
+        Short(1, 9, &[0x1010]),
+        Short(1, 10, &[0x1010]),
+        Short(1, 11, &[0x1010]),
+        Array(&[
+            0x1000, 0x1010, 0x1018, 0x1020, 0x1028, 0x1030, 0x1038, 0x1040,
+        ]),
+    ],
+    special: 0x1048,
+    ..EMPTY
+};

@@ -1,7 +1,7 @@
-//! Files with given data words.
+//! Files of images, and the images in them.
 
-ghost use Rattle.std.specs.Prelude.{◌<◌, length};
-
+use super::chunks::count_of;
+use super::images::{TestImage, words_of};
 use sqz_image::{Fault, Image, read_image};
 use sqz_object::{Order, put_word};
 use std::alloc::{AllocError, Global};
@@ -14,29 +14,35 @@ pub fn put_words(file: &mut Vec<u8>, order: Order, words: &[u32]) -> Result<(), 
     Ok(())
 }
 
-/// The bytes of a file with these data words, of which the first has the address `base`, and with the special
-/// objects array at the address `special`.
-pub fn file_of(
-    alloc: Global,
+/// Puts the header at the end of a file that says how many bytes the data have, at which address they begin, and at which the
+/// special objects array is.
+pub fn put_header(
+    file: &mut Vec<u8>,
     order: Order,
+    size: u32,
     base: u32,
-    words: &[u32],
     special: u32,
-) -> Result<Vec<u8>, AllocError>
-    requires { length words.now < 1000 }
-{
+) -> Result<(), AllocError> {
+    put_words(file, order, &[6502, 64, size, base, special])?;
+    put_words(file, order, &[0; 11])
+}
+
+/// The bytes of an image's file.
+pub fn file_of(alloc: Global, image: &TestImage) -> Result<Vec<u8>, AllocError> {
+    let words = words_of(alloc, image)?;
     let mut file = Vec::new(alloc);
-    let size = 4 * words.len() as u32;
-    put_words(&mut file, order, &[6502, 64, size, base, special])?;
-    put_words(&mut file, order, &[0; 11])?;
-    put_words(&mut file, order, words)?;
+    let size = 4 * count_of(&words);
+    put_header(&mut file, image.order, size, image.base, image.special)?;
+    put_words(&mut file, image.order, &words)?;
     Ok(file)
 }
 
-/// The image in a little-endian file with these data words from the address 0x1000 on.
-pub fn image_of(alloc: Global, words: &[u32], special: u32) -> Result<Image, Fault>
-    requires { length words.now < 1000 }
-{
-    let file = file_of(alloc, Order::Little, 0x1000, words, special)?;
-    read_image(alloc, &file)
+/// The bytes of its file where words are in this order.
+pub fn file_in(alloc: Global, order: Order, image: &TestImage) -> Result<Vec<u8>, AllocError> {
+    file_of(alloc, &TestImage { order, ..*image })
+}
+
+/// The image, as it is read from its file.
+pub fn image_of(alloc: Global, image: &TestImage) -> Result<Image, Fault> {
+    read_image(alloc, &file_of(alloc, image)?)
 }

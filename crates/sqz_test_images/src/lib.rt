@@ -1,13 +1,16 @@
-//! Small images for tests: their words, their files, and as they are read.
+//! Small images for tests: their chunks, their files, and as they are read.
 #![tactic(auto)]
 
-mod accepted;
+pub mod accepted;
+pub mod answers;
+mod chunks;
+mod dozen_classes;
 mod files;
 mod images;
-mod with_defects;
-mod with_weak_objects;
-mod words;
+pub mod unreadable;
+pub mod with_defects;
+pub mod with_weak_objects;
 
-pub use files::{file_of, image_of, put_words};
-pub use images::{IMAGES, Words};
-pub use words::{DEAD_CYCLE, DEAD_CYCLE_ANSWER, NAME, class_words};
+pub use chunks::{Chunk, NIL, ODD};
+pub use files::{file_in, file_of, image_of, put_header, put_words};
+pub use images::{Change, EMPTY, IMAGES, TestImage, with_word, words_of};

@@ -12,7 +12,8 @@ use super::steps::{
 use sqz_image::{Heap, Slot};
 use sqz_marks::{Claim, Closed, MarkTable, Pass, Workers};
 use sqz_regions::{Cut, Regions};
-use sqz_test_images::{DEAD_CYCLE, image_of};
+use sqz_test_images::accepted::DEAD_CYCLE;
+use sqz_test_images::image_of;
 use sqz_trace::{Shade, Weak};
 use std::process::Abort;
 use std::test::Fail;
@@ -47,7 +48,7 @@ fn claim_by_both<R: Threads>(
 
 #[test]
 fn split_and_join(rt: HostRuntime) -> Result<(), Fail> {
-    let image = image_of(rt.alloc(), &DEAD_CYCLE, 0x1024)?;
+    let image = image_of(rt.alloc(), &DEAD_CYCLE)?;
     let heap = image.heap();
     assert_dead_cycle(&rt, heap);
     let cut = Cut::at([1, 3].to_vec(rt.alloc())?)?;
@@ -104,7 +105,7 @@ fn race<R: Threads + Abort + AllocGlobal>(
 
 #[test]
 fn two_threads_claim_one_object(rt: HostRuntime) -> Result<(), Fail> {
-    let image = image_of(rt.alloc(), &DEAD_CYCLE, 0x1024)?;
+    let image = image_of(rt.alloc(), &DEAD_CYCLE)?;
     let heap = image.heap();
     assert_dead_cycle(&rt, heap);
     let cut = Cut::at([1, 3].to_vec(rt.alloc())?)?;

@@ -11,7 +11,8 @@ use super::targets::mark_targets;
 use sqz_image::{Fault, Heap, Slot};
 use sqz_marks::{Claim, Closed, MarkTable, Pass, Workers};
 use sqz_regions::{Cut, Regions};
-use sqz_test_images::{DEAD_CYCLE, image_of};
+use sqz_test_images::accepted::DEAD_CYCLE;
+use sqz_test_images::image_of;
 use sqz_trace::{Shade, Weak};
 use std::alloc::Global;
 use std::process::Abort;
@@ -231,7 +232,7 @@ fn mark_dead_cycle<R: Abort + AllocGlobal>(
 
 #[test]
 fn one_pass(rt: HostRuntime) -> Result<(), Fail> {
-    let image = image_of(rt.alloc(), &DEAD_CYCLE, 0x1024)?;
+    let image = image_of(rt.alloc(), &DEAD_CYCLE)?;
     let heap = image.heap();
     assert_dead_cycle(&rt, heap);
     let cut = Cut::at([1, 3].to_vec(rt.alloc())?)?;

@@ -1,7 +1,10 @@
 //! The program, over files of the operating system.
 
-use super::images::{cleared_image, compacted_image, weak_image, whole_image};
+use super::images::{compacted_image, whole_image};
 use super::programs::{assert_ended, run_program};
+use sqz_test_images::answers::WEAK_FIELDS_CLEARED;
+use sqz_test_images::file_of;
+use sqz_test_images::with_weak_objects::WEAK_FIELDS;
 use std::fs::File;
 use std::io::{Read, Write};
 use std::process::Abort;
@@ -81,12 +84,13 @@ fn prints_a_census(rt: HostRuntime) -> Result<(), Fail> {
 
 #[test]
 fn clears_weak_slots_where_it_is_asked_to(rt: HostRuntime) -> Result<(), Fail> {
-    let image = weak_image(rt.alloc())?;
+    let image = file_of(rt.alloc(), &WEAK_FIELDS)?;
     File::create(&rt, "weak.image")?.write_all(&image)?;
     let words = ["--clear-weak", "weak.image", "cleared.image"];
     let ended = run_program(&rt, rt.alloc(), &words)?;
     assert_ended(&rt, &ended, 0, "");
-    assert_holds(&rt, "cleared.image", &cleared_image(rt.alloc())?)?;
+    let cleared = file_of(rt.alloc(), &WEAK_FIELDS_CLEARED)?;
+    assert_holds(&rt, "cleared.image", &cleared)?;
     let ended = run_program(&rt, rt.alloc(), &["weak.image", "as_before.image"])?;
     assert_ended(&rt, &ended, 0, "");
     assert_holds(&rt, "as_before.image", &image)

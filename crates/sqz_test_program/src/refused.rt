@@ -3,8 +3,11 @@
 use super::images::whole_image;
 use super::programs::{assert_ended, run_program};
 use super::test_files::{Disk, IN, SOUND, TestFiles};
-use sqz_object::Order;
-use sqz_test_images::file_of;
+use sqz_test_images::accepted::SPECIAL_ARRAY_ALONE;
+use sqz_test_images::unreadable::{MIXED_CLASS_HEADER, NO_OBJECT_AT_SPECIAL, OVERRUN, ZERO_SIZE};
+use sqz_test_images::with_defects::{METHOD_HEADER, NO_CLASS, ODD_FIELD, SHORT_CONTEXT};
+use sqz_test_images::with_weak_objects::WEAK_BAD_CLASS;
+use sqz_test_images::{TestImage, file_of};
 use std::process::Abort;
 use std::sync::Wait;
 use std::test::Fail;
@@ -54,71 +57,45 @@ fn headers(rt: HostRuntime) -> Result<(), Fail> {
     Ok(())
 }
 
+/// An image, and what is printed where it is refused.
+type Refused = (TestImage, &'static str);
+
 #[test]
 fn data_words(rt: HostRuntime) -> Result<(), Fail> {
-    let some: [(&[u32], u32, &str); 8] = [
-        (&[0x1007, 0x3203], 0x1000, "fault 7: size 0 at word 1\n"),
+    let some: [Refused; 8] = [
+        (ZERO_SIZE, "fault 7: size 0 at word 1\n"),
         (
-            &[0x1007, 0x11, 0x1000, 0x109, 1],
-            0x1000,
+            MIXED_CLASS_HEADER,
             "fault 8: header words disagree at word 1\n",
         ),
+        (OVERRUN, "fault 9: chunk runs past the end at word 1\n"),
         (
-            &[0x1007, 0x320F, 1],
-            0x1000,
-            "fault 9: chunk runs past the end at word 1\n",
-        ),
-        (
-            &[0x3207],
-            0x1004,
+            NO_OBJECT_AT_SPECIAL,
             "fault 10: special objects array not found\n",
         ),
+        (NO_CLASS, "fault 11: no class for object 0000100c\n"),
+        (METHOD_HEADER, "fault 12: bad method 00001004\n"),
+        (SHORT_CONTEXT, "fault 13: bad context 00001004\n"),
         (
-            &[0x1007, 0x320B, 0x100C, 0x10B, 1],
-            0x1004,
-            "fault 11: no class for object 0000100c\n",
-        ),
-        (
-            &[0x1007, 0x5C0B, 0x1000, 0x320F, 0x1000, 0x1004],
-            0x100C,
-            "fault 12: bad method 00001004\n",
-        ),
-        (
-            &[0x1007, 0xD30B, 1, 0x320F, 0x1000, 0x1004],
-            0x100C,
-            "fault 13: bad context 00001004\n",
-        ),
-        (
-            &[0x1007, 0x320B, 0x1002],
-            0x1004,
+            ODD_FIELD,
             "fault 14: bad pointer in object 00001004, field 0\n",
         ),
     ];
-    for (words, special, line) in some {
-        assert!(rt; words.len() < 1000);
-        let image = file_of(rt.alloc(), Order::Little, 0x1000, words, special)?;
-        assert_refuses(&rt, &image, line)?;
+    for (image, line) in &some {
+        assert_refuses(&rt, &file_of(rt.alloc(), image)?, line)?;
     }
     Ok(())
 }
 
 #[test]
 fn weak_slots_that_cannot_be_cleared(rt: HostRuntime) -> Result<(), Fail> {
-    let some: [(&[u32], u32, &str); 2] = [
-        (
-            &[
-                0x1007, 0x1113, 1, 1, 0x1000, 0x100B, 1, 0x1005, 0x409, 0x1014, 0x320F, 0x1000,
-                0x1020,
-            ],
-            0x1028,
-            "fault 20: bad weak object 00001020\n",
-        ),
-        (&[0x3207], 0x1000, "fault 21: nil not found\n"),
+    let some: [Refused; 2] = [
+        (WEAK_BAD_CLASS, "fault 20: bad weak object 00001020\n"),
+        (SPECIAL_ARRAY_ALONE, "fault 21: nil not found\n"),
     ];
-    for (words, special, line) in some {
-        assert!(rt; words.len() < 1000);
-        let image = file_of(rt.alloc(), Order::Little, 0x1000, words, special)?;
-        assert_refuses_at(&rt, &["--clear-weak", IN, SOUND.output], &image, line)?;
+    for (image, line) in &some {
+        let words = ["--clear-weak", IN, SOUND.output];
+        assert_refuses_at(&rt, &words, &file_of(rt.alloc(), image)?, line)?;
     }
     Ok(())
 }

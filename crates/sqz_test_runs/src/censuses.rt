@@ -1,8 +1,8 @@
 //! Censuses of small images.
 
-use super::runs::{Data, SOUND, data_of, file_with, plan_of, run_over};
-use sqz_object::Order;
-use sqz_test_images::{NAME, class_words};
+use super::runs::{SOUND, plan_of, run_over};
+use sqz_test_images::accepted::{BIG_ENDIAN_CLASS_NAMES, CLASS_NAMES, DEAD_ARRAY, METACLASS};
+use sqz_test_images::{Change, TestImage, file_of};
 use sqz_trace::Weak;
 use std::process::Abort;
 use std::sync::Wait;
@@ -28,11 +28,10 @@ pub(crate) const CLASS_CENSUS: &str = concat!(
 pub(crate) fn assert_census<R: Threads + Wait + Sync + Abort + AllocGlobal>(
     rt: &R,
     weak: Weak,
-    order: Order,
-    data: Data<'_>,
+    image: &TestImage,
     text: &str,
 ) -> Result<(), Fail> {
-    let file = file_with(rt, order, data)?;
+    let file = file_of(rt.alloc(), image)?;
     let outcome = run_over(rt, rt.alloc(), &plan_of(weak, true)?, file, &SOUND)?;
     assert!(rt; outcome.answer.is_ok());
     assert_eq!(rt; outcome.census.as_slice(), text.as_bytes());
@@ -41,70 +40,44 @@ pub(crate) fn assert_census<R: Threads + Wait + Sync + Abort + AllocGlobal>(
 
 #[test]
 fn objects_without_a_class(rt: HostRuntime) -> Result<(), Fail> {
-    let words = [0x1007, 0x320F, 1, 1, 0x320B, 0x1000];
-    assert_census(
-        &rt,
-        Weak::Keep,
-        Order::Little,
-        data_of(&words, 0x1010),
-        NIL_CENSUS,
-    )
+    assert_census(&rt, Weak::Keep, &DEAD_ARRAY, NIL_CENSUS)
 }
 
 #[test]
 fn class_with_a_name(rt: HostRuntime) -> Result<(), Fail> {
-    let words = class_words(rt.alloc(), NAME)?;
-    assert_census(
-        &rt,
-        Weak::Keep,
-        Order::Little,
-        data_of(&words, 0x1038),
-        CLASS_CENSUS,
-    )?;
+    assert_census(&rt, Weak::Keep, &CLASS_NAMES, CLASS_CENSUS)?;
     let text = concat!(
         "         2          128 -------- compact 3\n",
         "         2           36 00001004 ejbO??\n",
         "         1           12 -------- compact 2\n",
         "         5          176 total\n",
     );
-    assert_census(&rt, Weak::Keep, Order::Big, data_of(&words, 0x1038), text)
+    assert_census(&rt, Weak::Keep, &BIG_ENDIAN_CLASS_NAMES, text)
 }
+
+/// The class has an integer in place of a name.
+const CLASS_WITHOUT_NAME: TestImage = TestImage {
+    changed: Some(Change(8, 1)),
+    ..CLASS_NAMES
+};
 
 #[test]
 fn class_without_a_name(rt: HostRuntime) -> Result<(), Fail> {
-    let words = class_words(rt.alloc(), 1)?;
     let text = concat!(
         "         2          128 -------- compact 3\n",
         "         2           36 00001004 ?\n",
         "         4          164 total\n",
     );
-    assert_census(
-        &rt,
-        Weak::Keep,
-        Order::Little,
-        data_of(&words, 0x1038),
-        text,
-    )
+    assert_census(&rt, Weak::Keep, &CLASS_WITHOUT_NAME, text)
 }
 
 #[test]
 fn metaclass(rt: HostRuntime) -> Result<(), Fail> {
-    let mut words = Vec::from_slice(rt.alloc(), &[0x1007, 0x1123, 1, 1, 1, 1, 1, 0x1024, 1])?;
-    words.extend_from_slice(&[0x1123, 1, 1, 1, 1, 1, 1, 0x1044])?;
-    words.extend_from_slice(&[0x2A0F, 0x656A_624F, 0x7463, 0x320B, 0x1004, 0x327B, 0x1000])?;
-    words.extend_from_slice(&[1; 27])?;
-    words.push(0x1050)?;
     let text = concat!(
         "         2          128 -------- compact 3\n",
         "         3           68 00001004 Object class\n",
         "         1           12 -------- compact 2\n",
         "         6          208 total\n",
     );
-    assert_census(
-        &rt,
-        Weak::Keep,
-        Order::Little,
-        data_of(&words, 0x1058),
-        text,
-    )
+    assert_census(&rt, Weak::Keep, &METACLASS, text)
 }

@@ -1,8 +1,14 @@
 //! Images without weak objects that are accepted, and what they are compacted to.
 
-use super::runs::{Data, assert_compacts, assert_writes, data_of};
-use sqz_object::Order;
-use sqz_test_images::{NAME, class_words, file_of};
+use super::runs::{assert_compacts, assert_writes};
+use sqz_test_images::Chunk::{Array, Classed, Free, Long, Short, Words};
+use sqz_test_images::accepted::{
+    CLASS_EDGE, CLASS_EDGE_OF_THREE_WORDS, CLASS_NAMES, CONTEXT_STACK, CONTEXT_WITH_CLASS_WORD,
+    CONTEXT_WITHOUT_STACK_POINTER, DEAD_ARRAY, DEAD_BAD_CONTEXT, DEAD_BAD_METHOD, DEAD_BAD_POINTER,
+    DEAD_WITHOUT_CLASS, FREE_CHUNK, HIGHEST_BASE, INTEGERS, METHOD_LITERALS, NIL_ALONE,
+};
+use sqz_test_images::answers::CLASS_EDGE_ANSWER;
+use sqz_test_images::{EMPTY, NIL, ODD, TestImage, file_of, with_word};
 use sqz_tool::Summary;
 use sqz_trace::Weak;
 use std::process::Abort;
@@ -10,29 +16,21 @@ use std::sync::Wait;
 use std::test::Fail;
 use std::thread::Threads;
 
-/// A word that is neither an integer nor an address.
-const ODD: u32 = 0xFFFF_FFFE;
-
-/// The header field of a method that states one literal; the bits that count none are all set.
-const METHOD: u32 = 0xFFFC_07FF;
-
 /// Asserts what is left of an image, whether weak slots are kept or cleared.
 fn assert_left<R: Threads + Wait + Sync + Abort + AllocGlobal>(
     rt: &R,
-    data: Data<'_>,
-    answer: Data<'_>,
+    image: &TestImage,
+    answer: &TestImage,
 ) -> Result<(), Fail> {
-    assert_compacts(rt, Weak::Keep, data, answer)?;
-    assert_compacts(rt, Weak::Clear, data, answer)
+    assert_compacts(rt, Weak::Keep, image, answer)?;
+    assert_compacts(rt, Weak::Clear, image, answer)
 }
 
 #[test]
 fn numbers_of_a_run(rt: HostRuntime) -> Result<(), Fail> {
-    let words = [0x1007, 0x320F, 1, 1, 0x320B, 0x1000];
-    let mut file = file_of(rt.alloc(), Order::Little, 0x1000, &words, 0x1010)?;
+    let mut file = file_of(rt.alloc(), &DEAD_ARRAY)?;
     file.extend_from_slice(&[1, 2, 3, 4, 5])?;
-    let answer = [0x1007, 0x320B, 0x1000];
-    let wanted = file_of(rt.alloc(), Order::Little, 0x1000, &answer, 0x1004)?;
+    let wanted = file_of(rt.alloc(), &NIL_ALONE)?;
     let summary = Summary {
         objects: 3,
         kept: 2,
@@ -43,160 +41,241 @@ fn numbers_of_a_run(rt: HostRuntime) -> Result<(), Fail> {
     Ok(())
 }
 
-#[test]
-fn same_as_it_was(rt: HostRuntime) -> Result<(), Fail> {
-    let some: [(&[u32], u32); 7] = [
-        (
-            &[
-                0x1007,
-                0x3217,
-                0x1000,
-                0x7FFF_FFFF,
-                0xFFFF_FFFF,
-                0x8000_0001,
-            ],
-            0x1004,
-        ),
-        (
-            &[
-                0x1007, 0xD323, 0x1000, 1, 0x1000, 0x1000, 0x1000, 0x1000, 0x1002, 0x320F, 0x1000,
-                0x1004,
-            ],
-            0x1024,
-        ),
-        (
-            &[0x1007, 0x4313, 1, 1, 0xFFFF_FFFF, 0x320F, 0x1000, 0x1004],
-            0x1014,
-        ),
-        (
-            &[0x1007, 0xC313, 1, 1, 0xFFFF_FFFF, 0x320F, 0x1000, 0x1004],
-            0x1014,
-        ),
-        (
-            &[0x1007, 0xD213, 1, 1, 0xFFFF_FFFF, 0x320F, 0x1000, 0x1004],
-            0x1014,
-        ),
-        (
-            &[
-                0x1007, 0x5C13, METHOD, 0x1000, 0x1002, 0x320F, 0x1000, 0x1004,
-            ],
-            0x1014,
-        ),
-        (
-            &[
-                0x1007, 0x5F13, METHOD, 0x1000, 0x1002, 0x320F, 0x1000, 0x1004,
-            ],
-            0x1014,
-        ),
-    ];
-    for (words, special) in some {
-        assert_left(&rt, data_of(words, special), data_of(words, special))?;
-    }
-    let words = class_words(rt.alloc(), NAME)?;
-    assert_left(&rt, data_of(&words, 0x1038), data_of(&words, 0x1038))
-}
+/// The fields of what would be a bad context, since the stack pointer is negative.
+const NEGATIVE_STACK: &[u32] = &[1, 1, 0xFFFF_FFFF];
+
+/// Format 3 with compact index 4 is no context.
+const FORMAT_OF_CONTEXT: TestImage = TestImage {
+    chunks: &[NIL, Short(4, 3, NEGATIVE_STACK), Array(&[0x1000, 0x1004])],
+    special: 0x1014,
+    ..EMPTY
+};
+
+/// Nor is it with compact index 12.
+const INDEX_BEFORE_CONTEXT: TestImage = TestImage {
+    chunks: &[NIL, Short(12, 3, NEGATIVE_STACK), Array(&[0x1000, 0x1004])],
+    special: 0x1014,
+    ..EMPTY
+};
+
+/// Nor is format 2 with compact index 13.
+const INDEX_OF_CONTEXT: TestImage = TestImage {
+    chunks: &[NIL, Short(13, 2, NEGATIVE_STACK), Array(&[0x1000, 0x1004])],
+    special: 0x1014,
+    ..EMPTY
+};
+
+/// The fields of a method: a header that states one literal, of which the bits that count none are all set, that literal, and a
+/// word behind it.
+const ONE_LITERAL: &[u32] = &[0xFFFC_07FF, 0x1000, 0x1002];
+
+/// They are a method in the lowest format of one.
+const LOWEST_METHOD_FORMAT: TestImage = TestImage {
+    chunks: &[NIL, Short(5, 12, ONE_LITERAL), Array(&[0x1000, 0x1004])],
+    special: 0x1014,
+    ..EMPTY
+};
+
+/// They are a method in the highest.
+const HIGHEST_METHOD_FORMAT: TestImage = TestImage {
+    chunks: &[NIL, Short(5, 15, ONE_LITERAL), Array(&[0x1000, 0x1004])],
+    special: 0x1014,
+    ..EMPTY
+};
 
 #[test]
-fn dead_object_of_any_kind(rt: HostRuntime) -> Result<(), Fail> {
-    let answer = data_of(&[0x1007, 0x320B, 0x1000], 0x1004);
-    let some: [(&[u32], u32); 8] = [
-        (&[0x1007, 0x10B, 1, 0x320B, 0x1000], 0x100C),
-        (&[0x1007, 0x5C0B, 0x1000, 0x320B, 0x1000], 0x100C),
-        (&[0x1007, 0xD30B, 1, 0x320B, 0x1000], 0x100C),
-        (&[0x1007, 0x2001, 0x109, 1, 0x320B, 0x1000], 0x1010),
-        (&[0x1007, 8, 0x2000, 0x200, 1, 0x320B, 0x1000], 0x1014),
-        (&[0x1007, 6, 0x320B, 0x1000], 0x1008),
-        (&[0x1007, 0xE, 1, 1, 0x320B, 0x1000], 0x1010),
-        (&[0x1007, 0x320F, 0x1002, 1, 0x320B, 0x1000], 0x1010),
-    ];
-    for (words, special) in some {
-        assert_left(&rt, data_of(words, special), answer)?;
+fn same_as_it_was(rt: HostRuntime) -> Result<(), Fail> {
+    for image in &[
+        INTEGERS,
+        CONTEXT_WITHOUT_STACK_POINTER,
+        FORMAT_OF_CONTEXT,
+        INDEX_BEFORE_CONTEXT,
+        INDEX_OF_CONTEXT,
+        LOWEST_METHOD_FORMAT,
+        HIGHEST_METHOD_FORMAT,
+        CLASS_NAMES,
+    ] {
+        assert_left(&rt, image, image)?;
     }
     Ok(())
 }
 
+/// The class word of a dead object may name nothing.
+const DEAD_BAD_CLASS_WORD: TestImage = TestImage {
+    chunks: &[NIL, Classed(0x2000, 0, 1, &[1]), Array(&[0x1000])],
+    special: 0x1010,
+    ..EMPTY
+};
+
+/// The same in a header of three words.
+const DEAD_BAD_CLASS_WORD_OF_THREE: TestImage = TestImage {
+    chunks: &[NIL, Long(0x2000, 0, 2, &[1], &[]), Array(&[0x1000])],
+    special: 0x1014,
+    ..EMPTY
+};
+
+/// A free chunk may have one word.
+const FREE_WORD: TestImage = TestImage {
+    chunks: &[NIL, Free(&[]), Array(&[0x1000])],
+    special: 0x1008,
+    ..EMPTY
+};
+
+#[test]
+fn dead_object_of_any_kind(rt: HostRuntime) -> Result<(), Fail> {
+    for image in &[
+        DEAD_WITHOUT_CLASS,
+        DEAD_BAD_METHOD,
+        DEAD_BAD_CONTEXT,
+        DEAD_BAD_CLASS_WORD,
+        DEAD_BAD_CLASS_WORD_OF_THREE,
+        FREE_WORD,
+        FREE_CHUNK,
+        DEAD_BAD_POINTER,
+    ] {
+        assert_left(&rt, image, &NIL_ALONE)?;
+    }
+    Ok(())
+}
+
+/// What `HIGHEST_BASE` is compacted to.
+const HIGHEST_BASE_ANSWER: TestImage = TestImage {
+    base: 0xFFFF_FFE8,
+    chunks: &[NIL, Array(&[0xFFFF_FFE8])],
+    special: 0xFFFF_FFEC,
+    ..EMPTY
+};
+
 #[test]
 fn highest_base(rt: HostRuntime) -> Result<(), Fail> {
-    let base = 0xFFFF_FFE8;
-    let whole = Data {
-        base,
-        words: &[0x1007, 0x320F, 1, 1, 0x320B, base],
-        special: 0xFFFF_FFF8,
-    };
-    let answer = Data {
-        base,
-        words: &[0x1007, 0x320B, base],
-        special: 0xFFFF_FFEC,
-    };
-    assert_left(&rt, whole, answer)
+    assert_left(&rt, &HIGHEST_BASE, &HIGHEST_BASE_ANSWER)
 }
+
+/// What `CLASS_EDGE_OF_THREE_WORDS` is compacted to.
+const CLASS_EDGE_OF_THREE_WORDS_ANSWER: TestImage = TestImage {
+    chunks: &[
+        NIL,
+        Short(1, 0, &[1]),
+        Words(&[8, 0x1004, 0x3FC, 1]),
+        Array(&[0x1000, 0x1014]),
+    ],
+    special: 0x101C,
+    ..EMPTY
+};
 
 #[test]
 fn class_words_that_move(rt: HostRuntime) -> Result<(), Fail> {
-    let two = [
-        0x1007, 0x320F, 1, 1, 0x100B, 1, 0x1011, 0x109, 1, 0x320F, 0x1000, 0x101C,
-    ];
-    let answer = [0x1007, 0x100B, 1, 0x1005, 0x109, 1, 0x320F, 0x1000, 0x1010];
-    assert_left(&rt, data_of(&two, 0x1024), data_of(&answer, 0x1018))?;
-    let three = [
-        0x1007, 0x320F, 1, 1, 0x100B, 1, 8, 0x1010, 0x3FC, 1, 0x320F, 0x1000, 0x1020,
-    ];
-    let answer = [
-        0x1007, 0x100B, 1, 8, 0x1004, 0x3FC, 1, 0x320F, 0x1000, 0x1014,
-    ];
-    assert_left(&rt, data_of(&three, 0x1028), data_of(&answer, 0x101C))
+    assert_left(&rt, &CLASS_EDGE, &CLASS_EDGE_ANSWER)?;
+    let answer = &CLASS_EDGE_OF_THREE_WORDS_ANSWER;
+    assert_left(&rt, &CLASS_EDGE_OF_THREE_WORDS, answer)
 }
+
+/// The fields of the context of `CONTEXT_STACK`, of which the one on the stack names an object that has moved.
+const MOVED_STACK: &[u32] = &[0x1000, 1, 3, 0x1000, 0x1000, 0x1000, 0x1004, 0x1014, 2, ODD];
+
+/// What `CONTEXT_STACK` is compacted to.
+const CONTEXT_STACK_ANSWER: TestImage = TestImage {
+    chunks: &[
+        NIL,
+        Short(1, 0, &[1]),
+        Short(13, 3, MOVED_STACK),
+        Array(&[0x1000, 0x100C]),
+    ],
+    special: 0x1038,
+    ..EMPTY
+};
+
+/// The same of `CONTEXT_WITH_CLASS_WORD`.
+const MOVED_STACK_BELOW_ODD: &[u32] = &[0x1000, 1, 3, 0x1000, 0x1000, 0x1000, 0x1004, 0x1002];
+
+/// What `CONTEXT_WITH_CLASS_WORD` is compacted to.
+const CONTEXT_WITH_CLASS_WORD_ANSWER: TestImage = TestImage {
+    chunks: &[
+        NIL,
+        Short(1, 0, &[1]),
+        Classed(0x1004, 14, 3, MOVED_STACK_BELOW_ODD),
+        Array(&[0x1000, 0x1010]),
+    ],
+    special: 0x1034,
+    ..EMPTY
+};
 
 #[test]
 fn contexts(rt: HostRuntime) -> Result<(), Fail> {
-    let words = [
-        0x1007, 0x100B, 1, 0x100B, 1, 0x100B, 1, 0xD32F, 0x1000, 1, 3, 0x1000, 0x1000, 0x1000,
-        0x100C, 0x1014, 2, ODD, 0x320F, 0x1000, 0x101C,
-    ];
-    let answer = [
-        0x1007, 0x100B, 1, 0xD32F, 0x1000, 1, 3, 0x1000, 0x1000, 0x1000, 0x1004, 0x1014, 2, ODD,
-        0x320F, 0x1000, 0x100C,
-    ];
-    assert_left(&rt, data_of(&words, 0x1048), data_of(&answer, 0x1038))?;
-    let with_class_word = [
-        0x1007, 0x320F, 1, 1, 0x100B, 1, 0x1011, 0xE325, 0x1000, 1, 3, 0x1000, 0x1000, 0x1000,
-        0x1010, 0x1002, 0x320F, 0x1000, 0x101C,
-    ];
-    let answer = [
-        0x1007, 0x100B, 1, 0x1005, 0xE325, 0x1000, 1, 3, 0x1000, 0x1000, 0x1000, 0x1004, 0x1002,
-        0x320F, 0x1000, 0x1010,
-    ];
-    assert_left(
-        &rt,
-        data_of(&with_class_word, 0x1040),
-        data_of(&answer, 0x1034),
-    )
+    assert_left(&rt, &CONTEXT_STACK, &CONTEXT_STACK_ANSWER)?;
+    let answer = &CONTEXT_WITH_CLASS_WORD_ANSWER;
+    assert_left(&rt, &CONTEXT_WITH_CLASS_WORD, answer)
 }
+
+/// What `METHOD_LITERALS` is compacted to.
+const METHOD_LITERALS_ANSWER: TestImage = TestImage {
+    chunks: &[
+        NIL,
+        Short(1, 0, &[1]),
+        Short(5, 12, &[0x801, 0x1004, 0x1000, 0x100C]),
+        Array(&[0x1000, 0x100C]),
+    ],
+    special: 0x1020,
+    ..EMPTY
+};
+
+/// A method of literals to its end.
+const LITERALS_ALONE: TestImage = TestImage {
+    chunks: &[
+        NIL,
+        Short(1, 0, &[1]),
+        Short(1, 0, &[1]),
+        Short(5, 12, &[0x801, 0x100C, 0x1000]),
+        Array(&[0x1000, 0x1014]),
+    ],
+    special: 0x1024,
+    ..EMPTY
+};
+
+/// What it is compacted to.
+const LITERALS_ALONE_ANSWER: TestImage = TestImage {
+    chunks: &[
+        NIL,
+        Short(1, 0, &[1]),
+        Short(5, 12, &[0x801, 0x1004, 0x1000]),
+        Array(&[0x1000, 0x100C]),
+    ],
+    special: 0x101C,
+    ..EMPTY
+};
 
 #[test]
 fn methods(rt: HostRuntime) -> Result<(), Fail> {
-    let with_code = [
-        0x1007, 0x100B, 1, 0x100B, 1, 0x5C17, 0x801, 0x100C, 0x1000, 0x100C, 0x320F, 0x1000, 0x1014,
-    ];
-    let answer = [
-        0x1007, 0x100B, 1, 0x5C17, 0x801, 0x1004, 0x1000, 0x100C, 0x320F, 0x1000, 0x100C,
-    ];
-    assert_left(&rt, data_of(&with_code, 0x1028), data_of(&answer, 0x1020))?;
-    let to_the_end = [
-        0x1007, 0x100B, 1, 0x100B, 1, 0x5C13, 0x801, 0x100C, 0x1000, 0x320F, 0x1000, 0x1014,
-    ];
-    let answer = [
-        0x1007, 0x100B, 1, 0x5C13, 0x801, 0x1004, 0x1000, 0x320F, 0x1000, 0x100C,
-    ];
-    assert_left(&rt, data_of(&to_the_end, 0x1024), data_of(&answer, 0x101C))
+    assert_left(&rt, &METHOD_LITERALS, &METHOD_LITERALS_ANSWER)?;
+    assert_left(&rt, &LITERALS_ALONE, &LITERALS_ALONE_ANSWER)
 }
 
+/// A dead array, and an object of format 5 whose word is an address and stays. Its header is data word 3.
+const UNTRACED_WORD: TestImage = TestImage {
+    chunks: &[
+        NIL,
+        Array(&[1]),
+        Short(1, 5, &[0x100C]),
+        Array(&[0x1000, 0x100C]),
+    ],
+    special: 0x1014,
+    ..EMPTY
+};
+
+/// What it is compacted to. The header is then data word 1.
+const UNTRACED_WORD_ANSWER: TestImage = TestImage {
+    chunks: &[NIL, Short(1, 5, &[0x100C]), Array(&[0x1000, 0x1004])],
+    special: 0x100C,
+    ..EMPTY
+};
+
+/// The formats 5, 6, 8 and 11.
 #[test]
 fn bytes_and_words(rt: HostRuntime) -> Result<(), Fail> {
     for header in [0x150B, 0x160B, 0x180B, 0x1B0B] {
-        let words = [0x1007, 0x320B, 1, header, 0x100C, 0x320F, 0x1000, 0x100C];
-        let answer = [0x1007, header, 0x100C, 0x320F, 0x1000, 0x1004];
-        assert_left(&rt, data_of(&words, 0x1014), data_of(&answer, 0x100C))?;
+        let image = with_word(UNTRACED_WORD, 3, header);
+        let answer = with_word(UNTRACED_WORD_ANSWER, 1, header);
+        assert_left(&rt, &image, &answer)?;
     }
     Ok(())
 }

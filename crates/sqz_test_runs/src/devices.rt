@@ -1,15 +1,14 @@
 //! Devices that fail in the midst of a run: at each call in turn, and at each number of bytes.
 
 use super::censuses::{CLASS_CENSUS, NIL_CENSUS};
-use super::prefixes::{LEFT, WORDS, behind};
-use super::runs::{
-    Devices, Outcome, SOUND, assert_writes_both, data_of, file_with, plan_by, run_over,
-};
+use super::prefixes::behind;
+use super::runs::{Devices, Outcome, SOUND, assert_writes_both, plan_by, run_over};
 use sqz_image::Fault;
-use sqz_object::Order;
-use sqz_test_images::{NAME, class_words};
+use sqz_test_images::accepted::{CLASS_NAMES, DEAD_ARRAY, NIL_ALONE};
+use sqz_test_images::file_of;
 use sqz_tool::Plan;
 use sqz_trace::Weak;
+use std::alloc::Global;
 use std::process::Abort;
 use std::sync::Wait;
 use std::test::Fail;
@@ -27,19 +26,18 @@ struct Case {
 }
 
 /// A dead array, the same behind 512 bytes, and an image that is compacted to itself.
-fn cases<R: Abort + AllocGlobal>(rt: &R) -> Result<Vec<Case>, Fail> {
-    let mut cases = Vec::new(rt.alloc());
+fn cases(alloc: Global) -> Result<Vec<Case>, Fail> {
+    let mut cases = Vec::new(alloc);
     for count in [0, 512] {
         cases.push(Case {
-            file: behind(rt.alloc(), count, &file_with(rt, Order::Little, WORDS)?)?,
-            image: behind(rt.alloc(), count, &file_with(rt, Order::Little, LEFT)?)?,
+            file: behind(alloc, count, &file_of(alloc, &DEAD_ARRAY)?)?,
+            image: behind(alloc, count, &file_of(alloc, &NIL_ALONE)?)?,
             text: NIL_CENSUS,
         })?;
     }
-    let words = class_words(rt.alloc(), NAME)?;
     cases.push(Case {
-        file: file_with(rt, Order::Little, data_of(&words, 0x1038))?,
-        image: file_with(rt, Order::Little, data_of(&words, 0x1038))?,
+        file: file_of(alloc, &CLASS_NAMES)?,
+        image: file_of(alloc, &CLASS_NAMES)?,
         text: CLASS_CENSUS,
     })?;
     Ok(cases)
@@ -191,7 +189,7 @@ fn assert_each_room<R: Threads + Wait + Sync + Abort + AllocGlobal>(
 
 #[test]
 fn each_call_of_a_sink(rt: HostRuntime) -> Result<(), Fail> {
-    for case in &cases(&rt)? {
+    for case in &cases(rt.alloc())? {
         for plan in &two_plans()? {
             assert_each_call(&rt, plan, case, Output::Image)?;
             assert_each_call(&rt, plan, case, Output::Census)?;
@@ -202,7 +200,7 @@ fn each_call_of_a_sink(rt: HostRuntime) -> Result<(), Fail> {
 
 #[test]
 fn each_room_of_a_sink(rt: HostRuntime) -> Result<(), Fail> {
-    for case in &cases(&rt)? {
+    for case in &cases(rt.alloc())? {
         for plan in &two_plans()? {
             assert_each_room(&rt, plan, case, Output::Image)?;
             assert_each_room(&rt, plan, case, Output::Census)?;
@@ -248,7 +246,7 @@ fn assert_each_read<R: Threads + Wait + Sync + Abort + AllocGlobal>(
 
 #[test]
 fn each_read_of_a_source(rt: HostRuntime) -> Result<(), Fail> {
-    for case in &cases(&rt)? {
+    for case in &cases(rt.alloc())? {
         for plan in &two_plans()? {
             for piece in [1, 40] {
                 assert_each_read(&rt, plan, case, piece)?;

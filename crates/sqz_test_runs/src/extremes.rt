@@ -6,7 +6,7 @@ ghost use Rattle.std.specs.Prelude.{◌<◌, IfSome};
 use super::prefixes::behind;
 use super::runs::{Devices, SOUND, nine_plans, plan_of, run_over};
 use sqz_object::Order;
-use sqz_test_images::put_words;
+use sqz_test_images::{put_header, put_words};
 use sqz_tool::{Plan, Summary};
 use sqz_trace::Weak;
 use std::alloc::{AllocError, Global};
@@ -37,8 +37,7 @@ fn large_file<R: Abort + AllocGlobal>(
     assert!(rt; words.len() < 1_000_000);
     let size = 4 * words.len() as u32;
     let mut file = Vec::new(rt.alloc());
-    put_words(&mut file, Order::Little, &[6502, 64, size, 0x1000, special])?;
-    put_words(&mut file, Order::Little, &[0; 11])?;
+    put_header(&mut file, Order::Little, size, 0x1000, special)?;
     put_words(&mut file, Order::Little, words)?;
     Ok(file)
 }

@@ -1,8 +1,9 @@
 //! Runs by workers of whom one is held: they write the same as those by workers of whom none is.
 
-use super::runs::{SOUND, data_of, file_with, plan_by, run_over, run_past};
-use sqz_object::Order;
-use sqz_test_images::{DEAD_CYCLE, DEAD_CYCLE_ANSWER};
+use super::runs::{SOUND, plan_by, run_over, run_past};
+use sqz_test_images::accepted::DEAD_CYCLE;
+use sqz_test_images::answers::DEAD_CYCLE_ANSWER;
+use sqz_test_images::file_of;
 use sqz_trace::Weak;
 use sqz_workers::{Gate, Phase};
 use std::sync::atomic::{AtomicU64, Ordering};
@@ -31,16 +32,16 @@ impl Gate for HoldingGate {
 
 #[test]
 fn same_answer_where_the_first_worker_is_held(rt: HostRuntime) -> Result<(), Fail> {
-    let wanted = file_with(&rt, Order::Little, data_of(&DEAD_CYCLE_ANSWER, 0x1014))?;
+    let wanted = file_of(rt.alloc(), &DEAD_CYCLE_ANSWER)?;
     for workers in [1, 2, 64] {
         let plan = plan_by(workers, 1, Weak::Keep)?;
-        let file = file_with(&rt, Order::Little, data_of(&DEAD_CYCLE, 0x1024))?;
+        let file = file_of(rt.alloc(), &DEAD_CYCLE)?;
         let open = run_over(&rt, rt.alloc(), &plan, file, &SOUND)?;
         assert_eq!(rt; open.image, wanted, "with {workers} workers");
         let gate = HoldingGate {
             held: AtomicU64::new(0),
         };
-        let file = file_with(&rt, Order::Little, data_of(&DEAD_CYCLE, 0x1024))?;
+        let file = file_of(rt.alloc(), &DEAD_CYCLE)?;
         let held = run_past(&rt, rt.alloc(), &plan, file, &SOUND, &gate)?;
         assert_eq!(rt;
             gate.held.load(Ordering::SeqCst),

@@ -1,11 +1,12 @@
 //! One image by several plans: the answer is the same.
 
-use super::runs::{Data, SOUND, assert_writes_both, data_of, file_with, nine_plans};
-use super::weak_censuses::{CLEARED_CLASS, WEAK_CLASS, WEAK_CLASS_CENSUS};
+use super::runs::{SOUND, assert_writes_both, nine_plans};
+use super::weak_censuses::{WEAK_CLASS, WEAK_CLASS_CENSUS, WEAK_CLASS_CLEARED};
 use sqz_marks::Workers;
-use sqz_object::Order;
 use sqz_regions::Cut;
-use sqz_test_images::{DEAD_CYCLE, DEAD_CYCLE_ANSWER};
+use sqz_test_images::accepted::DEAD_CYCLE;
+use sqz_test_images::answers::DEAD_CYCLE_ANSWER;
+use sqz_test_images::{TestImage, file_of};
 use sqz_tool::Plan;
 use sqz_trace::Weak;
 use std::process::Abort;
@@ -15,20 +16,20 @@ use std::thread::Threads;
 
 /// An image, and what a run over it writes: the answer, and the text of the census.
 #[derive(Clone, Copy)]
-pub(crate) struct Case<'a> {
-    pub data: Data<'a>,
-    pub answer: Data<'a>,
-    pub text: &'a str,
+pub(crate) struct Case {
+    pub image: TestImage,
+    pub answer: TestImage,
+    pub text: &'static str,
 }
 
 /// Asserts what a run by a plan writes.
 fn assert_answer<R: Threads + Wait + Sync + Abort + AllocGlobal>(
     rt: &R,
     plan: &Plan,
-    case: Case<'_>,
+    case: &Case,
 ) -> Result<(), Fail> {
-    let file = file_with(rt, Order::Little, case.data)?;
-    let wanted = file_with(rt, Order::Little, case.answer)?;
+    let file = file_of(rt.alloc(), &case.image)?;
+    let wanted = file_of(rt.alloc(), &case.answer)?;
     assert_writes_both(rt, plan, &SOUND, file, &wanted, case.text)
 }
 
@@ -36,7 +37,7 @@ fn assert_answer<R: Threads + Wait + Sync + Abort + AllocGlobal>(
 pub(crate) fn assert_answers<R: Threads + Wait + Sync + Abort + AllocGlobal>(
     rt: &R,
     weak: Weak,
-    case: Case<'_>,
+    case: &Case,
 ) -> Result<(), Fail> {
     for plan in &nine_plans(rt.alloc(), weak)? {
         assert_answer(rt, plan, case)?;
@@ -45,17 +46,9 @@ pub(crate) fn assert_answers<R: Threads + Wait + Sync + Abort + AllocGlobal>(
 }
 
 /// The dead cycle's image.
-const DEAD_CYCLE_CASE: Case<'static> = Case {
-    data: Data {
-        base: 0x1000,
-        words: &DEAD_CYCLE,
-        special: 0x1024,
-    },
-    answer: Data {
-        base: 0x1000,
-        words: &DEAD_CYCLE_ANSWER,
-        special: 0x1014,
-    },
+const DEAD_CYCLE_CASE: Case = Case {
+    image: DEAD_CYCLE,
+    answer: DEAD_CYCLE_ANSWER,
     text: concat!(
         "         3           20 -------- compact 1\n",
         "         1           12 -------- compact 3\n",
@@ -65,7 +58,7 @@ const DEAD_CYCLE_CASE: Case<'static> = Case {
 
 #[test]
 fn same_answer_for_each_plan(rt: HostRuntime) -> Result<(), Fail> {
-    assert_answers(&rt, Weak::Keep, DEAD_CYCLE_CASE)
+    assert_answers(&rt, Weak::Keep, &DEAD_CYCLE_CASE)
 }
 
 #[test]
@@ -77,7 +70,7 @@ fn same_answer_where_cut_points_are_given(rt: HostRuntime) -> Result<(), Fail> {
             weak: Weak::Keep,
             census: true,
         };
-        assert_answer(&rt, &plan, DEAD_CYCLE_CASE)?;
+        assert_answer(&rt, &plan, &DEAD_CYCLE_CASE)?;
     }
     Ok(())
 }
@@ -85,9 +78,9 @@ fn same_answer_where_cut_points_are_given(rt: HostRuntime) -> Result<(), Fail> {
 #[test]
 fn same_answer_where_weak_slots_are_cleared(rt: HostRuntime) -> Result<(), Fail> {
     let case = Case {
-        data: data_of(&WEAK_CLASS, 0x1040),
-        answer: data_of(&CLEARED_CLASS, 0x1024),
+        image: WEAK_CLASS,
+        answer: WEAK_CLASS_CLEARED,
         text: WEAK_CLASS_CENSUS,
     };
-    assert_answers(&rt, Weak::Clear, case)
+    assert_answers(&rt, Weak::Clear, &case)
 }

@@ -1,31 +1,16 @@
 //! Files with bytes before the header: where it is looked for, and what becomes of those bytes.
 
-use super::runs::{
-    Data, SOUND, assert_refused, assert_writes, data_of, file_with, plan_of, run_over,
-};
-use super::weak_censuses::{CLEARED_CLASS, WEAK_CLASS, WEAK_CLASS_CENSUS};
+use super::runs::{SOUND, assert_refused, assert_writes, plan_of, run_over};
+use super::weak_censuses::{WEAK_CLASS, WEAK_CLASS_CENSUS, WEAK_CLASS_CLEARED};
 use sqz_image::{Fault, MemorySink, read_image, write_image};
 use sqz_object::Order;
-use sqz_test_images::put_words;
+use sqz_test_images::accepted::{DEAD_ARRAY, NIL_ALONE};
+use sqz_test_images::{EMPTY, TestImage, file_in, file_of, put_words};
 use sqz_tool::Summary;
 use sqz_trace::Weak;
 use std::alloc::{AllocError, Global};
 use std::process::Abort;
 use std::test::Fail;
-
-/// A dead array between nil and the special objects array.
-pub(crate) const WORDS: Data<'static> = Data {
-    base: 0x1000,
-    words: &[0x1007, 0x320F, 1, 1, 0x320B, 0x1000],
-    special: 0x1010,
-};
-
-/// What is left of it.
-pub(crate) const LEFT: Data<'static> = Data {
-    base: 0x1000,
-    words: &[0x1007, 0x320B, 0x1000],
-    special: 0x1004,
-};
 
 /// So many bytes, and the bytes of a file behind them.
 pub(crate) fn behind(alloc: Global, count: usize, file: &[u8]) -> Result<Vec<u8>, AllocError> {
@@ -45,9 +30,9 @@ fn keeps_512_bytes(rt: HostRuntime) -> Result<(), Fail> {
     };
     for order in [Order::Little, Order::Big] {
         for weak in [Weak::Keep, Weak::Clear] {
-            let mut file = behind(rt.alloc(), 512, &file_with(&rt, order, WORDS)?)?;
+            let mut file = behind(rt.alloc(), 512, &file_in(rt.alloc(), order, &DEAD_ARRAY)?)?;
             file.extend_from_slice(&[1, 2, 3, 4, 5])?;
-            let wanted = behind(rt.alloc(), 512, &file_with(&rt, order, LEFT)?)?;
+            let wanted = behind(rt.alloc(), 512, &file_in(rt.alloc(), order, &NIL_ALONE)?)?;
             assert_eq!(rt; assert_writes(&rt, weak, file, &wanted)?, summary);
         }
     }
@@ -55,8 +40,8 @@ fn keeps_512_bytes(rt: HostRuntime) -> Result<(), Fail> {
 }
 
 /// The first so many bytes of a file whose image stands behind 512 bytes.
-fn cut_to<R: Abort + AllocGlobal>(rt: &R, order: Order, length: usize) -> Result<Vec<u8>, Fail> {
-    let mut file = behind(rt.alloc(), 512, &file_with(rt, order, WORDS)?)?;
+fn cut_to(alloc: Global, order: Order, length: usize) -> Result<Vec<u8>, AllocError> {
+    let mut file = behind(alloc, 512, &file_in(alloc, order, &DEAD_ARRAY)?)?;
     file.truncate(length);
     Ok(file)
 }
@@ -78,7 +63,7 @@ fn too_few_bytes(rt: HostRuntime) -> Result<(), Fail> {
     for (length, fault) in &some {
         for order in [Order::Little, Order::Big] {
             for weak in [Weak::Keep, Weak::Clear] {
-                assert_refused(&rt, weak, cut_to(&rt, order, *length)?, *fault)?;
+                assert_refused(&rt, weak, cut_to(rt.alloc(), order, *length)?, *fault)?;
             }
         }
     }
@@ -89,7 +74,7 @@ fn too_few_bytes(rt: HostRuntime) -> Result<(), Fail> {
 #[test]
 fn other_counts_of_bytes(rt: HostRuntime) -> Result<(), Fail> {
     for count in [1, 4, 508, 511, 513, 516, 1024] {
-        let file = behind(rt.alloc(), count, &file_with(&rt, Order::Little, WORDS)?)?;
+        let file = behind(rt.alloc(), count, &file_of(rt.alloc(), &DEAD_ARRAY)?)?;
         assert_refused(&rt, Weak::Keep, file, Fault::BadVersion)?;
     }
     Ok(())
@@ -106,9 +91,10 @@ fn two_images(alloc: Global, first: &[u8], second: &[u8]) -> Result<Vec<u8>, All
 #[test]
 fn front_goes_first(rt: HostRuntime) -> Result<(), Fail> {
     for (order, other) in [(Order::Little, Order::Big), (Order::Big, Order::Little)] {
-        let first = file_with(&rt, order, WORDS)?;
-        let wanted = file_with(&rt, order, LEFT)?;
-        for second in [file_with(&rt, other, LEFT)?, file_with(&rt, order, LEFT)?] {
+        let first = file_in(rt.alloc(), order, &DEAD_ARRAY)?;
+        let wanted = file_in(rt.alloc(), order, &NIL_ALONE)?;
+        for second in [other, order] {
+            let second = file_in(rt.alloc(), second, &NIL_ALONE)?;
             let file = two_images(rt.alloc(), &first, &second)?;
             assert_writes(&rt, Weak::Keep, file, &wanted)?;
         }
@@ -118,7 +104,7 @@ fn front_goes_first(rt: HostRuntime) -> Result<(), Fail> {
 
 #[test]
 fn broken_header_at_the_front(rt: HostRuntime) -> Result<(), Fail> {
-    let second = file_with(&rt, Order::Little, WORDS)?;
+    let second = file_of(rt.alloc(), &DEAD_ARRAY)?;
     let some = [
         ([6502, 68, 24, 0x1000], Fault::BadHeaderSize),
         ([6502, 64, 22, 0x1000], Fault::BadDataSize),
@@ -137,8 +123,8 @@ fn broken_header_at_the_front(rt: HostRuntime) -> Result<(), Fail> {
 #[test]
 fn census_with_weak_slots_cleared(rt: HostRuntime) -> Result<(), Fail> {
     for order in [Order::Little, Order::Big] {
-        let image = file_with(&rt, order, data_of(&WEAK_CLASS, 0x1040))?;
-        let wanted = file_with(&rt, order, data_of(&CLEARED_CLASS, 0x1024))?;
+        let image = file_in(rt.alloc(), order, &WEAK_CLASS)?;
+        let wanted = file_in(rt.alloc(), order, &WEAK_CLASS_CLEARED)?;
         let file = behind(rt.alloc(), 512, &image)?;
         let outcome = run_over(&rt, rt.alloc(), &plan_of(Weak::Clear, true)?, file, &SOUND)?;
         assert!(rt; outcome.answer.is_ok());
@@ -148,16 +134,22 @@ fn census_with_weak_slots_cleared(rt: HostRuntime) -> Result<(), Fail> {
     Ok(())
 }
 
+/// What is written of `NIL_ALONE` where no piece of it is.
+const NO_DATA: TestImage = TestImage {
+    special: 0x1004,
+    ..EMPTY
+};
+
 /// An image tells the bytes before its header, and has them written.
 #[test]
 fn bytes_of_an_image(rt: HostRuntime) -> Result<(), Fail> {
     for count in [0, 512] {
-        let file = behind(rt.alloc(), count, &file_with(&rt, Order::Little, LEFT)?)?;
+        let file = behind(rt.alloc(), count, &file_of(rt.alloc(), &NIL_ALONE)?)?;
         let image = read_image(rt.alloc(), &file)?;
         assert_eq!(rt; image.prefix(), behind(rt.alloc(), count, &[])?.as_slice());
         let mut sink = MemorySink::new(rt.alloc(), 4096, None)?;
         write_image(&image, 0x1004, &[], &mut sink)?;
-        let empty = file_with(&rt, Order::Little, data_of(&[], 0x1004))?;
+        let empty = file_of(rt.alloc(), &NO_DATA)?;
         assert_eq!(rt;
             sink.contents(),
             behind(rt.alloc(), count, &empty)?.as_slice()

@@ -1,12 +1,10 @@
 //! A run over a file in memory, and what it is to do.
 
-ghost use Rattle.std.specs.Prelude.{◌<◌, length};
-
 use sqz_image::{Fault, MemorySink, MemorySource};
 use sqz_marks::Workers;
 use sqz_object::Order;
 use sqz_regions::Cut;
-use sqz_test_images::file_of;
+use sqz_test_images::{TestImage, file_in};
 use sqz_tool::{Plan, Summary, run};
 use sqz_trace::Weak;
 use sqz_workers::{Gate, OpenGate};
@@ -165,59 +163,30 @@ pub(crate) fn assert_refused_by<R: Threads + Wait + Sync + Abort + AllocGlobal>(
     Ok(())
 }
 
-/// Data words from an address on, and the address of their special objects array.
-#[derive(Clone, Copy)]
-pub(crate) struct Data<'a> {
-    pub base: u32,
-    pub words: &'a [u32],
-    pub special: u32,
-}
-
-/// Data words from the address 0x1000 on.
-pub(crate) const fn data_of(words: &[u32], special: u32) -> Data<'_> {
-    Data {
-        base: 0x1000,
-        words,
-        special,
-    }
-}
-
-/// The bytes of a file with these data.
-pub(crate) fn file_with<R: Abort + AllocGlobal>(
-    rt: &R,
-    order: Order,
-    data: Data<'_>,
-) -> Result<Vec<u8>, Fail> {
-    assert!(rt; data.words.len() < 1000);
-    Ok(file_of(rt.alloc(), order, data.base, data.words, data.special)?)
-}
-
-/// Asserts that data are compacted to others, in either byte order.
+/// Asserts that an image is compacted to another, in either byte order.
 pub(crate) fn assert_compacts<R: Threads + Wait + Sync + Abort + AllocGlobal>(
     rt: &R,
     weak: Weak,
-    data: Data<'_>,
-    answer: Data<'_>,
+    image: &TestImage,
+    answer: &TestImage,
 ) -> Result<(), Fail> {
     for order in [Order::Little, Order::Big] {
-        let file = file_with(rt, order, data)?;
-        let wanted = file_with(rt, order, answer)?;
+        let file = file_in(rt.alloc(), order, image)?;
+        let wanted = file_in(rt.alloc(), order, answer)?;
         assert_writes(rt, weak, file, &wanted)?;
     }
     Ok(())
 }
 
-/// Asserts that a run over words from the address 0x1000 on is refused with this fault in either byte
-/// order, and writes nothing.
-pub(crate) fn assert_words_refused<R: Threads + Wait + Sync + Abort + AllocGlobal>(
+/// Asserts that a run over an image is refused with this fault in either byte order, and writes nothing.
+pub(crate) fn assert_image_refused<R: Threads + Wait + Sync + Abort + AllocGlobal>(
     rt: &R,
     weak: Weak,
-    words: &[u32],
-    special: u32,
+    image: &TestImage,
     fault: Fault,
 ) -> Result<(), Fail> {
     for order in [Order::Little, Order::Big] {
-        let file = file_with(rt, order, data_of(words, special))?;
+        let file = file_in(rt.alloc(), order, image)?;
         assert_refused(rt, weak, file, fault)?;
     }
     Ok(())

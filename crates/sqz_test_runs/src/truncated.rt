@@ -2,10 +2,14 @@
 
 use super::plans::{Case, assert_answers};
 use super::prefixes::behind;
-use super::runs::{Data, assert_refused_by, data_of, file_with, nine_plans, plan_of};
+use super::runs::{assert_refused_by, nine_plans, plan_of};
 use sqz_image::Fault;
 use sqz_object::{Order, put_word};
-use sqz_test_images::{NAME, class_words};
+use sqz_test_images::Chunk::Words;
+use sqz_test_images::accepted::{CLASS_EDGE, CLASS_NAMES};
+use sqz_test_images::answers::CLASS_EDGE_ANSWER;
+use sqz_test_images::with_defects::ALL_ONES;
+use sqz_test_images::{EMPTY, TestImage, file_in, file_of};
 use sqz_trace::Weak;
 use std::process::Abort;
 use std::sync::Wait;
@@ -27,8 +31,7 @@ fn assert_refused_by_all<R: Threads + Wait + Sync + Abort + AllocGlobal>(
 
 /// The bytes of the image with a class.
 fn class_file<R: Abort + AllocGlobal>(rt: &R) -> Result<Vec<u8>, Fail> {
-    let words = class_words(rt.alloc(), NAME)?;
-    let file = file_with(rt, Order::Little, data_of(&words, 0x1038))?;
+    let file = file_of(rt.alloc(), &CLASS_NAMES)?;
     assert_eq!(rt; file.len(), 240);
     Ok(file)
 }
@@ -67,22 +70,9 @@ fn each_length_behind_512_bytes(rt: HostRuntime) -> Result<(), Fail> {
 }
 
 /// A dead array, an object with a class word and that class.
-const EDGE: Data<'static> = Data {
-    base: 0x1000,
-    words: &[
-        0x1007, 0x320F, 1, 1, 0x100B, 1, 0x1011, 0x109, 1, 0x320F, 0x1000, 0x101C,
-    ],
-    special: 0x1024,
-};
-
-/// What they are compacted to.
-const EDGE_CASE: Case<'static> = Case {
-    data: EDGE,
-    answer: Data {
-        base: 0x1000,
-        words: &[0x1007, 0x100B, 1, 0x1005, 0x109, 1, 0x320F, 0x1000, 0x1010],
-        special: 0x1018,
-    },
+const EDGE_CASE: Case = Case {
+    image: CLASS_EDGE,
+    answer: CLASS_EDGE_ANSWER,
     text: concat!(
         "         1           12 00001004 ?\n",
         "         2           12 -------- compact 1\n",
@@ -93,7 +83,7 @@ const EDGE_CASE: Case<'static> = Case {
 
 /// The bytes of their file, whose header says that the data have so many bytes.
 fn file_that_says<R: Abort + AllocGlobal>(rt: &R, size: u32) -> Result<Vec<u8>, Fail> {
-    let mut file = file_with(rt, Order::Little, EDGE)?;
+    let mut file = file_of(rt.alloc(), &CLASS_EDGE)?;
     assert_eq!(rt; file.len(), 112);
     file[8..12].copy_from_slice(&put_word(Order::Little, size));
     Ok(file)
@@ -123,10 +113,28 @@ fn data_that_say_they_are_shorter(rt: HostRuntime) -> Result<(), Fail> {
         }
     }
     let whole = file_that_says(&rt, 48)?;
-    assert_eq!(rt; whole, file_with(&rt, Order::Little, EDGE)?);
-    assert_answers(&rt, Weak::Keep, EDGE_CASE)?;
-    assert_answers(&rt, Weak::Clear, EDGE_CASE)
+    assert_eq!(rt; whole, file_of(rt.alloc(), &CLASS_EDGE)?);
+    assert_answers(&rt, Weak::Keep, &EDGE_CASE)?;
+    assert_answers(&rt, Weak::Clear, &EDGE_CASE)
 }
+
+/// Header words that are not all there.
+const TWO_ZEROS: TestImage = TestImage {
+    chunks: &[Words(&[0; 2])],
+    ..EMPTY
+};
+
+/// A size of 0.
+const THREE_ZEROS: TestImage = TestImage {
+    chunks: &[Words(&[0; 3])],
+    ..EMPTY
+};
+
+/// Fewer words than the first of them states.
+const FOUR_ONES: TestImage = TestImage {
+    chunks: &[Words(&[0xFFFF_FFFF; 4])],
+    ..EMPTY
+};
 
 /// The words that state the least size, and those that state the most: 63 words of ones are a method with fewer literals than
 /// it states, whose field 0 names nothing.
@@ -135,17 +143,17 @@ fn words_of_zeros_and_of_ones(rt: HostRuntime) -> Result<(), Fail> {
     let overrun = Fault::Overrun { word: 0 };
     let zero_size = Fault::ZeroSize { word: 0 };
     let bad_method = Fault::BadMethod { address: 0x1000 };
-    let some: [(&[u32], Fault, Fault); 4] = [
-        (&[0; 2], overrun, overrun),
-        (&[0; 3], zero_size, zero_size),
-        (&[0xFFFF_FFFF; 4], overrun, overrun),
-        (&[0xFFFF_FFFF; 63], bad_method, Fault::NoNil),
+    let some = [
+        (TWO_ZEROS, overrun, overrun),
+        (THREE_ZEROS, zero_size, zero_size),
+        (FOUR_ONES, overrun, overrun),
+        (ALL_ONES, bad_method, Fault::NoNil),
     ];
-    for (words, kept, cleared) in some {
+    for (image, kept, cleared) in &some {
         for order in [Order::Little, Order::Big] {
-            let file = file_with(&rt, order, data_of(words, 0x1000))?;
-            assert_refused_by_all(&rt, Weak::Keep, &file, kept)?;
-            assert_refused_by_all(&rt, Weak::Clear, &file, cleared)?;
+            let file = file_in(rt.alloc(), order, image)?;
+            assert_refused_by_all(&rt, Weak::Keep, &file, *kept)?;
+            assert_refused_by_all(&rt, Weak::Clear, &file, *cleared)?;
         }
     }
     Ok(())

@@ -1,12 +1,12 @@
 //! Runs over what a run has written: they write the same once more.
 
 use super::prefixes::behind;
-use super::runs::{Data, SOUND, assert_writes, data_of, file_with, plan_of, run_over};
+use super::runs::{SOUND, assert_writes, plan_of, run_over};
 use sqz_image::Fault;
 use sqz_marks::Workers;
-use sqz_object::Order;
 use sqz_regions::Cut;
-use sqz_test_images::{IMAGES, Words};
+use sqz_test_images::accepted::NIL_ALONE;
+use sqz_test_images::{IMAGES, file_of};
 use sqz_tool::Plan;
 use sqz_trace::Weak;
 use std::process::Abort;
@@ -54,18 +54,7 @@ fn count_settled<R: Threads + Wait + Sync + Abort + AllocGlobal>(
     let mut count = 0;
     for images in IMAGES {
         for image in images {
-            let Words {
-                order,
-                base,
-                words,
-                special,
-            } = *image;
-            let data = Data {
-                base,
-                words,
-                special,
-            };
-            let file = behind(rt.alloc(), bytes_before, &file_with(rt, order, data)?)?;
+            let file = behind(rt.alloc(), bytes_before, &file_of(rt.alloc(), image)?)?;
             if settles(rt, weak, file)? {
                 assert!(rt; count < 1000);
                 count += 1;
@@ -87,8 +76,7 @@ fn second_run_changes_nothing(rt: HostRuntime) -> Result<(), Fail> {
 /// The first run leaves out five bytes that stand behind the data, and the second run changes nothing.
 #[test]
 fn bytes_after_data_are_left_out_once(rt: HostRuntime) -> Result<(), Fail> {
-    let data = data_of(&[0x1007, 0x320B, 0x1000], 0x1004);
-    let wanted = file_with(&rt, Order::Little, data)?;
+    let wanted = file_of(rt.alloc(), &NIL_ALONE)?;
     for weak in [Weak::Keep, Weak::Clear] {
         let mut file = wanted.clone()?;
         file.extend_from_slice(&[1, 2, 3, 4, 5])?;

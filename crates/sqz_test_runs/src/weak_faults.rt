@@ -1,8 +1,17 @@
 //! Images with weak objects that are refused, and images without nil.
 
-use super::runs::{assert_compacts, assert_words_refused, data_of};
-use super::weak_slots::around;
+use super::runs::{assert_compacts, assert_image_refused};
 use sqz_image::{Fault, Slot};
+use sqz_test_images::TestImage;
+use sqz_test_images::accepted::SPECIAL_ARRAY_ALONE;
+use sqz_test_images::with_defects::{
+    WEAK_BAD_BEFORE_FIELD, WEAK_NO_NIL_BEFORE_NO_CLASS, WEAK_ODD_SLOT, WEAK_SLOT_NAMES_NOTHING,
+    WEAK_WITHOUT_CLASS,
+};
+use sqz_test_images::with_weak_objects::{
+    WEAK_BAD_CLASS, WEAK_COMPACT_CLASSES, WEAK_NEGATIVE_FIXED, WEAK_SMALL_CLASS, WEAK_SPECIAL,
+    WEAK_TOO_MANY_FIXED,
+};
 use sqz_trace::Weak;
 use std::process::Abort;
 use std::sync::Wait;
@@ -12,12 +21,10 @@ use std::thread::Threads;
 /// Asserts that an image is refused with this fault where weak slots are cleared, and that where they are kept all is as it was.
 fn assert_not_cleared<R: Threads + Wait + Sync + Abort + AllocGlobal>(
     rt: &R,
-    words: &[u32],
-    special: u32,
+    image: &TestImage,
     fault: Fault,
 ) -> Result<(), Fail> {
-    assert_words_refused(rt, Weak::Clear, words, special, fault)?;
-    let image = data_of(words, special);
+    assert_image_refused(rt, Weak::Clear, image, fault)?;
     assert_compacts(rt, Weak::Keep, image, image)
 }
 
@@ -31,109 +38,51 @@ const fn bad_field(address: u32) -> Fault {
 
 #[test]
 fn bad_weak_objects(rt: HostRuntime) -> Result<(), Fail> {
-    let some: [(&[u32], u32, u32); 4] = [
-        (
-            &[
-                0x1007, 0x1113, 1, 1, 0x1000, 0x100B, 1, 0x1005, 0x409, 0x1014, 0x320F, 0x1000,
-                0x1020,
-            ],
-            0x1028,
-            0x1020,
-        ),
-        (
-            &[
-                0x1007, 0x110F, 1, 1, 0x1005, 0x409, 0x1000, 0x320F, 0x1000, 0x1014,
-            ],
-            0x101C,
-            0x1014,
-        ),
-        (
-            &[
-                0x1007, 0x1113, 1, 1, 1, 0x1005, 0x409, 0x1000, 0x320F, 0x1000, 0x1018,
-            ],
-            0x1020,
-            0x1018,
-        ),
-        (
-            &[
-                0x1007, 0x1113, 1, 1, 0x40D, 0x1005, 0x409, 0x1000, 0x320F, 0x1000, 0x1018,
-            ],
-            0x1020,
-            0x1018,
-        ),
+    let some = [
+        (WEAK_BAD_CLASS, 0x1020),
+        (WEAK_SMALL_CLASS, 0x1014),
+        (WEAK_NEGATIVE_FIXED, 0x1018),
+        (WEAK_TOO_MANY_FIXED, 0x1018),
     ];
-    for (words, special, address) in some {
-        assert_not_cleared(&rt, words, special, Fault::BadWeak { address })?;
+    for (image, address) in some {
+        assert_not_cleared(&rt, &image, Fault::BadWeak { address })?;
     }
     Ok(())
 }
 
 #[test]
 fn weak_compact_classes(rt: HostRuntime) -> Result<(), Fail> {
-    let words = around(
-        rt.alloc(),
-        &[
-            0x1007, 0x1113, 1, 1, 0x405, 0x140B, 0x1000, 0x340B, 0x1004, 0x327B, 0x1000, 0x1014,
-        ],
-        &[1; 26],
-        &[0x101C],
-    )?;
     let bad_weak = Fault::BadWeak { address: 0x1014 };
-    assert_not_cleared(&rt, &words, 0x1024, bad_weak)
+    assert_not_cleared(&rt, &WEAK_COMPACT_CLASSES, bad_weak)
 }
 
 #[test]
 fn nil_is_missing(rt: HostRuntime) -> Result<(), Fail> {
-    assert_not_cleared(&rt, &[0x1007, 0x340B, 0x1000], 0x1004, Fault::NoNil)?;
-    assert_not_cleared(&rt, &[0x3207], 0x1000, Fault::NoNil)
+    assert_not_cleared(&rt, &WEAK_SPECIAL, Fault::NoNil)?;
+    assert_not_cleared(&rt, &SPECIAL_ARRAY_ALONE, Fault::NoNil)
 }
 
 /// Images that are refused under both policies: nil counts before a missing class, this before a bad weak object, that before
 /// a bad field, and a weak slot may not be bad.
 #[test]
 fn first_of_two_faults(rt: HostRuntime) -> Result<(), Fail> {
+    let no_class = Fault::NoClass { address: 0x1004 };
     let bad_weak = Fault::BadWeak { address: 0x1018 };
-    let some: [(&[u32], u32, Fault, Fault); 5] = [
+    let bad_field = bad_field(0x1018);
+    let some = [
         (
-            &[0x40B, 1, 0x320F, 1, 0x1000],
-            0x1008,
+            WEAK_NO_NIL_BEFORE_NO_CLASS,
             Fault::NoNil,
             Fault::NoClass { address: 0x1000 },
         ),
-        (
-            &[0x1007, 0x40B, 0x1000, 0x320F, 0x1000, 0x1004],
-            0x100C,
-            Fault::NoClass { address: 0x1004 },
-            Fault::NoClass { address: 0x1004 },
-        ),
-        (
-            &[
-                0x1007, 0x1113, 1, 1, 0x1000, 0x1005, 0x409, 0x1002, 0x320F, 0x1000, 0x1018,
-            ],
-            0x1020,
-            bad_weak,
-            bad_field(0x1018),
-        ),
-        (
-            &[
-                0x1007, 0x1113, 1, 1, 0x405, 0x1005, 0x409, 0x1002, 0x320F, 0x1000, 0x1018,
-            ],
-            0x1020,
-            bad_field(0x1018),
-            bad_field(0x1018),
-        ),
-        (
-            &[
-                0x1007, 0x1113, 1, 1, 0x405, 0x1005, 0x409, 0x1008, 0x320F, 0x1000, 0x1018,
-            ],
-            0x1020,
-            bad_field(0x1018),
-            bad_field(0x1018),
-        ),
+        (WEAK_WITHOUT_CLASS, no_class, no_class),
+        (WEAK_BAD_BEFORE_FIELD, bad_weak, bad_field),
+        (WEAK_ODD_SLOT, bad_field, bad_field),
+        (WEAK_SLOT_NAMES_NOTHING, bad_field, bad_field),
     ];
-    for (words, special, cleared, kept) in some {
-        assert_words_refused(&rt, Weak::Clear, words, special, cleared)?;
-        assert_words_refused(&rt, Weak::Keep, words, special, kept)?;
+    for (image, cleared, kept) in some {
+        assert_image_refused(&rt, Weak::Clear, &image, cleared)?;
+        assert_image_refused(&rt, Weak::Keep, &image, kept)?;
     }
     Ok(())
 }

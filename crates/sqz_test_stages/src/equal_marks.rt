@@ -1,14 +1,13 @@
 //! The four ways to mark give equal marks.
 
-ghost use Rattle.std.specs.Prelude.{◌<◌, length};
-
-use super::images::{BAD_WEAK, FIXED_FIELD, FIXED_FIELD_BY_INDEX, FREE_AT_THE_END, WEAK_FIELDS};
+use super::images::{FIXED_FIELD_BY_INDEX, FREE_AT_THE_END, THREE_WEAK_SLOTS};
 use super::marking::marked_by;
 use super::tracing::{finished, flags_of, marked};
-use sqz_image::{Heap, Image, read_image};
+use sqz_image::Heap;
 use sqz_marks::Workers;
 use sqz_regions::{Cut, Regions, live_words};
-use sqz_test_images::{IMAGES, Words, file_of, image_of};
+use sqz_test_images::with_weak_objects::{WEAK_FIXED_FIELD, WEAK_TOO_MANY_FIXED};
+use sqz_test_images::{IMAGES, TestImage, image_of, words_of};
 use sqz_trace::Weak;
 use sqz_workers::{OpenGate, mark};
 use std::process::Abort;
@@ -57,11 +56,12 @@ fn assert_equal_marks<R: Threads + Wait + Sync + Abort + AllocGlobal>(
 /// Asserts it of an image under both policies on weak slots.
 fn assert_equal_under_both<R: Threads + Wait + Sync + Abort + AllocGlobal>(
     rt: &R,
-    image: &Image,
-    words: &[u32],
+    image: &TestImage,
 ) -> Result<(), Fail> {
+    let words = words_of(rt.alloc(), image)?;
+    let image = image_of(rt.alloc(), image)?;
     for weak in [Weak::Keep, Weak::Clear] {
-        assert_equal_marks(rt, image.heap(), weak, words)?;
+        assert_equal_marks(rt, image.heap(), weak, &words)?;
     }
     Ok(())
 }
@@ -70,16 +70,7 @@ fn assert_equal_under_both<R: Threads + Wait + Sync + Abort + AllocGlobal>(
 fn of_all_images(rt: HostRuntime) -> Result<(), Fail> {
     for images in IMAGES {
         for image in images {
-            let Words {
-                order,
-                base,
-                words,
-                special,
-            } = *image;
-            assert!(rt; words.len() < 1000);
-            let file = file_of(rt.alloc(), order, base, words, special)?;
-            let image = read_image(rt.alloc(), &file)?;
-            assert_equal_under_both(&rt, &image, words)?;
+            assert_equal_under_both(&rt, image)?;
         }
     }
     Ok(())
@@ -88,17 +79,14 @@ fn of_all_images(rt: HostRuntime) -> Result<(), Fail> {
 /// More weak objects, and free chunks behind all objects.
 #[test]
 fn of_weak_objects_and_of_free_chunks_at_the_end(rt: HostRuntime) -> Result<(), Fail> {
-    let some: [(&[u32], u32); 5] = [
-        (&WEAK_FIELDS, 0x1044),
-        (&FIXED_FIELD, 0x1034),
-        (&FIXED_FIELD_BY_INDEX, 0x1038),
-        (&BAD_WEAK, 0x1020),
-        (&FREE_AT_THE_END, 0x1004),
-    ];
-    for (words, special) in some {
-        assert!(rt; words.len() < 1000);
-        let image = image_of(rt.alloc(), words, special)?;
-        assert_equal_under_both(&rt, &image, words)?;
+    for image in &[
+        THREE_WEAK_SLOTS,
+        WEAK_FIXED_FIELD,
+        FIXED_FIELD_BY_INDEX,
+        WEAK_TOO_MANY_FIXED,
+        FREE_AT_THE_END,
+    ] {
+        assert_equal_under_both(&rt, image)?;
     }
     Ok(())
 }

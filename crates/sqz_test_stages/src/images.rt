@@ -1,69 +1,165 @@
-//! The data words of small images, from the address 0x1000 on, that several tests take.
+//! Small images of these tests, and what some of them are compacted to.
 
-/// The second object is dead, and the third has six words, of which three are header words. The special objects array is at
-/// 0x1028.
-pub(crate) const LONG_HEADER: [u32; 13] = [
-    0x1007, 0x320F, 1, 1, 0x10, 0x1000, 0x200, 1, 1, 1, 0x320F, 0x1000, 0x1018,
-];
+ghost use Rattle.std.specs.Prelude.{◌<◌};
 
-/// The special objects array alone.
-pub(crate) const ONE_OBJECT: [u32; 1] = [0x3207];
+use sqz_image::{Image, read_image};
+use sqz_object::Order;
+use sqz_test_images::Chunk::{Array, Classed, Free, Long, LongArray, Short, Words};
+use sqz_test_images::{EMPTY, NIL, ODD, TestImage, put_header, put_words};
+use std::alloc::Global;
+use std::test::Fail;
 
-/// Free chunks stand at the end. The special objects array is at 0x1004.
-pub(crate) const FREE_AT_THE_END: [u32; 6] = [0x1007, 0x320B, 0x1000, 6, 0xA, 1];
+/// The second object is dead, and the third has six words, of which three are header words.
+pub(crate) const LONG_HEADER: TestImage = TestImage {
+    chunks: &[
+        NIL,
+        Array(&[1, 1]),
+        Long(0x1000, 0, 2, &[1, 1, 1], &[]),
+        Array(&[0x1000, 0x1018]),
+    ],
+    special: 0x1028,
+    ..EMPTY
+};
 
-/// One object of three is dead. The special objects array is at 0x1010.
-pub(crate) const ONE_DEAD: [u32; 6] = [0x1007, 0x320F, 1, 1, 0x320B, 0x1000];
+/// Free chunks stand at the end.
+pub(crate) const FREE_AT_THE_END: TestImage = TestImage {
+    chunks: &[NIL, Array(&[0x1000]), Free(&[]), Free(&[1])],
+    special: 0x1004,
+    ..EMPTY
+};
 
-/// A class word names an object that no field names. The special objects array is at 0x1024.
-pub(crate) const CLASS_WORD: [u32; 12] = [
-    0x1007, 0x320F, 1, 1, 0x100B, 1, 0x1011, 0x109, 1, 0x320F, 0x1000, 0x101C,
-];
+/// A class word, a header of three words whose base header states two words, and a dead object.
+pub(crate) const CLASS_WORDS: TestImage = TestImage {
+    chunks: &[
+        NIL,
+        Array(&[1, 1]),
+        Short(1, 0, &[1]),
+        Classed(0x1010, 0, 1, &[1]),
+        Words(&[8, 0x1010, 0x208, 0x101C]),
+        Array(&[0x1000, 0x102C]),
+    ],
+    special: 0x1034,
+    ..EMPTY
+};
 
-/// A class word, a header of three words, and a dead object. The special objects array is at 0x1034.
-pub(crate) const CLASS_WORDS: [u32; 16] = [
-    0x1007, 0x320F, 1, 1, 0x100B, 1, 0x1011, 0x109, 1, 8, 0x1010, 0x208, 0x101C, 0x320F, 0x1000,
-    0x102C,
-];
+/// What it is compacted to.
+pub(crate) const CLASS_WORDS_ANSWER: TestImage = TestImage {
+    chunks: &[
+        NIL,
+        Short(1, 0, &[1]),
+        Classed(0x1004, 0, 1, &[1]),
+        Words(&[8, 0x1004, 0x208, 0x1010]),
+        Array(&[0x1000, 0x1020]),
+    ],
+    special: 0x1028,
+    ..EMPTY
+};
 
-/// A word that is neither an integer nor an address.
-const ODD: u32 = 0xFFFF_FFFE;
-
-/// A context up to the top of its stack, and a method with two literals. The special objects array is at 0x1044.
-pub(crate) const CONTEXT_AND_METHOD: [u32; 20] = [
-    0x1007, 0xD32F, 0x1000, 1, 3, 0x1000, 0x1000, 0x1000, 0x1000, 1, 2, ODD, 0x5C17, 0x801, 0x1000,
-    0x1000, 0x100C, 0x320F, 0x1004, 0x1030,
-];
-
-/// An object with a field that names none, and an object without a class. The special objects array is at 0x1004.
-pub(crate) const TWO_DEFECTS: [u32; 6] = [0x1007, 0x320F, 0x1002, 0x1010, 0x10B, 1];
+/// A context up to the top of its stack, and a method with two literals.
+pub(crate) const CONTEXT_AND_METHOD: TestImage = TestImage {
+    chunks: &[
+        NIL,
+        Short(
+            13,
+            3,
+            &[0x1000, 1, 3, 0x1000, 0x1000, 0x1000, 0x1000, 1, 2, ODD],
+        ),
+        Short(5, 12, &[0x801, 0x1000, 0x1000, 0x100C]),
+        Array(&[0x1004, 0x1030]),
+    ],
+    special: 0x1044,
+    ..EMPTY
+};
 
 /// A weak object, of whose three weak slots one names a live object, one a dead one, and one holds an integer. Its class word
-/// names a class without fixed fields. The first object is dead, so that all others move. The special objects array is at
-/// 0x1044.
-pub(crate) const WEAK_FIELDS: [u32; 21] = [
-    0x320F, 1, 1, 0x1007, 0x1113, 1, 1, 0x405, 0x100B, 1, 0x100B, 1, 0x1011, 0x411, 0x1020, 0x1028,
-    7, 0x3213, 0x100C, 0x1034, 0x1020,
-];
+/// names a class without fixed fields. The first object is dead, so that all others move.
+pub(crate) const THREE_WEAK_SLOTS: TestImage = TestImage {
+    chunks: &[
+        Array(&[1, 1]),
+        NIL,
+        Short(1, 1, &[1, 1, 0x405]),
+        Short(1, 0, &[1]),
+        Short(1, 0, &[1]),
+        Classed(0x1010, 0, 4, &[0x1020, 0x1028, 7]),
+        Array(&[0x100C, 0x1034, 0x1020]),
+    ],
+    special: 0x1044,
+    ..EMPTY
+};
 
-/// A weak object of two fields, of which one is fixed, as the class says that its class word names. Its weak slot names a dead
-/// object. The special objects array is at 0x1034.
-pub(crate) const FIXED_FIELD: [u32; 16] = [
-    0x1007, 0x1113, 1, 1, 0x409, 0x100B, 1, 0x100B, 1, 0x1005, 0x40D, 0x1014, 0x101C, 0x320F,
-    0x1000, 0x1028,
-];
+/// What is left of it where weak slots are cleared.
+pub(crate) const THREE_WEAK_SLOTS_CLEARED: TestImage = TestImage {
+    chunks: &[
+        NIL,
+        Short(1, 1, &[1, 1, 0x405]),
+        Short(1, 0, &[1]),
+        Classed(0x1004, 0, 4, &[0x1014, 0x1000, 7]),
+        Array(&[0x1000, 0x1020, 0x1014]),
+    ],
+    special: 0x1030,
+    ..EMPTY
+};
 
-/// The same, but its class is found by a compact index. The special objects array is at 0x1038.
-pub(crate) const FIXED_FIELD_BY_INDEX: [u32; 44] = [
-    0x1007, 0x1113, 1, 1, 0x409, 0x100B, 1, 0x100B, 1, 0x140F, 0x1014, 0x101C, 0x320B, 0x1004,
-    0x327B, 0x1000, 0x1024, 1, 1, 1, 1, 1, 1, 1, 1, 1, 1, 1, 1, 1, 1, 1, 1, 1, 1, 1, 1, 1, 1, 1, 1,
-    1, 1, 0x1030,
-];
+/// What is left of it where they are kept.
+pub(crate) const THREE_WEAK_SLOTS_KEPT: TestImage = TestImage {
+    chunks: &[
+        NIL,
+        Short(1, 1, &[1, 1, 0x405]),
+        Short(1, 0, &[1]),
+        Short(1, 0, &[1]),
+        Classed(0x1004, 0, 4, &[0x1014, 0x101C, 7]),
+        Array(&[0x1000, 0x1028, 0x1014]),
+    ],
+    special: 0x1038,
+    ..EMPTY
+};
 
-/// A weak object whose class states more fixed fields than it has. The special objects array is at 0x1020.
-pub(crate) const BAD_WEAK: [u32; 11] = [
-    0x1007, 0x1113, 1, 1, 0x40D, 0x1005, 0x409, 0x1000, 0x320F, 0x1000, 0x1018,
-];
+/// A weak object of two fields, of which one is fixed, as the class says that its compact index names. Its weak slot names a
+/// dead object.
+pub(crate) const FIXED_FIELD_BY_INDEX: TestImage = TestImage {
+    chunks: &[
+        NIL,
+        Short(1, 1, &[1, 1, 0x409]),
+        Short(1, 0, &[1]),
+        Short(1, 0, &[1]),
+        Short(1, 4, &[0x1014, 0x101C]),
+        Array(&[0x1004]),
+        LongArray(&[0x1000, 0x1024], 0x1030),
+    ],
+    special: 0x1038,
+    ..EMPTY
+};
 
-/// The special objects array is weak, and has no class word. It is at 0x1004.
-pub(crate) const WEAK_SPECIAL: [u32; 3] = [0x1007, 0x340B, 0x1000];
+/// The special objects array names three objects, which name one, two and four objects more.
+pub(crate) const FAN: TestImage = TestImage {
+    chunks: &[
+        NIL,
+        NIL,
+        NIL,
+        NIL,
+        NIL,
+        NIL,
+        NIL,
+        Short(1, 1, &[0x1000]),
+        Short(1, 1, &[0x1004, 0x1008]),
+        Short(1, 1, &[0x100C, 0x1010, 0x1014, 0x1018]),
+        Array(&[0x101C, 0x1024, 0x1030]),
+    ],
+    special: 0x1044,
+    ..EMPTY
+};
+
+/// An image of nil, of so many objects that each name the next one, and of the special objects array, which names the first.
+pub(crate) fn chain_image(alloc: Global, count: u32) -> Result<Image, Fail>
+    requires { count < 10000 }
+{
+    let order = Order::Little;
+    let mut file = Vec::new(alloc);
+    put_header(&mut file, order, 16 + 8 * count, 0x1000, 0x1004 + 8 * count)?;
+    put_words(&mut file, order, &[0x1007])?;
+    for object in 1..count {
+        put_words(&mut file, order, &[0x110B, 0x1004 + 8 * object])?;
+    }
+    put_words(&mut file, order, &[0x110B, 1, 0x320F, 0x1000, 0x1004])?;
+    Ok(read_image(alloc, &file)?)
+}

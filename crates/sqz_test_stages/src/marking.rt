@@ -4,7 +4,8 @@ use super::gates::{Hold, MEETING, TurnGate, turn_of};
 use super::tracing::{DEAD_CYCLE_MARKS, flags_of};
 use sqz_image::Heap;
 use sqz_marks::Workers;
-use sqz_test_images::{DEAD_CYCLE, image_of};
+use sqz_test_images::accepted::DEAD_CYCLE;
+use sqz_test_images::image_of;
 use sqz_trace::Weak;
 use sqz_workers::{Gate, OpenGate, Phase, mark_locked};
 use std::process::Abort;
@@ -30,7 +31,7 @@ fn assert_marks<R: Threads + Wait + Sync + Abort + AllocGlobal, G: Gate>(
     workers: u32,
     gate: &G,
 ) -> Result<(), Fail> {
-    let image = image_of(rt.alloc(), &DEAD_CYCLE, 0x1024)?;
+    let image = image_of(rt.alloc(), &DEAD_CYCLE)?;
     let flags = marked_by(rt, image.heap(), Weak::Keep, workers, gate)?;
     assert_eq!(rt;
         flags.as_slice(),

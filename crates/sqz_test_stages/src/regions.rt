@@ -3,10 +3,11 @@
 ghost use Rattle.std.specs.Prelude.{◌≡◌, length, IfOk};
 ghost use Rattle.sqz_image.specs.Objects.{object_count};
 
-use super::images::{FREE_AT_THE_END, LONG_HEADER, ONE_OBJECT};
+use super::images::{FREE_AT_THE_END, LONG_HEADER};
 use sqz_image::{Heap, Image};
 use sqz_regions::{Cut, Forward, Regions, bases, live_words};
-use sqz_test_images::{DEAD_CYCLE, image_of};
+use sqz_test_images::accepted::{DEAD_CYCLE, SPECIAL_ARRAY_ALONE};
+use sqz_test_images::image_of;
 use sqz_trace::{Weak, mark_plain};
 use std::process::Abort;
 use std::test::Fail;
@@ -95,7 +96,7 @@ fn assert_places_at<R: Threads + Sync + Abort + AllocGlobal>(
 
 #[test]
 fn dead_cycle(rt: HostRuntime) -> Result<(), Fail> {
-    let image = image_of(rt.alloc(), &DEAD_CYCLE, 0x1024)?;
+    let image = image_of(rt.alloc(), &DEAD_CYCLE)?;
     let places = DEAD_CYCLE_PLACES.as_slice();
     let bases = [0x1000, 0x1004, 0x100C];
     assert_places_at(&rt, &image, &[1, 3], &[1, 2, 5], &bases, places)?;
@@ -110,7 +111,7 @@ fn dead_cycle(rt: HostRuntime) -> Result<(), Fail> {
 /// The third object has six words, of which three are header words.
 #[test]
 fn cut_points_inside_objects(rt: HostRuntime) -> Result<(), Fail> {
-    let image = image_of(rt.alloc(), &LONG_HEADER, 0x1028)?;
+    let image = image_of(rt.alloc(), &LONG_HEADER)?;
     let places = [Some(0x1000), None, Some(0x100C), Some(0x101C)];
     let bases = [0x1000, 0x1004, 0x101C, 0x101C];
     assert_places_at(&rt, &image, &[2, 6, 8], &[1, 6, 0, 3], &bases, &places)?;
@@ -128,7 +129,7 @@ fn cut_points_inside_objects(rt: HostRuntime) -> Result<(), Fail> {
 
 #[test]
 fn one_object(rt: HostRuntime) -> Result<(), Fail> {
-    let image = image_of(rt.alloc(), &ONE_OBJECT, 0x1000)?;
+    let image = image_of(rt.alloc(), &SPECIAL_ARRAY_ALONE)?;
     let places = [Some(0x1000)];
     assert_places_at(&rt, &image, &[1], &[1, 0], &[0x1000, 0x1004], &places)?;
     assert_places_at(&rt, &image, &[5], &[1, 0], &[0x1000, 0x1004], &places)
@@ -136,7 +137,7 @@ fn one_object(rt: HostRuntime) -> Result<(), Fail> {
 
 #[test]
 fn free_chunks_at_the_end(rt: HostRuntime) -> Result<(), Fail> {
-    let image = image_of(rt.alloc(), &FREE_AT_THE_END, 0x1004)?;
+    let image = image_of(rt.alloc(), &FREE_AT_THE_END)?;
     let places = [Some(0x1000), Some(0x1004)];
     assert_places_at(&rt, &image, &[], &[3], &[0x1000], &places)?;
     let bases = [0x1000, 0x1004, 0x100C];

@@ -3,13 +3,18 @@
 ghost use Rattle.std.specs.Prelude.{◌≡◌, ◌<◌, length};
 ghost use Rattle.sqz_image.specs.Objects.{object_count};
 
-use super::images::{CLASS_WORDS, ONE_DEAD, WEAK_FIELDS};
+use super::images::{
+    CLASS_WORDS, CLASS_WORDS_ANSWER, THREE_WEAK_SLOTS, THREE_WEAK_SLOTS_CLEARED,
+    THREE_WEAK_SLOTS_KEPT,
+};
 use super::regions::places_of;
 use sqz_image::{Heap, Image};
 use sqz_marks::Workers;
 use sqz_regions::{Cut, Forward, Regions};
 use sqz_slide::{Pieces, moved_word, slide};
-use sqz_test_images::{DEAD_CYCLE, DEAD_CYCLE_ANSWER, image_of};
+use sqz_test_images::accepted::{DEAD_ARRAY, DEAD_CYCLE, NIL_ALONE};
+use sqz_test_images::answers::DEAD_CYCLE_ANSWER;
+use sqz_test_images::{TestImage, image_of, words_of};
 use sqz_trace::Weak;
 use sqz_workers::{Gate, OpenGate};
 use std::alloc::{AllocError, Global};
@@ -63,12 +68,12 @@ fn joined(alloc: Global, pieces: &[Vec<u32>]) -> Result<Vec<u32>, AllocError> {
     Ok(words)
 }
 
-/// Asserts that pieces have so many words each, and together these.
+/// Asserts that pieces have so many words each, and together those of an image.
 pub(crate) fn assert_pieces<R: Abort + AllocGlobal>(
     rt: &R,
     pieces: &Pieces,
     sizes: &[usize],
-    wanted: &[u32],
+    wanted: &TestImage,
 ) -> Result<(), Fail> {
     let pieces = pieces.as_slice();
     assert_eq!(rt; pieces.len(), sizes.len());
@@ -76,7 +81,7 @@ pub(crate) fn assert_pieces<R: Abort + AllocGlobal>(
         assert_eq!(rt; piece.len(), *size);
     }
     let words = joined(rt.alloc(), pieces)?;
-    assert_eq!(rt; words.as_slice(), wanted);
+    assert_eq!(rt; words, words_of(rt.alloc(), wanted)?);
     Ok(())
 }
 
@@ -117,7 +122,7 @@ fn moved_words<R: Threads + Sync + AllocGlobal>(
 
 #[test]
 fn dead_cycle_in_three_pieces(rt: HostRuntime) -> Result<(), Fail> {
-    let image = image_of(rt.alloc(), &DEAD_CYCLE, 0x1024)?;
+    let image = image_of(rt.alloc(), &DEAD_CYCLE)?;
     for workers in [1, 2, 64] {
         let pieces = slid(&rt, &image, Weak::Keep, &[1, 3], workers, &OpenGate)?;
         assert_pieces(&rt, &pieces, &[1, 2, 5], &DEAD_CYCLE_ANSWER)?;
@@ -127,54 +132,44 @@ fn dead_cycle_in_three_pieces(rt: HostRuntime) -> Result<(), Fail> {
 
 #[test]
 fn region_of_dead_objects_alone(rt: HostRuntime) -> Result<(), Fail> {
-    let image = image_of(rt.alloc(), &ONE_DEAD, 0x1010)?;
+    let image = image_of(rt.alloc(), &DEAD_ARRAY)?;
     let pieces = slid(&rt, &image, Weak::Keep, &[1, 4], 4, &OpenGate)?;
-    assert_pieces(&rt, &pieces, &[1, 0, 2], &[0x1007, 0x320B, 0x1000])
+    assert_pieces(&rt, &pieces, &[1, 0, 2], &NIL_ALONE)
 }
 
-/// Asserts that the words of an image after the move are these, in two pieces of so many words and one by one.
+/// Asserts that the words of an image after the move are those of another, in two pieces of so many words and one by one.
 fn assert_moves<R: Threads + Sync + Abort + AllocGlobal>(
     rt: &R,
-    image: &Image,
+    image: &TestImage,
     weak: Weak,
     point: u32,
     sizes: &[usize],
-    wanted: &[u32],
+    wanted: &TestImage,
 ) -> Result<(), Fail> {
-    let pieces = slid(rt, image, weak, &[point], 2, &OpenGate)?;
+    let image = image_of(rt.alloc(), image)?;
+    let pieces = slid(rt, &image, weak, &[point], 2, &OpenGate)?;
     assert_pieces(rt, &pieces, sizes, wanted)?;
     let one_by_one = moved_words(rt, image.heap(), weak, &Cut::every(1)?)?;
-    assert_eq!(rt; one_by_one.as_slice(), wanted);
+    assert_eq!(rt; one_by_one, words_of(rt.alloc(), wanted)?);
     Ok(())
 }
 
 #[test]
 fn class_words_and_headers_of_three_words(rt: HostRuntime) -> Result<(), Fail> {
-    let wanted = [
-        0x1007, 0x100B, 1, 0x1005, 0x109, 1, 8, 0x1004, 0x208, 0x1010, 0x320F, 0x1000, 0x1020,
-    ];
-    let image = image_of(rt.alloc(), &CLASS_WORDS, 0x1034)?;
-    assert_moves(&rt, &image, Weak::Keep, 9, &[6, 7], &wanted)
+    let wanted = &CLASS_WORDS_ANSWER;
+    assert_moves(&rt, &CLASS_WORDS, Weak::Keep, 9, &[6, 7], wanted)
 }
 
 /// A weak slot that names a dead object names nil, in its new place. One that names a live object names that, and an integer
 /// and the class word are as where slots are kept.
 #[test]
 fn weak_slots_cleared(rt: HostRuntime) -> Result<(), Fail> {
-    let wanted = [
-        0x1007, 0x1113, 1, 1, 0x405, 0x100B, 1, 0x1005, 0x411, 0x1014, 0x1000, 7, 0x3213, 0x1000,
-        0x1020, 0x1014,
-    ];
-    let image = image_of(rt.alloc(), &WEAK_FIELDS, 0x1044)?;
-    assert_moves(&rt, &image, Weak::Clear, 12, &[7, 9], &wanted)
+    let wanted = &THREE_WEAK_SLOTS_CLEARED;
+    assert_moves(&rt, &THREE_WEAK_SLOTS, Weak::Clear, 12, &[7, 9], wanted)
 }
 
 #[test]
 fn weak_slots_kept(rt: HostRuntime) -> Result<(), Fail> {
-    let wanted = [
-        0x1007, 0x1113, 1, 1, 0x405, 0x100B, 1, 0x100B, 1, 0x1005, 0x411, 0x1014, 0x101C, 7,
-        0x3213, 0x1000, 0x1028, 0x1014,
-    ];
-    let image = image_of(rt.alloc(), &WEAK_FIELDS, 0x1044)?;
-    assert_moves(&rt, &image, Weak::Keep, 12, &[9, 9], &wanted)
+    let wanted = &THREE_WEAK_SLOTS_KEPT;
+    assert_moves(&rt, &THREE_WEAK_SLOTS, Weak::Keep, 12, &[9, 9], wanted)
 }

@@ -2,7 +2,9 @@
 
 use super::gates::{Hold, MEETING, TurnGate, turn_of};
 use super::sliding::{assert_pieces, slid};
-use sqz_test_images::{DEAD_CYCLE, DEAD_CYCLE_ANSWER, image_of};
+use sqz_test_images::accepted::DEAD_CYCLE;
+use sqz_test_images::answers::DEAD_CYCLE_ANSWER;
+use sqz_test_images::image_of;
 use sqz_trace::Weak;
 use sqz_workers::Phase;
 use std::process::Abort;
@@ -14,7 +16,7 @@ fn assert_slides<R: Threads + Sync + Abort + AllocGlobal>(
     rt: &R,
     gate: &TurnGate<'_>,
 ) -> Result<(), Fail> {
-    let image = image_of(rt.alloc(), &DEAD_CYCLE, 0x1024)?;
+    let image = image_of(rt.alloc(), &DEAD_CYCLE)?;
     let pieces = slid(rt, &image, Weak::Keep, &[1, 3], 2, gate)?;
     assert_pieces(rt, &pieces, &[1, 2, 5], &DEAD_CYCLE_ANSWER)?;
     assert_eq!(rt; (gate.turns(0), gate.turns(1)), (1, 2));
@@ -45,7 +47,7 @@ fn worker_slides_while_the_other_is_held(rt: HostRuntime) -> Result<(), Fail> {
 #[test]
 fn worker_without_regions_passes_once(rt: HostRuntime) -> Result<(), Fail> {
     let gate = TurnGate::new(Phase::Slide, &[]);
-    let image = image_of(rt.alloc(), &DEAD_CYCLE, 0x1024)?;
+    let image = image_of(rt.alloc(), &DEAD_CYCLE)?;
     let pieces = slid(&rt, &image, Weak::Keep, &[], 2, &gate)?;
     assert_pieces(&rt, &pieces, &[8], &DEAD_CYCLE_ANSWER)?;
     assert_eq!(rt; (gate.turns(0), gate.turns(1)), (1, 1));

@@ -5,7 +5,7 @@ use super::sliding::{slid, slid_by};
 use sqz_image::{Image, read_image};
 use sqz_object::Order;
 use sqz_regions::Cut;
-use sqz_test_images::put_words;
+use sqz_test_images::{put_header, put_words};
 use sqz_trace::Weak;
 use sqz_workers::{Gate, Phase};
 use std::alloc::Global;
@@ -23,8 +23,7 @@ fn large_image(alloc: Global) -> Result<Image, Fail> {
     let special = 0x1010 + MANY;
     let order = Order::Little;
     let mut file = Vec::new(alloc);
-    put_words(&mut file, order, &[6502, 64, MANY + 28, 0x1000, special])?;
-    put_words(&mut file, order, &[0; 11])?;
+    put_header(&mut file, order, MANY + 28, 0x1000, special)?;
     put_words(&mut file, order, &[0x1007, MANY + 4, 0x1000, 0x800])?;
     file.resize(80 + MANY as usize, 7)?;
     put_words(&mut file, order, &[0x320F, 0x1000, 0x100C])?;
@@ -98,12 +97,7 @@ fn image_of_two(alloc: Global) -> Result<Image, Fail> {
     let special = 0x1024 + 2 * PIECE;
     let order = Order::Little;
     let mut file = Vec::new(alloc);
-    put_words(
-        &mut file,
-        order,
-        &[6502, 64, 2 * PIECE + 56, 0x1000, special],
-    )?;
-    put_words(&mut file, order, &[0; 11])?;
+    put_header(&mut file, order, 2 * PIECE + 56, 0x1000, special)?;
     put_words(&mut file, order, &[0x1007, 0x110B, 1])?;
     put_words(&mut file, order, &LARGE)?;
     file.resize(88 + PIECE as usize, 7)?;

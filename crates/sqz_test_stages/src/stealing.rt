@@ -3,11 +3,13 @@
 ghost use Rattle.std.specs.Prelude.{◌≤◌, length};
 
 use super::gates::{Hold, MEETING, Turn, TurnGate, turn_of};
+use super::images::{FAN, chain_image};
 use super::tracing::{DEAD_CYCLE_MARKS, flags_of};
 use sqz_image::Image;
 use sqz_marks::Workers;
 use sqz_regions::{Cut, Regions};
-use sqz_test_images::{DEAD_CYCLE, image_of};
+use sqz_test_images::accepted::DEAD_CYCLE;
+use sqz_test_images::image_of;
 use sqz_trace::Weak;
 use sqz_workers::{Gate, Marked, OpenGate, Phase, mark};
 use std::alloc::{AllocError, Global};
@@ -38,7 +40,7 @@ fn marked_dead_cycle<R: Threads + Sync + Abort + AllocGlobal, G: Gate>(
     workers: u32,
     gate: &G,
 ) -> Result<Marked, Fail> {
-    let image = image_of(rt.alloc(), &DEAD_CYCLE, 0x1024)?;
+    let image = image_of(rt.alloc(), &DEAD_CYCLE)?;
     let (flags, marked) = marked_by(rt, &image, cut, workers, gate)?;
     assert_eq!(rt;
         flags.as_slice(),
@@ -132,12 +134,6 @@ fn two_workers_mark_at_one_time(rt: HostRuntime) -> Result<(), Fail> {
     Ok(())
 }
 
-/// The special objects array, at 0x1044, names three objects, which name one, two and four objects more.
-const FAN: [u32; 21] = [
-    0x1007, 0x1007, 0x1007, 0x1007, 0x1007, 0x1007, 0x1007, 0x110B, 0x1000, 0x110F, 0x1004, 0x1008,
-    0x1117, 0x100C, 0x1010, 0x1014, 0x1018, 0x3213, 0x101C, 0x1024, 0x1030,
-];
-
 /// Asserts how many objects of the fan each of two workers won, where the first stops at this turn until the other has won
 /// the rest.
 fn assert_fan<R: Threads + Sync + Abort + AllocGlobal>(
@@ -156,7 +152,7 @@ fn assert_fan<R: Threads + Sync + Abort + AllocGlobal>(
         },
     ];
     let gate = TurnGate::new(Phase::Mark, &holds);
-    let image = image_of(rt.alloc(), &FAN, 0x1044)?;
+    let image = image_of(rt.alloc(), &FAN)?;
     let (_, marked) = marked_by(rt, &image, &Cut::every(1)?, 2, &gate)?;
     assert_eq!(rt; (gate.met(), gate.missed()), (2, 0), "holds");
     assert_eq!(rt;
@@ -203,25 +199,13 @@ fn chain_holds(alloc: Global, last: u32) -> Result<Vec<Hold>, AllocError>
     Ok(holds)
 }
 
-/// An image in which so many objects and one more each name the next one, and the special objects array names the first.
-fn chain_image(alloc: Global, last: u32) -> Result<Image, Fail>
-    requires { last ≤ 7 }
-{
-    let mut words = Vec::from_slice(alloc, &[0x1007])?;
-    for object in 0..last {
-        words.extend_from_slice(&[0x110B, 0x100C + 8 * object])?;
-    }
-    words.extend_from_slice(&[0x110B, 1, 0x320F, 0x1000, 0x1004])?;
-    Ok(image_of(alloc, &words, 0x100C + 8 * last)?)
-}
-
 /// Asserts that in a chain of objects each worker steals one from the worker before it, and wins the next.
 fn assert_chain<R: Threads + Sync + Abort + AllocGlobal>(rt: &R, last: u32) -> Result<(), Fail>
     requires { last ≤ 7 }
 {
     let holds = chain_holds(rt.alloc(), last)?;
     let gate = TurnGate::new(Phase::Mark, &holds);
-    let image = chain_image(rt.alloc(), last)?;
+    let image = chain_image(rt.alloc(), last + 1)?;
     let (flags, marked) = marked_by(rt, &image, &Cut::every(1)?, last + 1, &gate)?;
     assert!(rt; flags.iter().all(|flag| *flag), "all objects are marked");
     assert_eq!(rt;

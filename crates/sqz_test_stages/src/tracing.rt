@@ -3,12 +3,12 @@
 ghost use Rattle.std.specs.Prelude.{◌≡◌, length};
 ghost use Rattle.sqz_image.specs.Objects.{object_count};
 
-use super::images::{
-    BAD_WEAK, CLASS_WORD, CONTEXT_AND_METHOD, FIXED_FIELD, FIXED_FIELD_BY_INDEX, ONE_OBJECT,
-    TWO_DEFECTS, WEAK_SPECIAL,
-};
+use super::images::{CONTEXT_AND_METHOD, FIXED_FIELD_BY_INDEX};
 use sqz_image::{Fault, Heap, Image, Slot};
-use sqz_test_images::{DEAD_CYCLE, image_of};
+use sqz_test_images::accepted::{CLASS_EDGE, DEAD_CYCLE, SPECIAL_ARRAY_ALONE};
+use sqz_test_images::image_of;
+use sqz_test_images::with_defects::LOWER_OF_TWO;
+use sqz_test_images::with_weak_objects::{WEAK_FIXED_FIELD, WEAK_SPECIAL, WEAK_TOO_MANY_FIXED};
 use sqz_trace::{
     Marks, Weak, defect, finish, first_defect, first_shades, lacks_nil, mark_plain, strong, target,
     traced,
@@ -101,7 +101,7 @@ fn assert_lacks_nil<R: Abort>(rt: &R, image: &Image, wanted: bool) {
 
 #[test]
 fn marks_of_a_dead_cycle(rt: HostRuntime) -> Result<(), Fail> {
-    let image = image_of(rt.alloc(), &DEAD_CYCLE, 0x1024)?;
+    let image = image_of(rt.alloc(), &DEAD_CYCLE)?;
     let wanted = DEAD_CYCLE_MARKS.as_slice();
     let plain = marked(rt.alloc(), image.heap(), Weak::Keep)?;
     assert_eq!(rt; plain.as_slice(), wanted);
@@ -113,7 +113,7 @@ fn marks_of_a_dead_cycle(rt: HostRuntime) -> Result<(), Fail> {
 
 #[test]
 fn targets_of_slots(rt: HostRuntime) -> Result<(), Fail> {
-    let image = image_of(rt.alloc(), &CLASS_WORD, 0x1024)?;
+    let image = image_of(rt.alloc(), &CLASS_EDGE)?;
     let some = [
         (3, Slot::ClassWord, Some(2)),
         (3, Slot::Field(0), None),
@@ -129,7 +129,7 @@ fn targets_of_slots(rt: HostRuntime) -> Result<(), Fail> {
 
 #[test]
 fn traced_fields(rt: HostRuntime) -> Result<(), Fail> {
-    let image = image_of(rt.alloc(), &CONTEXT_AND_METHOD, 0x1044)?;
+    let image = image_of(rt.alloc(), &CONTEXT_AND_METHOD)?;
     assert_strong(&rt, &image, 1, 7, 7);
     assert_strong(&rt, &image, 2, 3, 3);
     assert_strong(&rt, &image, 3, 2, 2);
@@ -138,19 +138,19 @@ fn traced_fields(rt: HostRuntime) -> Result<(), Fail> {
 
 #[test]
 fn strong_fields_of_weak_objects(rt: HostRuntime) -> Result<(), Fail> {
-    let by_class_word = image_of(rt.alloc(), &FIXED_FIELD, 0x1034)?;
+    let by_class_word = image_of(rt.alloc(), &WEAK_FIXED_FIELD)?;
     assert_strong(&rt, &by_class_word, 4, 2, 1);
     assert_strong(&rt, &by_class_word, 5, 2, 2);
-    let by_index = image_of(rt.alloc(), &FIXED_FIELD_BY_INDEX, 0x1038)?;
+    let by_index = image_of(rt.alloc(), &FIXED_FIELD_BY_INDEX)?;
     assert_strong(&rt, &by_index, 4, 2, 1);
-    let bad = image_of(rt.alloc(), &BAD_WEAK, 0x1020)?;
+    let bad = image_of(rt.alloc(), &WEAK_TOO_MANY_FIXED)?;
     assert_strong(&rt, &bad, 2, 1, 0);
     Ok(())
 }
 
 #[test]
 fn defects_of_two_objects(rt: HostRuntime) -> Result<(), Fail> {
-    let image = image_of(rt.alloc(), &TWO_DEFECTS, 0x1004)?;
+    let image = image_of(rt.alloc(), &LOWER_OF_TWO)?;
     let bad_pointer = Fault::BadPointer {
         address: 0x1004,
         slot: Slot::Field(0),
@@ -166,7 +166,7 @@ fn defects_of_two_objects(rt: HostRuntime) -> Result<(), Fail> {
 
 #[test]
 fn bad_weak_object(rt: HostRuntime) -> Result<(), Fail> {
-    let image = image_of(rt.alloc(), &BAD_WEAK, 0x1020)?;
+    let image = image_of(rt.alloc(), &WEAK_TOO_MANY_FIXED)?;
     let bad_weak = Some(Fault::BadWeak { address: 0x1018 });
     assert_defects(&rt, &image, Weak::Keep, &[None; 4]);
     assert_defects(&rt, &image, Weak::Clear, &[None, None, bad_weak, None]);
@@ -177,8 +177,12 @@ fn bad_weak_object(rt: HostRuntime) -> Result<(), Fail> {
 
 #[test]
 fn images_without_nil(rt: HostRuntime) -> Result<(), Fail> {
-    assert_lacks_nil(&rt, &image_of(rt.alloc(), &ONE_OBJECT, 0x1000)?, true);
-    assert_lacks_nil(&rt, &image_of(rt.alloc(), &WEAK_SPECIAL, 0x1004)?, true);
-    assert_lacks_nil(&rt, &image_of(rt.alloc(), &BAD_WEAK, 0x1020)?, false);
+    for (image, wanted) in [
+        (SPECIAL_ARRAY_ALONE, true),
+        (WEAK_SPECIAL, true),
+        (WEAK_TOO_MANY_FIXED, false),
+    ] {
+        assert_lacks_nil(&rt, &image_of(rt.alloc(), &image)?, wanted);
+    }
     Ok(())
 }

@@ -1,0 +1,108 @@
+//! The chunks of an image, by the parts of their headers.
+
+ghost use Rattle.std.specs.Prelude.{◌≡◌, ◌%◌, ◌<◌};
+ghost use Rattle.sqz_object.specs.Value.{base_of};
+
+use std::alloc::AllocError;
+
+/// A chunk: the parts of its header, and the words behind it. The size that the header states is counted.
+#[derive(Clone, Copy)]
+pub enum Chunk {
+    /// An object with a header of one word: its compact index, its format and its fields.
+    Short(u32, u32, &'static [u32]),
+    /// An array whose class the compact index 3 names, as most special objects arrays are: its fields.
+    Array(&'static [u32]),
+    /// An array of 29 fields, as a special objects array is that names the array of compact classes: its first fields, and the
+    /// last one, which does so. Those between hold the integer 0.
+    LongArray(&'static [u32], u32),
+    /// An object with a header of two words: the address of its class, its compact index, its format and its fields.
+    Classed(u32, u32, u32, &'static [u32]),
+    /// An object with a header of three words, whose base header states no size: the address of its class, its compact index,
+    /// its format, its first fields and the others.
+    Long(u32, u32, u32, &'static [u32], &'static [u32]),
+    /// A free chunk: the words behind its first.
+    Free(&'static [u32]),
+    /// Words as they are.
+    Words(&'static [u32]),
+}
+
+/// An object without fields, which is nil at the front of an image.
+pub const NIL: Chunk = Chunk::Short(1, 0, &[]);
+
+/// A word that is neither an integer nor an address.
+pub const ODD: u32 = 0xFFFF_FFFE;
+
+/// The type of the words of a header of three.
+const OF_THREE: u32 = 0;
+
+/// The type of the words of a header of two.
+const OF_TWO: u32 = 1;
+
+/// The type of the one word of a free chunk's header.
+const OF_FREE: u32 = 2;
+
+/// The type of a header's only word.
+const OF_ONE: u32 = 3;
+
+/// The base header that states this, and a hash of 0. Of each part those bits count for which there is room.
+fn base_header(kind: u32, size: u32, format: u32, compact: u32) -> u32
+    requires { kind < 4 }
+    ensures { base_of result ≡ record { kind = kind; size_field = size % 64; format = format % 16; compact = compact % 32; hash = 0 } }
+{
+    kind + size % 64 * 4 + format % 16 * 256 + compact % 32 * 4096
+}
+
+/// How many words there are; of more than 999, which no chunk of a test has, that many.
+pub(crate) fn count_of(words: &[u32]) -> u32
+    ensures { result < 1000 }
+{
+    words.len().min(999) as u32
+}
+
+/// Puts the words of a chunk with a header of one word at the end of words.
+fn put_short(
+    words: &mut Vec<u32>,
+    compact: u32,
+    format: u32,
+    fields: &[u32],
+) -> Result<(), AllocError> {
+    words.push(base_header(OF_ONE, 1 + count_of(fields), format, compact))?;
+    words.extend_from_slice(fields)
+}
+
+/// Puts the words of an array of 29 fields at the end of words.
+fn put_long_array(words: &mut Vec<u32>, first: &[u32], last: u32) -> Result<(), AllocError> {
+    words.push(base_header(OF_ONE, 30, 2, 3))?;
+    words.extend_from_slice(first)?;
+    for _ in first.len()..28 {
+        words.push(1)?;
+    }
+    words.push(last)?;
+    Ok(())
+}
+
+/// Puts the words of a chunk at the end of words.
+pub(crate) fn put_chunk(words: &mut Vec<u32>, chunk: &Chunk) -> Result<(), AllocError> {
+    match *chunk {
+        Chunk::Short(compact, format, fields) => put_short(words, compact, format, fields),
+        Chunk::Array(fields) => put_short(words, 3, 2, fields),
+        Chunk::LongArray(first, last) => put_long_array(words, first, last),
+        Chunk::Classed(class, compact, format, fields) => {
+            let base = base_header(OF_TWO, 1 + count_of(fields), format, compact);
+            words.extend_from_slice(&[class | OF_TWO, base])?;
+            words.extend_from_slice(fields)
+        }
+        Chunk::Long(class, compact, format, first, others) => {
+            let size = 4 * (1 + count_of(first) + count_of(others));
+            let base = base_header(OF_THREE, 0, format, compact);
+            words.extend_from_slice(&[size | OF_THREE, class | OF_THREE, base])?;
+            words.extend_from_slice(first)?;
+            words.extend_from_slice(others)
+        }
+        Chunk::Free(others) => {
+            words.push(4 * (1 + count_of(others)) | OF_FREE)?;
+            words.extend_from_slice(others)
+        }
+        Chunk::Words(plain) => words.extend_from_slice(plain),
+    }
+}
