@@ -1,0 +1,72 @@
+#!/usr/bin/env python3
+"""Times each stage of a run over a made image, and `cp` beside it. Prints a table in Markdown.
+
+Usage: bench/stages.py [--part PART] [--mib N] [--runs N] [--workers N ...]
+
+The image is one of bench/compare.py: `mixed` (the default), `1 MiB` or `anywhere`. The numbers are milliseconds, each the median
+of so many times three runs, all within one process that `crates/sqz_stage_times` builds; `rt run -- --help` there makes it.
+Plain marking, which a run does not do, stands there to compare with. Copies by `cp` are made in turns with the runs."""
+
+import argparse
+import os
+import statistics
+import subprocess
+import sys
+import tempfile
+import time
+
+import compare
+
+PROGRAM = os.path.join(compare.ROOT, "crates", "sqz_stage_times", "out", "sqz_stage_times")
+NOT_OF_A_RUN = "plain"
+
+
+def timed(workers, image, out):
+    """The names of the stages, and the milliseconds of each in three runs."""
+    words = [PROGRAM, "--workers", str(workers), image, out]
+    lines = subprocess.run(words, capture_output=True, text=True, check=True).stdout.splitlines()
+    return lines[0].split(), [[float(word) for word in line.split()] for line in lines[1:]]
+
+
+def copied(image, out):
+    """The milliseconds of a copy."""
+    if os.path.exists(out):
+        os.remove(out)
+    begun = time.monotonic()
+    subprocess.run(["cp", image, out], check=True)
+    return 1000 * (time.monotonic() - begun)
+
+
+def measured(image, out, workers, count):
+    """The names of the stages, the median of each, and the medians of a whole run and of a copy."""
+    runs, copies = [], []
+    for _ in range(count):
+        copies += [copied(image, out) for _ in range(3)]
+        names, three = timed(workers, image, out)
+        runs += three
+    each = [statistics.median(column) for column in zip(*runs)]
+    left_out = names.index(NOT_OF_A_RUN)
+    whole = statistics.median(sum(run) - run[left_out] for run in runs)
+    return names, each, whole, statistics.median(copies)
+
+
+def main():
+    parser = argparse.ArgumentParser(description=__doc__.split("\n", maxsplit=1)[0])
+    parser.add_argument("--part", choices=compare.PARTS, default="mixed")
+    parser.add_argument("--mib", type=int, default=64)
+    parser.add_argument("--runs", type=int, default=3)
+    parser.add_argument("--workers", type=int, nargs="+", default=[1, 2, 4])
+    options = parser.parse_args()
+    with tempfile.TemporaryDirectory() as folder:
+        image, out = (os.path.join(folder, name) for name in ("in.image", "out.image"))
+        compare.make_image(image, options.mib * compare.MIB, compare.PARTS[options.part])
+        for number, workers in enumerate(options.workers):
+            names, each, whole, copy = measured(image, out, workers, options.runs)
+            if number == 0:
+                print("| workers | " + " | ".join(names) + " | whole run | `cp` |")
+                print("|---|" + "---:|" * (len(names) + 2))
+            print(f"| {workers} | " + " | ".join(f"{value:.0f}" for value in [*each, whole, copy]) + " |", flush=True)
+
+
+if __name__ == "__main__":
+    sys.exit(main())
