@@ -1,13 +1,13 @@
 //! A pass that is split, and two threads that claim one object.
 
-ghost use Rattle.std.specs.Prelude.{◌≡◌, ◌<◌, OnOk};
+ghost use Rattle.std.specs.Prelude.{◌≡◌, ◌<◌};
 ghost use Rattle.sqz_image.specs.Objects.{object_count};
 ghost use Rattle.sqz_marks.specs.Core.{HasSeen};
 ghost use Rattle.sqz_marks.specs.Table.{IsPassOf, start_of};
 ghost use Rattle.sqz_test_marks.specs.Passes.{IsLater, Knows};
 
 use super::steps::{
-    assert_blackens, assert_closed, assert_dead_cycle, assert_looks, claim, close_again,
+    assert_closed, assert_dead_cycle, assert_each_blackens, assert_looks, claim, close_again,
 };
 use sqz_image::{Heap, Slot};
 use sqz_marks::{Claim, Closed, MarkTable, Pass, Workers};
@@ -64,23 +64,6 @@ fn split_and_join(rt: HostRuntime) -> Result<(), Fail> {
     Ok(())
 }
 
-/// What is left to do for a pass that has claimed object 1 and blackened none.
-fn mark_rest<R: Abort + AllocGlobal>(
-    rt: &R,
-    table: &MarkTable<'_>,
-    pass: &mut Pass,
-) -> Result<(), Fail>
-    requires of { IsPassOf table.now pass.old }
-    requires count { object_count table.now.heap.memory ≡ 6 }
-    ensures { OnOk result (IsLater pass.old pass.new) }
-{
-    assert_blackens(rt, table, pass, 5, &[0])?;
-    assert_blackens(rt, table, pass, 1, &[3])?;
-    assert_blackens(rt, table, pass, 3, &[])?;
-    assert_blackens(rt, table, pass, 0, &[])?;
-    Ok(())
-}
-
 /// One of two passes wins the object and counts it, and the other one sees it, whichever comes first.
 fn race<R: Threads + Abort + AllocGlobal>(
     rt: &R,
@@ -99,7 +82,8 @@ fn race<R: Threads + Abort + AllocGlobal>(
     let second_wins = answers == (Claim::Seen(1), Claim::Won(1));
     assert!(rt; first_wins || second_wins, "{answers:?}");
     let mut pass = table.join(first, second);
-    mark_rest(rt, &table, &mut pass)?;
+    let rest: [(u32, &[u32]); 4] = [(5, &[0]), (1, &[3]), (3, &[]), (0, &[])];
+    assert_each_blackens(rt, &table, &mut pass, &rest)?;
     Ok(close_again(rt.alloc(), table, pass)?)
 }
 

@@ -114,7 +114,7 @@ pub(crate) fn assert_claims<R: Abort>(
 }
 
 /// Asserts that an object is grey, claims all that it names, asserts that this won these objects, and makes the object black.
-pub(crate) fn assert_blackens<R: Abort + AllocGlobal>(
+fn assert_blackens<R: Abort + AllocGlobal>(
     rt: &R,
     table: &MarkTable<'_>,
     pass: &mut Pass,
@@ -129,6 +129,24 @@ pub(crate) fn assert_blackens<R: Abort + AllocGlobal>(
     let mut won = Vec::new(rt.alloc());
     mark_targets(table, pass, object, &mut won)?;
     assert_eq!(rt; won.as_slice(), wanted, "object {object}");
+    Ok(())
+}
+
+/// Asserts it of objects of an image of six, one after the other: which they are, and what each of them wins.
+pub(crate) fn assert_each_blackens<R: Abort + AllocGlobal>(
+    rt: &R,
+    table: &MarkTable<'_>,
+    pass: &mut Pass,
+    each: &[(u32, &[u32])],
+) -> Result<(), Fail>
+    requires of { IsPassOf table.now pass.old }
+    requires count { object_count table.now.heap.memory ≡ 6 }
+    ensures { OnOk result (IsLater pass.old pass.new) }
+{
+    for (object, wanted) in each {
+        assert!(rt; *object < 6);
+        assert_blackens(rt, table, pass, *object, wanted)?;
+    }
     Ok(())
 }
 
@@ -197,22 +215,6 @@ fn mark_named<R: Abort>(rt: &R, table: &MarkTable<'_>, pass: &mut Pass)
     assert_claims(rt, table, pass, 3, Slot::Field(0), Claim::Seen(1));
 }
 
-/// What it does last.
-fn blacken_named<R: Abort + AllocGlobal>(
-    rt: &R,
-    table: &MarkTable<'_>,
-    pass: &mut Pass,
-) -> Result<(), Fail>
-    requires of { IsPassOf table.now pass.old }
-    requires count { object_count table.now.heap.memory ≡ 6 }
-    ensures { OnOk result (IsLater pass.old pass.new) }
-{
-    assert_blackens(rt, table, pass, 0, &[])?;
-    assert_blackens(rt, table, pass, 1, &[])?;
-    assert_blackens(rt, table, pass, 3, &[])?;
-    Ok(())
-}
-
 /// Marks the dead cycle's image with one pass, which is so many workers' share.
 fn mark_dead_cycle<R: Abort + AllocGlobal>(
     rt: &R,
@@ -226,7 +228,7 @@ fn mark_dead_cycle<R: Abort + AllocGlobal>(
     let (table, mut pass) = MarkTable::new(rt.alloc(), heap, Weak::Keep, regions, workers)?;
     mark_special(rt, &table, &mut pass)?;
     mark_named(rt, &table, &mut pass);
-    blacken_named(rt, &table, &mut pass)?;
+    assert_each_blackens(rt, &table, &mut pass, &[(0, &[]), (1, &[]), (3, &[])])?;
     Ok(close_again(rt.alloc(), table, pass)?)
 }
 
