@@ -32,7 +32,7 @@ pub const NIL: Chunk = Chunk::Short(1, 0, &[]);
 /// A word that is neither an integer nor an address.
 pub const ODD: u32 = 0xFFFF_FFFE;
 
-/// The type of the words of a header of three.
+/// The type of the words of a header of three, which leaves a size and an address as they are.
 const OF_THREE: u32 = 0;
 
 /// The type of the words of a header of two.
@@ -45,14 +45,14 @@ const OF_FREE: u32 = 2;
 const OF_ONE: u32 = 3;
 
 /// The base header that states this, and a hash of 0. Of each part those bits count for which there is room.
-fn base_header(kind: u32, size: u32, format: u32, compact: u32) -> u32
+fn base_header(kind: u32, compact: u32, format: u32, size: u32) -> u32
     requires { kind < 4 }
     ensures { base_of result ≡ record { kind = kind; size_field = size % 64; format = format % 16; compact = compact % 32; hash = 0 } }
 {
     kind + size % 64 * 4 + format % 16 * 256 + compact % 32 * 4096
 }
 
-/// How many words there are; of more than 999, which no chunk of a test has, that many.
+/// How many words there are; of more than 999, which no image of a test has, that many.
 pub(crate) fn count_of(words: &[u32]) -> u32
     ensures { result < 1000 }
 {
@@ -66,13 +66,13 @@ fn put_short(
     format: u32,
     fields: &[u32],
 ) -> Result<(), AllocError> {
-    words.push(base_header(OF_ONE, 1 + count_of(fields), format, compact))?;
+    words.push(base_header(OF_ONE, compact, format, 1 + count_of(fields)))?;
     words.extend_from_slice(fields)
 }
 
 /// Puts the words of an array of 29 fields at the end of words.
 fn put_long_array(words: &mut Vec<u32>, first: &[u32], last: u32) -> Result<(), AllocError> {
-    words.push(base_header(OF_ONE, 30, 2, 3))?;
+    words.push(base_header(OF_ONE, 3, 2, 30))?;
     words.extend_from_slice(first)?;
     for _ in first.len()..28 {
         words.push(1)?;
@@ -88,14 +88,14 @@ pub(crate) fn put_chunk(words: &mut Vec<u32>, chunk: &Chunk) -> Result<(), Alloc
         Chunk::Array(fields) => put_short(words, 3, 2, fields),
         Chunk::LongArray(first, last) => put_long_array(words, first, last),
         Chunk::Classed(class, compact, format, fields) => {
-            let base = base_header(OF_TWO, 1 + count_of(fields), format, compact);
+            let base = base_header(OF_TWO, compact, format, 1 + count_of(fields));
             words.extend_from_slice(&[class | OF_TWO, base])?;
             words.extend_from_slice(fields)
         }
         Chunk::Long(class, compact, format, first, others) => {
             let size = 4 * (1 + count_of(first) + count_of(others));
-            let base = base_header(OF_THREE, 0, format, compact);
-            words.extend_from_slice(&[size | OF_THREE, class | OF_THREE, base])?;
+            let base = base_header(OF_THREE, compact, format, 0);
+            words.extend_from_slice(&[size, class, base])?;
             words.extend_from_slice(first)?;
             words.extend_from_slice(others)
         }

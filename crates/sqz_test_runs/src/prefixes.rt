@@ -9,7 +9,6 @@ use sqz_test_images::{EMPTY, TestImage, file_in, file_of, put_words};
 use sqz_tool::Summary;
 use sqz_trace::Weak;
 use std::alloc::{AllocError, Global};
-use std::process::Abort;
 use std::test::Fail;
 
 /// So many bytes, and the bytes of a file behind them.
