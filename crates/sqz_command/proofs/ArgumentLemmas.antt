@@ -1,8 +1,9 @@
 -- What a parse reads of an argument that has a parser, in a command that excludes nothing.
+-- Serves `CommandLineLemmas`.
 use Rattle.std.proofs.Common.{◌≡◌, ◌∙◌, ◌++◌, ◌||◌, ◌<◌, ◌≤◌, ℕ, zero, suc, Bool, true, false, List, [], ◌∷◌}
 use Rattle.std.proofs.Common.{length, Option, Some, None, is_some, refl, sym, ap, subst, inl, inr, arith}
-use Rattle.std.specs.Prelude.{find, map, option_map, slice_get}
-use Rattle.std.specs.List.{All, slice_index_or}
+use Rattle.std.specs.Prelude.{find, map, option_map, slice_get, unwrap_or}
+use Rattle.std.specs.List.{All, Any, slice_index_or}
 use Rattle.std.specs.Str.{bytes_eq}
 use Rattle.std.specs.Borrow.{Bor}
 use Rattle.std.proofs.lemmas.List.{append-nil, append_assoc, get_or-map, length-map}
@@ -13,7 +14,7 @@ use Rattle.clap.specs.Words.{Accepts, AddsArg, AddsInTurn, IsParsed, IsParsedFro
 use Rattle.clap.specs.Words.{Text, args_of, found_of, groups_of, has_subcommand, matched_of, one_text, parser_of}
 use Rattle.clap.specs.Words.{read_as, reading_of}
 use Rattle.clap.specs.Built.{FitsChain, HasDistinctIds, IsAuto, KeepsList}
-use Rattle.clap.specs.Facts.{Entry, EntryPasses, HasIn, HasReading, PassesArg, WantsDefault, least_values, parser_of_value}
+use Rattle.clap.specs.Facts.{Entry, EntryPasses, HasIn, HasReading, MayBeEmpty, PassesArg, WantsDefault, least_values, parser_of_value}
 use Rattle.clap.specs.declared.builder.action.ArgAction.TheVariants.{Count, Set}
 use Rattle.clap.specs.declared.builder.arg.Arg.{Arg}
 use Rattle.clap.specs.declared.builder.command.Command.{Command}
@@ -53,8 +54,17 @@ module _ (old : Command) (m : ArgMatches) (p : IsParsedFrom old m) (plain : IsPl
   entry_of : (x : MatchedArg) → matched_of (found_of m) argument.id.now ≡ Some x
       → (e : Entry) × (e.1 ≡ x) × (e.0.now ≡ argument.id.now) × EntryPasses p.built e
   entry_of x is =
-      let got = entry_by_id (EntryPasses p.built) (found_of m).entries.items argument.id.now x parsed.values is in
-      (got.0, got.1, (bytes_eq-Decides got.0.0.now argument.id.now).0 got.2, got.3)
+      let (e, is_value, same, passes) =
+      entry_by_id (EntryPasses p.built) (found_of m).entries.items argument.id.now x parsed.values is in
+      (e, is_value, (bytes_eq-Decides e.0.now argument.id.now).0 same, passes)
+
+  -- an argument of the command as it was built that has this id and this property has its rules
+  same_rules : (Holds : Arg → Type 0) (id : Text) → id ≡ argument.id.now
+      → Any (λ a. (bytes_eq a.id.now id ≡ true) × Holds a) (args_of p.built)
+      → (its : Arg) × SameRules argument its × Holds its
+  same_rules Holds id key (j, its, within, there, (same, holds)) =
+      let same_id = subst (λ (i : Text). bytes_eq its.id.now i ≡ true) key same in
+      (its, same_rules_by_id old m p k d inside unique own j its within there same_id, holds)
 
   -- it is no group's
   no_group : (e : Entry) → e.0.now ≡ argument.id.now → EntryPasses p.built e → e.1.is_group ≡ true → ⊥
@@ -70,16 +80,16 @@ module _ (old : Command) (m : ArgMatches) (p : IsParsedFrom old m) (plain : IsPl
     -- a value passes its parser
     passes : (value : Text) → PassesArg p.built argument.id.now value → Accepts argument.ignore_case q value
     passes value pass =
-        let same = same_rules_by_id old m p k d inside unique own pass.0 pass.1 pass.2 pass.3 pass.4.0 in
-        let is_q : parser_of pass.1 ≡ q = ap parser_of_value (same.parser q parser) in
+        let (its, same, accepts) = same_rules (λ a. Accepts a.ignore_case (parser_of a) value) argument.id.now refl pass in
+        let is_q : parser_of its ≡ q = ap parser_of_value (same.parser q parser) in
         subst (λ (b : Bool). Accepts b q value) same.ignore_case
-        (subst (λ (w : ValueParser). Accepts pass.1.ignore_case w value) is_q pass.4.1)
+        (subst (λ (w : ValueParser). Accepts its.ignore_case w value) is_q accepts)
 
     -- and is read as that says
     reads : (r : Reading) → HasReading p.built argument.id.now r → r ≡ reading_of q
     reads r any =
-        let same = same_rules_by_id old m p k d inside unique own any.0 any.1 any.2 any.3 any.4.0 in
-        sym any.4.1 ∙ ap reading_of (ap parser_of_value (same.parser q parser))
+        let (its, same, reading) = same_rules (λ a. reading_of (parser_of a) ≡ r) argument.id.now refl any in
+        sym reading ∙ ap reading_of (ap parser_of_value (same.parser q parser))
 
     of_entry : (text : Text) (x : MatchedArg) (e : Entry) → e.1 ≡ x → e.0.now ≡ argument.id.now → EntryPasses p.built e
         → (values : List (Bor Text)) → x.vals.items ≡ values
@@ -118,14 +128,13 @@ module _ (old : Command) (m : ArgMatches) (p : IsParsedFrom old m) (plain : IsPl
   entry_filled action whole least e key pass = elim pass.1 [
     | inl group ↦ absurd (no_group e key pass group.0)
     | inr (inl some) ↦ some
-    | inr (inr (inl counts)) ↦
-        let any = counts.1 in
-        let same = same_rules_by_id old m p k d inside unique own any.0 any.1 any.2 any.3 (rw key at any.4.0) in
-        let bad : Set ≡ Count = rw (same.action Set action) at any.4.1 in
+    | inr (inr (inl (some, counts))) ↦
+        let (its, same, is_count) = same_rules (λ a. unwrap_or a.action Set ≡ Count) e.0.now key counts in
+        let bad : Set ≡ Count = rw (same.action Set action) at is_count in
         cc
     | inr (inr (inr any)) ↦
-        let same = same_rules_by_id old m p k d inside unique own any.0 any.1 any.2 any.3 (rw key at any.4.0) in
-        elim any.4.1 [
+        let (its, same, may_be_empty) = same_rules MayBeEmpty e.0.now key any in
+        elim may_be_empty [
           | inl none ↦ let some = same.least action least in absurd (omega arith)
           | inr splits ↦ let bad : false ≡ true = rw (same.val_delim, whole) at splits in cc
         ]

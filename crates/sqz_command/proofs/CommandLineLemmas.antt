@@ -1,4 +1,5 @@
 -- What holds of the program's command, and of what a parse of it gives.
+-- Serves `arguments::command` and `arguments::read_arguments`.
 use Rattle.std.proofs.Common.{◌≡◌, ◌⊎◌, ◌<◌, ◌∙◌, ℕ, ap, refl, sym, arith, inl, inr, zero, suc, Bool, true, false}
 use Rattle.std.proofs.Common.{◌==◌, ◌&&◌, ◌||◌, not, length, Option, Some, None, IsTrue, ◌↔◌, ap₂, subst, List, []}
 use Rattle.std.proofs.Common.{◌∷◌, slice_index, slice_index_or, codes, is_some}
@@ -104,13 +105,37 @@ one_of_two text one other test = at (bytes_eq text one) refl
     at true same = inl ((bytes_eq-Decides text one).0 same)
     at false apart = inr ((bytes_eq-Decides text other).0 (rw apart at test))
 
-module _ (start one two three four five cmd : Command) (input output workers region_words census clear_weak : Arg)
-    (first : AddsArg start input one) (second : AddsArg one output two) (third : AddsArg two workers three)
-    (fourth : AddsArg three region_words four) (fifth : AddsArg four census five) (sixth : AddsArg five clear_weak cmd)
-    (for_input : IsRequired (codes "IN") input) (for_output : IsRequired (codes "OUT") output)
-    (for_workers : IsNumber (codes "workers") (codes "4") workers)
-    (for_regions : IsNumber (codes "region-words") (codes "65536") region_words) (for_census : IsFlag (codes "census") census)
-    (for_weak : IsFlag (codes "clear-weak") clear_weak) where
+-- a command that is made of another by adding the arguments of the program in turn
+pub record IsMade (start cmd : Command) : Type 0 where
+  pub one : Command
+  pub two : Command
+  pub three : Command
+  pub four : Command
+  pub five : Command
+  pub input : Arg
+  pub output : Arg
+  pub workers : Arg
+  pub region_words : Arg
+  pub census : Arg
+  pub clear_weak : Arg
+  pub first : AddsArg start input one
+  pub second : AddsArg one output two
+  pub third : AddsArg two workers three
+  pub fourth : AddsArg three region_words four
+  pub fifth : AddsArg four census five
+  pub sixth : AddsArg five clear_weak cmd
+  pub for_input : IsRequired (codes "IN") input
+  pub for_output : IsRequired (codes "OUT") output
+  pub for_workers : IsNumber (codes "workers") (codes "4") workers
+  pub for_regions : IsNumber (codes "region-words") (codes "65536") region_words
+  pub for_census : IsFlag (codes "census") census
+  pub for_weak : IsFlag (codes "clear-weak") clear_weak
+
+module _ (start cmd : Command) (made : IsMade start cmd) where
+  open made use {one, two, three, four, five, input, output, workers, region_words, census, clear_weak}
+  open made use {first, second, third, fourth, fifth, sixth}
+  open made use {for_input, for_output, for_workers, for_regions, for_census, for_weak}
+
   -- the command's arguments are those of the command line
   pub shape_is : app_of start ≡ new_app (codes "sqzcompact") → app_of cmd ≡ command_line
   shape_is new =
@@ -192,17 +217,31 @@ module _ (start one two three four five cmd : Command) (input output workers reg
 abbrev pub ReadsText : Text → Result ℕ ParseIntError → Type 0
 ReadsText text r = ParsesUnsigned 32 10 text r × ExplainsUnsignedError 10 text r × HasUnsignedDigitsIfOk text r
 
+-- a number that was read of an option: the option's text has it
+pub record IsRead (m : ArgMatches) (name : Text) (r : Option ℕ) : Type 0 where
+  pub number : ℕ
+  pub found : r ≡ Some number
+  pub text : Text
+  pub given : one_text (found_of m) name ≡ Some text
+  pub numeral : IsNumeral 10 (without_leading_plus text)
+  pub value : digits_value 10 (without_leading_plus text) ≡ number
+
 -- so `get_one` makes a number of such an option, and its text has that
 pub number_read : (m : ArgMatches) (name : Text) (r : Option ℕ) → HasNumber m name
-    → ((t : Text) → one_text (found_of m) name ≡ Some t → ReadsOne ReadsText t r)
-    → (number : ℕ) × (r ≡ Some number) × ((text : Text) × (one_text (found_of m) name ≡ Some text)
-    × IsNumeral 10 (without_leading_plus text) × (digits_value 10 (without_leading_plus text) ≡ number))
+    → ((t : Text) → one_text (found_of m) name ≡ Some t → ReadsOne ReadsText t r) → IsRead m name r
 number_read m name r has reads =
     let text = without_minus has.0 in
     let read = reads text has.1 in
     let got = signed_reads ParseIntError ReadsText 32 0 4294967295 has.0 r read (λ u x reads. reads.0) (omega arith) has.2 in
-    let parsed = subst (ReadsOne ReadsText text) got.1 read in
-    (got.0, got.1, (text, has.1, parsed.0.0.0, sym parsed.0.1))
+    let (((numeral, fits), value), explains, digits) = subst (ReadsOne ReadsText text) got.1 read in
+    record {
+      number = got.0;
+      found = got.1;
+      text = text;
+      given = has.1;
+      numeral = numeral;
+      value = sym value;
+    }
 
 -- a flag is on where its text says so
 flag_read : (m : ArgMatches) (name : Text) (flag : Bool) → IsFlagText m name

@@ -1,4 +1,5 @@
 -- The numbers of faults as they are printed.
+-- Serves `fault_line::fault_line`.
 use Rattle.std.proofs.Common.{◌≡◌, refl}
 use Rattle.std.specs.Prelude.{decimal}
 use Rattle.std.specs.Fmt.{digits}

@@ -10,14 +10,14 @@ unwrap-requires-3 c =
     let m = c.in_ok-matches.matches in
     let given = c.in_ok-command.ensures.given m c.in_ok-matches.ensures.parsed in
     let got = number_read m (codes "workers") c.get_one.result given.workers c.get_one.ensures.value in
-    rw got.1 (search rules)
+    rw got.found (search rules)
 
 pub unwrap-requires-4 : goal.unwrap-requires-4
 unwrap-requires-4 c =
     let m = c.in_ok-matches.matches in
     let given = c.in_ok-command.ensures.given m c.in_ok-matches.ensures.parsed in
     let got = number_read m (codes "region-words") c.get_one-2.result given.region_words c.get_one-2.ensures.value in
-    rw got.1 (search rules)
+    rw got.found (search rules)
 
 pub returns-clause-input : goal.returns-clause-input
 returns-clause-input c =
@@ -34,18 +34,18 @@ returns-clause-workers c =
     let m = c.in_ok-matches.matches in
     let given = c.in_ok-command.ensures.given m c.in_ok-matches.ensures.parsed in
     let got = number_read m (codes "workers") c.get_one.result given.workers c.get_one.ensures.value in
-    let same : got.0 ≡ c.unwrap-3.result = same_Some _ _ (sym got.1 ∙ c.unwrap-3.ensures) in
+    let same : got.number ≡ c.unwrap-3.result = same_Some _ _ (sym got.found ∙ c.unwrap-3.ensures) in
     let is = one_is c.in_ok-command.field-0 _ m (codes "workers") c.in_ok-command.ensures.shape c.in_ok-matches.ensures.matches in
-    (got.2.0, is ∙ got.2.1, got.2.2, got.2.3 ∙ same)
+    (got.text, is ∙ got.given, got.numeral, got.value ∙ same)
 
 pub returns-clause-region_words : goal.returns-clause-region_words
 returns-clause-region_words c =
     let m = c.in_ok-matches.matches in
     let given = c.in_ok-command.ensures.given m c.in_ok-matches.ensures.parsed in
     let got = number_read m (codes "region-words") c.get_one-2.result given.region_words c.get_one-2.ensures.value in
-    let same : got.0 ≡ c.unwrap-4.result = same_Some _ _ (sym got.1 ∙ c.unwrap-4.ensures) in
+    let same : got.number ≡ c.unwrap-4.result = same_Some _ _ (sym got.found ∙ c.unwrap-4.ensures) in
     let is = one_is c.in_ok-command.field-0 _ m (codes "region-words") c.in_ok-command.ensures.shape c.in_ok-matches.ensures.matches in
-    (got.2.0, is ∙ got.2.1, got.2.2, got.2.3 ∙ same)
+    (got.text, is ∙ got.given, got.numeral, got.value ∙ same)
 
 pub returns-clause-census : goal.returns-clause-census
 returns-clause-census c =
