@@ -1,4 +1,5 @@
 -- What is written of an image, and the numbers of it.
+-- Serves `compaction::compaction_of`, `CorrespondenceLemmas` and `SettledLemmas`.
 use Rattle.std.proofs.Common.{◌≡◌, ℕ, ◌*◌, ◌^◌, ◌<◌, Bool, true, List, [], ◌++◌, length, slice_index_or, Option, Some}
 use Rattle.std.proofs.Common.{None, refl, sym, ap, subst, ◌∙◌}
 use Rattle.std.specs.List.{concat, AllByRecursion}
@@ -35,7 +36,8 @@ module _ (memory : Memory) (weak : Weak) (marks : List Bool) (special_object : �
       → slice_index_or places special_object None ≡ Some (place memory marks special_object)
   place_of_special places are inside = are.each special_object inside ∙ rw special_is_marked refl
 
-module _ (image : SavedImage) (weak : Weak) (marks : List Bool) (pieces : List (List ℕ)) (chunks : AllByRecursion IsChunk image.memory.chunks)
+module _ (image : SavedImage) (weak : Weak) (marks : List Bool) (pieces : List (List ℕ))
+    (chunks : AllByRecursion IsChunk image.memory.chunks)
     (words : concat pieces ≡ concat (moved_objects image.memory weak marks)) where
   -- the pieces have as many words as the live objects
   length-pieces : length (concat pieces) ≡ live_words image.memory marks

@@ -1,4 +1,5 @@
 -- The objects of a compacted image are the marked objects of the image, moved.
+-- Serves `laws::keeps_objects`; `moved_objects::dead_cycle` of `sqz_examples`.
 use Rattle.std.proofs.Common.{◌≡◌, ◌↔◌, ℕ, ◌%◌, ◌<◌, Bool, true, false, List, length, take, ap, subst, ◌∙◌, arith, inl, inr, None}
 use Rattle.std.specs.List.{AllByRecursion}
 use Rattle.std.proofs.lemmas.Bool.{cases_lt}
@@ -15,8 +16,8 @@ use Rattle.sqz_trace.specs.Graph.{is_marked}
 use Rattle.sqz_trace.specs.Live.{live}
 use Rattle.sqz_trace.specs.Reachability.{IsReachability}
 use Rattle.sqz_trace.specs.Defects.{first_defect, lacks_nil}
-use Rattle.sqz_trace.proofs.CopyLemmas.{IsCopy, marked_inside, HasEdge-copy}
-use Rattle.sqz_trace.proofs.CopiedEdgeLemmas.{strong_target-copied, HasEdge-copied}
+use Rattle.sqz_trace.proofs.CopyLemmas.{IsCopy, marked_inside, strong_target-copy, HasEdge-copy}
+use Rattle.sqz_trace.proofs.CopiedEdgeLemmas.{HasEdge-copied}
 use Rattle.sqz_regions.proofs.MarkedLemmas.{marked-inside}
 use Rattle.sqz_slide.specs.Moved.{moved_objects}
 use Rattle.sqz_slide.proofs.LengthLemmas.{words_after}
@@ -88,7 +89,7 @@ module _ (memory : Memory) (weak : Weak) (marks : List Bool) (aligned : memory.b
         inside = inside-copied memory weak marks aligned chunks sized index m special;
         words = words-copied memory weak marks aligned chunks sized index m special;
         address = address-copied memory weak marks aligned chunks sized index m special;
-        targets = λ slot. strong_target-copied memory after weak marks new copy reachable has_nil sound index slot m;
+        targets = λ slot. strong_target-copy memory after weak marks new copy reachable has_nil sound index slot m;
       }
 
   -- each edge after the move is that of an edge before

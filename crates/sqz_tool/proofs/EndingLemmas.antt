@@ -1,4 +1,5 @@
 -- From what a run answered to how the program ends.
+-- Serves `command::program`.
 use Rattle.std.proofs.Common.{◌≡◌, ◌≢◌, ℕ, ◌<◌, ◌⊎◌, Bool, List, Result, Ok, Err, arith, inl, inr}
 use Rattle.std.proofs.lemmas.Bool.Decides.{nat_tests}
 use Rattle.std.specs.Prelude.{IfOk, IfErr, MatchResult}
@@ -65,7 +66,13 @@ module _ {F S : Type 0} (views : Views F S) (words : List Text) (out new_out : S
         → 0 < exit → EndsFaulty views words exit out new_out err new_err
     ends_faulty err new_err (Ok summary) is printed untouched stops some = absurd (omega arith)
     ends_faulty err new_err (Err fault) is printed untouched stops some =
-        record { fault = fault; exit_is = is; printed = printed; untouched = untouched; refuses = ends_by fault stops (early_or_late fault) }
+        record {
+          fault = fault;
+          exit_is = is;
+          printed = printed;
+          untouched = untouched;
+          refuses = ends_by fault stops (early_or_late fault);
+        }
 
   -- memory was refused while the words were read
   pub ends_without_memory : (err new_err : SinkState) → exit ≡ 4 → new_out ≡ out → PrintsFault err new_err OutOfMemory

@@ -1,4 +1,5 @@
 -- From what a run did, and what stopped it, to the run's contract.
+-- Serves `compact_files::compact` and `running::run`.
 use Rattle.std.proofs.Common.{◌≡◌, ◌≢◌, ℕ, ◌≤◌, ◌⊎◌, Bool, true, false, List, None, refl, sym, subst, arith, inl, inr}
 use Rattle.sqz_object.specs.declared.chunk.ChunkFault.{ChunkFault}
 use Rattle.sqz_object.specs.declared.chunk.ChunkFault.TheVariants.{ZeroSize, HeaderMismatch, Overrun}
@@ -16,7 +17,8 @@ use Rattle.sqz_tool.specs.declared.summary.Summary.{Summary}
 use Rattle.sqz_tool.specs.Compacted.{compacted}
 use Rattle.sqz_tool.specs.Verdict.{IsAccepted, IsRefused}
 use Rattle.sqz_command.specs.Exits.{exit_of}
-use Rattle.sqz_tool.specs.Headline.{IsCompaction, LacksNilIn, HasDefectIn, Sinks, sinks, Reports, Compacts, RefusesFile, Refuses}
+use Rattle.sqz_tool.specs.Headline.{IsCompaction, LacksNilIn, HasDefectIn, Sinks, sinks, Reports, Compacts, RefusesFile}
+use Rattle.sqz_tool.specs.Headline.{StopsAtImage, StopsAtCensus, Refuses}
 use Rattle.sqz_tool.proofs.SettledLemmas.{IsSettled-accepted}
 use Rattle.clap.specs.Words.{Text}
 use Rattle.sqz_tool.specs.FileRuns.{Views, RunsFiles}
@@ -66,14 +68,12 @@ module _ (weak : Weak) (census : Bool) (from to : SourceState) (old new : Sinks)
   module _ (fault : Fault) where
     -- the source stopped before the end, or memory was refused
     pub refuses_reading : new ≡ old → ReadStops from to fault → Refuses weak census from to old new fault
-    refuses_reading untouched stops =
-        elim stops.1 [
-          | inl (memory, unfinished) ↦
-              subst (Refuses weak census from to old new) (sym memory)
-              (record { front = stops.0.0; taken = stops.0.1; cause = inl unfinished; untouched = untouched })
-          | inr (named, cause) ↦
-              subst (Refuses weak census from to old new) (sym named) (record { stops = (stops.0, inr (refl, cause)); untouched = untouched })
-        ]
+    refuses_reading untouched ((front, taken), inl (memory, unfinished)) =
+        subst (Refuses weak census from to old new) (sym memory)
+        (record { front = front; taken = taken; cause = inl unfinished; untouched = untouched })
+    refuses_reading untouched (read, inr (named, cause)) =
+        subst (Refuses weak census from to old new) (sym named)
+        (record { stops = (read, inr (refl, cause)); untouched = untouched })
 
     module _ (file : List ℕ) where
       -- memory was refused once a file with a sound header was read
@@ -125,24 +125,28 @@ module _ (weak : Weak) (census : Bool) (from to : SourceState) (old new : Sinks)
   abbrev bytes : List ℕ
   bytes = file_with image.memory.order image.prefix image.header special pieces
 
+  -- the bytes of the compaction, as the contract says them
+  abbrev compacted_bytes : List ℕ
+  compacted_bytes = file_bytes (compacted image weak is.marks)
+
+  -- where a sink stopped the run is refused for that
+  refuses_stopped : (fault : Fault) → fault ≡ WriteFailed
+      → StopsAtImage compacted_bytes old new ⊎ ((census ≡ true) × StopsAtCensus weak image.memory is.marks compacted_bytes old new)
+      → Refuses weak census from to old new fault
+  refuses_stopped fault named stops =
+      subst (Refuses weak census from to old new) (sym named)
+      (record { file = file; read = read; image = image; marks = is.marks; accepted = accepted; stops = stops })
+
   -- and not wholly written
   pub refuses_writing : (fault : Fault) → new.census ≡ old.census → WriteStops old.image new.image bytes fault
       → Refuses weak census from to old new fault
   refuses_writing fault untouched stops =
       let moved = subst (λ (b : List ℕ). WriteStops old.image new.image b fault) is.bytes stops in
-      let named = subst (WriteStops old.image new.image (file_bytes (compacted image weak is.marks))) stops.named moved in
-      subst (Refuses weak census from to old new) (sym stops.named)
-      (record {
-        file = file;
-        read = read;
-        image = image;
-        marks = is.marks;
-        accepted = accepted;
-        stops = inl (record { stops = named; untouched = untouched });
-      })
+      let named = subst (WriteStops old.image new.image compacted_bytes) stops.named moved in
+      refuses_stopped fault stops.named (inl (record { stops = named; untouched = untouched }))
 
   module _ (written : WritesWhole old.image new.image bytes) where
-    moved_written : WritesWhole old.image new.image (file_bytes (compacted image weak is.marks))
+    moved_written : WritesWhole old.image new.image compacted_bytes
     moved_written = subst (WritesWhole old.image new.image) is.bytes written
 
     -- written, but the census is not
@@ -150,15 +154,8 @@ module _ (weak : Weak) (census : Bool) (from to : SourceState) (old new : Sinks)
         → Refuses weak census from to old new fault
     refuses_report fault asked stops =
         let named = subst (WriteStops old.census new.census text) stops.named stops in
-        subst (Refuses weak census from to old new) (sym stops.named)
-        (record {
-          file = file;
-          read = read;
-          image = image;
-          marks = is.marks;
-          accepted = accepted;
-          stops = inr (asked, record { written = moved_written; text = text; report = is.reported asked; stops = named });
-        })
+        refuses_stopped fault stops.named
+        (inr (asked, record { written = moved_written; text = text; report = is.reported asked; stops = named }))
 
     module _ (are_bytes : AreBytes file) where
       -- and written, with what there is to report

@@ -1,4 +1,5 @@
 -- What is left of an image is its own compaction.
+-- Serves `laws::compacts_once` and `RunLemmas`.
 use Rattle.std.proofs.Common.{◌≡◌, ℕ, ◌+◌, ◌*◌, ◌^◌, ◌<◌, ◌≤◌, Bool, true, false, cond, List, [], length, slice_index, Some, None}
 use Rattle.std.proofs.Common.{refl, sym, ap, ◌∙◌, arith, is_some}
 use Rattle.std.specs.List.{concat, AllByRecursion}
@@ -193,4 +194,5 @@ module _ (image : SavedImage) (weak : Weak) (marks : List Bool) (saved : IsSaved
 pub IsSettled-accepted : (weak : Weak) (file : List ℕ) (image : SavedImage) (marks : List Bool) → AreBytes file
     → IsAccepted weak file image marks → IsSettled weak (file_bytes (compacted image weak marks))
 IsSettled-accepted weak file image marks bytes accepted =
-    IsSettled-compacted image weak marks (IsSaved-read file image bytes accepted.holds.parts) accepted.reachable accepted.has_nil accepted.sound
+    IsSettled-compacted image weak marks (IsSaved-read file image bytes accepted.holds.parts)
+    accepted.reachable accepted.has_nil accepted.sound

@@ -9,7 +9,8 @@ use Rattle.sqz_tool.proofs.compaction.compaction_of.Goals as goal
 pub unwrap-special-requires : goal.unwrap-special-requires
 unwrap-special-requires g c =
     let marks = c.in_ok-marked.marked.marks in
-    let special = place_of_special c.heap-heap.result.now c.args.plan.now.weak marks c.special.result c.in_ok-marked.ensures.reachable c.special.ensures.special
+    let special = place_of_special c.heap-heap.result.now c.args.plan.now.weak marks c.special.result
+    c.in_ok-marked.ensures.reachable c.special.ensures.special
     c.in_ok-forward.forward c.in_ok-forward.ensures.places c.special.ensures.inside in
     ap is_some (c.place.ensures.place ∙ special)
 
