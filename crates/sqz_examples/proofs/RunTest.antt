@@ -1,4 +1,5 @@
 -- Whether events of passes over an object memory are a legal run, by a test that computes.
+-- Serves `marking::one_pass` and `marking::two_passes`.
 use Rattle.std.proofs.Common.{◌≡◌, ◌≢◌, ℕ, Bool, true, ◌&&◌, not, eqb, ltb, leb, List, [], ◌∷◌, length, refl}
 use Rattle.std.proofs.Common.{eq-eqb}
 use Rattle.std.proofs.lemmas.Bool.{ltb-true, leb-true, eqb-true, and_parts}
@@ -51,8 +52,11 @@ module _ (heap : Regioning) (weak : Weak) (workers start : ℕ) where
       let view : View = pass_at state.passes pass in
       let seen : Bool = all_named_pass heap.memory weak (has_seen view) (chunk_words heap.memory object) in
       let a = and_parts (has_seen view object) (ltb object (object_count heap.memory) && seen) h in
-      let b = and_parts (ltb object (object_count heap.memory)) seen a.1 in
-      (ltb-true _ _ a.0, ltb-true _ _ b.0, λ target edge. ltb-true _ _ (targets_pass heap.memory weak (has_seen view) object target b.1 edge))
+      let b = and_parts (ltb object (object_count heap.memory)) seen a.1 in (
+        ltb-true _ _ a.0,
+        ltb-true _ _ b.0,
+        λ target edge. ltb-true _ _ (targets_pass heap.memory weak (has_seen view) object target b.1 edge),
+      )
   is_met-true state pass (Split weight) h =
       let parts = and_parts (leb 1 weight) (ltb weight (pass_at state.passes pass).weight) h in
       (leb-true _ _ parts.0, ltb-true _ _ parts.1)
@@ -66,7 +70,8 @@ module _ (heap : Regioning) (weak : Weak) (workers start : ℕ) where
   abbrev pub is_legal : State → List (ℕ × Event) → Bool
   is_legal state [] = true
   is_legal state ((pass, event) ∷ run) =
-      ltb pass (length state.passes) && (is_met state pass event && is_legal (after (marking_of heap weak workers start) state pass event) run)
+      ltb pass (length state.passes)
+      && (is_met state pass event && is_legal (after (marking_of heap weak workers start) state pass event) run)
 
   -- the state in which a run ends
   abbrev pub last_state : State → List (ℕ × Event) → State

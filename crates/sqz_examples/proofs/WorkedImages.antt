@@ -1,4 +1,6 @@
 -- A worked image by what computes: what a file holds, and what becomes of it.
+-- Serves the worked images of `compacted`, `defects`, `prefixes`, `unreadable` and `weak_slots`, and
+-- `moved_objects::dead_cycle`.
 use Rattle.std.proofs.Common.{◌≡◌, ℕ, ◌+◌, Bool, true, false, ◌&&◌, eqb, List, [], ◌∷◌, ◌++◌, length, take, drop, Option, Some}
 use Rattle.std.proofs.Common.{None, refl, sym, ap, subst, ◌∙◌, arith, inl, inr}
 use Rattle.std.specs.Option.{is_some, is_none}
@@ -120,50 +122,57 @@ module _ (file : List ℕ) (order : Order) (chunks : List (List ℕ)) where
         refused = refl;
       })
 
-  module _ (weak : Weak) (paths : List (Option (List ℕ))) where
-    -- the file holds that image, and its reachable objects are those that have a path here
-    pub record IsTraced : Type 0 where
-      pub holds : Holds file image_in
-      pub reachable : IsReachability image_in.memory weak (marks_of paths)
+-- the file holds that image, and its reachable objects are those that have a path here
+record IsTraced (weak : Weak) (file : List ℕ) (order : Order) (chunks : List (List ℕ)) (paths : List (Option (List ℕ))) : Type 0 where
+  holds : Holds file (image_in file order chunks)
+  reachable : IsReachability (image_in file order chunks).memory weak (marks_of paths)
 
-    -- by what computes
-    IsTraced-computed : IsReadAs file order (concat chunks) → list_all is_chunk chunks ≡ true
-        → is_tracing image_in.memory weak paths ≡ true → IsTraced
-    IsTraced-computed read each tracing =
-        let special = is_tracing-special image_in.memory weak paths tracing in
-        record {
-          holds = record { parts = HasChunks-computed read each; special = special };
-          reachable = is_tracing-true image_in.memory weak paths tracing;
-        }
+-- by what computes
+IsTraced-computed : (weak : Weak) (file : List ℕ) (order : Order) (chunks : List (List ℕ)) (paths : List (Option (List ℕ)))
+    → IsReadAs file order (concat chunks) → list_all is_chunk chunks ≡ true
+    → is_tracing (image_in file order chunks).memory weak paths ≡ true → IsTraced weak file order chunks paths
+IsTraced-computed weak file order chunks paths read each tracing =
+    let memory = (image_in file order chunks).memory in
+    let special = is_tracing-special memory weak paths tracing in
+    record {
+      holds = record { parts = HasChunks-computed file order chunks read each; special = special };
+      reachable = is_tracing-true memory weak paths tracing;
+    }
 
-    -- where no reachable object has a defect, the file is compacted
-    pub CompactsTo-computed : (answer : List ℕ) → IsReadAs file order (concat chunks)
-        → list_all is_chunk chunks ≡ true → lacks_nil image_in.memory weak ≡ false
-        → is_tracing image_in.memory weak paths ≡ true → first_defect image_in.memory weak (marks_of paths) ≡ None
-        → file_bytes (compacted image_in weak (marks_of paths)) ≡ answer → CompactsTo weak file answer
-    CompactsTo-computed answer read each has_nil tracing sound bytes =
-        let traced = IsTraced-computed read each tracing in
-        record {
-          image = image_in;
-          marks = marks_of paths;
-          accepted = record { holds = traced.holds; has_nil = has_nil; reachable = traced.reachable; sound = sound };
-          bytes = bytes;
-        }
+-- where no reachable object has a defect, the file is compacted
+pub CompactsTo-computed : (weak : Weak) (file : List ℕ) (order : Order) (answer : List ℕ) (chunks : List (List ℕ))
+    (paths : List (Option (List ℕ)))
+    → IsReadAs file order (concat chunks) → list_all is_chunk chunks ≡ true
+    → lacks_nil (image_in file order chunks).memory weak ≡ false
+    → is_tracing (image_in file order chunks).memory weak paths ≡ true
+    → first_defect (image_in file order chunks).memory weak (marks_of paths) ≡ None
+    → file_bytes (compacted (image_in file order chunks) weak (marks_of paths)) ≡ answer → CompactsTo weak file answer
+CompactsTo-computed weak file order answer chunks paths read each has_nil tracing sound bytes =
+    let traced = IsTraced-computed weak file order chunks paths read each tracing in
+    record {
+      image = image_in file order chunks;
+      marks = marks_of paths;
+      accepted = record { holds = traced.holds; has_nil = has_nil; reachable = traced.reachable; sound = sound };
+      bytes = bytes;
+    }
 
-    -- where one has, the file is refused for the first
-    pub IsRefused-for_defect : (fault : Fault) → IsReadAs file order (concat chunks)
-        → list_all is_chunk chunks ≡ true → lacks_nil image_in.memory weak ≡ false
-        → is_tracing image_in.memory weak paths ≡ true → first_defect image_in.memory weak (marks_of paths) ≡ Some fault → IsRefused weak file fault
-    IsRefused-for_defect fault read each has_nil tracing defect =
-        let traced = IsTraced-computed read each tracing in
-        inr (inr record {
-          image = image_in;
-          marks = marks_of paths;
-          holds = traced.holds;
-          has_nil = has_nil;
-          reachable = traced.reachable;
-          defect = defect;
-        })
+-- where one has, the file is refused for the first
+pub IsRefused-for_defect : (weak : Weak) (file : List ℕ) (order : Order) (fault : Fault) (chunks : List (List ℕ))
+    (paths : List (Option (List ℕ)))
+    → IsReadAs file order (concat chunks) → list_all is_chunk chunks ≡ true
+    → lacks_nil (image_in file order chunks).memory weak ≡ false
+    → is_tracing (image_in file order chunks).memory weak paths ≡ true
+    → first_defect (image_in file order chunks).memory weak (marks_of paths) ≡ Some fault → IsRefused weak file fault
+IsRefused-for_defect weak file order fault chunks paths read each has_nil tracing defect =
+    let traced = IsTraced-computed weak file order chunks paths read each tracing in
+    inr (inr record {
+      image = image_in file order chunks;
+      marks = marks_of paths;
+      holds = traced.holds;
+      has_nil = has_nil;
+      reachable = traced.reachable;
+      defect = defect;
+    })
 
 -- ---- files whose words are not
 
@@ -204,3 +213,26 @@ IsRefused-at_chunk weak file order chunks word rest reason read each fault =
         refused = refl;
       };
     }))
+
+-- ---- the chunks of images that are worked twice
+
+-- the object before the last is a context with this stack pointer
+abbrev pub with_stack_pointer : ℕ → List (List ℕ)
+with_stack_pointer pointer =
+    (0x1007 ∷ []) ∷ (0x100B ∷ 1 ∷ []) ∷ (0x100B ∷ 1 ∷ []) ∷ (0x100B ∷ 1 ∷ []) ∷
+    (0xD32F ∷ 0x1000 ∷ 1 ∷ pointer ∷ 0x1000 ∷ 0x1000 ∷ 0x1000 ∷ 0x100C ∷ 0x1014 ∷ 2 ∷ 0xFFFFFFFE ∷ []) ∷
+    (0x320F ∷ 0x1000 ∷ 0x101C ∷ []) ∷ []
+
+-- and of its stack two objects are reachable
+abbrev pub paths_by_stack : List (Option (List ℕ))
+paths_by_stack =
+    (Some (0 ∷ [])) ∷ None ∷ (Some (4 ∷ 2 ∷ [])) ∷ (Some (4 ∷ 3 ∷ [])) ∷ (Some (4 ∷ [])) ∷ (Some []) ∷ []
+
+-- a weak object, of which one slot names an object that nothing else names
+abbrev pub with_weak_slot : List (List ℕ)
+with_weak_slot =
+    (0x1007 ∷ []) ∷ (0x1113 ∷ 1 ∷ 1 ∷ 0x405 ∷ []) ∷ (0x100B ∷ 1 ∷ []) ∷ (0x1005 ∷ 0x409 ∷ 0x1014 ∷ []) ∷
+    (0x320F ∷ 0x1000 ∷ 0x1020 ∷ []) ∷ []
+
+abbrev pub paths_by_strong_slots : List (Option (List ℕ))
+paths_by_strong_slots = (Some (0 ∷ [])) ∷ (Some (3 ∷ 1 ∷ [])) ∷ None ∷ (Some (3 ∷ [])) ∷ (Some []) ∷ []

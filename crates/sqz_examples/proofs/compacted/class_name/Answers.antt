@@ -6,8 +6,8 @@ use Rattle.sqz_examples.proofs.compacted.class_name.Goals as goal
 
 pub returns : goal.returns
 returns c =
-    CompactsTo-computed _ Little
+    CompactsTo-computed Keep _ Little _
     ((0x1007 ∷ []) ∷ (0x1123 ∷ 1 ∷ 1 ∷ 1 ∷ 1 ∷ 1 ∷ 1 ∷ 0x1024 ∷ []) ∷ (0x2A0F ∷ 0x656A624F ∷ 0x7463 ∷ []) ∷
-    (0x320B ∷ 0x1004 ∷ []) ∷ (0x327B ∷ 0x1000 ∷ (replicate 27 1 ++ 0x1030 ∷ [])) ∷ []) Keep
+    (0x320B ∷ 0x1004 ∷ []) ∷ (0x327B ∷ 0x1000 ∷ (replicate 27 1 ++ 0x1030 ∷ [])) ∷ [])
     ((Some (0 ∷ [])) ∷ (Some (3 ∷ 1 ∷ [])) ∷ (Some (3 ∷ 1 ∷ 2 ∷ [])) ∷ (Some (3 ∷ [])) ∷ (Some []) ∷ [])
-    _ refl refl refl refl refl refl
+    refl refl refl refl refl refl

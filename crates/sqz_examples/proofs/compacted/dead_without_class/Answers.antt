@@ -6,7 +6,5 @@ use Rattle.sqz_examples.proofs.compacted.dead_without_class.Goals as goal
 
 pub returns : goal.returns
 returns c =
-    CompactsTo-computed _ Little
-    ((0x1007 ∷ []) ∷ (0x10B ∷ 1 ∷ []) ∷ (0x320B ∷ 0x1000 ∷ []) ∷ []) Keep
-    ((Some (0 ∷ [])) ∷ None ∷ (Some []) ∷ [])
-    _ refl refl refl refl refl refl
+    CompactsTo-computed Keep _ Little _ ((0x1007 ∷ []) ∷ (0x10B ∷ 1 ∷ []) ∷ (0x320B ∷ 0x1000 ∷ []) ∷ [])
+    ((Some (0 ∷ [])) ∷ None ∷ (Some []) ∷ []) refl refl refl refl refl refl

@@ -6,7 +6,6 @@ use Rattle.sqz_examples.proofs.compacted.integers.Goals as goal
 
 pub returns : goal.returns
 returns c =
-    CompactsTo-computed _ Little
-    ((0x1007 ∷ []) ∷ (0x3217 ∷ 0x1000 ∷ 0x7FFFFFFF ∷ 0xFFFFFFFF ∷ 0x80000001 ∷ []) ∷ []) Keep
-    ((Some (0 ∷ [])) ∷ (Some []) ∷ [])
-    _ refl refl refl refl refl refl
+    CompactsTo-computed Keep _ Little _
+    ((0x1007 ∷ []) ∷ (0x3217 ∷ 0x1000 ∷ 0x7FFFFFFF ∷ 0xFFFFFFFF ∷ 0x80000001 ∷ []) ∷ [])
+    ((Some (0 ∷ [])) ∷ (Some []) ∷ []) refl refl refl refl refl refl

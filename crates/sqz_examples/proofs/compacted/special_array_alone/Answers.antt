@@ -6,7 +6,4 @@ use Rattle.sqz_examples.proofs.compacted.special_array_alone.Goals as goal
 
 pub returns : goal.returns
 returns c =
-    CompactsTo-computed _ Little
-    ((0x3207 ∷ []) ∷ []) Keep
-    ((Some []) ∷ [])
-    _ refl refl refl refl refl refl
+    CompactsTo-computed Keep _ Little _ ((0x3207 ∷ []) ∷ []) ((Some []) ∷ []) refl refl refl refl refl refl

@@ -6,7 +6,7 @@ use Rattle.sqz_examples.proofs.compacted.three_word_header.Goals as goal
 
 pub returns : goal.returns
 returns c =
-    CompactsTo-computed _ Little
-    ((0x1007 ∷ []) ∷ (0x320F ∷ 1 ∷ 1 ∷ []) ∷ (0x100 ∷ 0x1000 ∷ 0x200 ∷ replicate 63 1) ∷ (0x320F ∷ 0x1000 ∷ 0x1018 ∷ []) ∷ []) Keep
-    ((Some (0 ∷ [])) ∷ None ∷ (Some (2 ∷ [])) ∷ (Some []) ∷ [])
-    _ refl refl refl refl refl refl
+    CompactsTo-computed Keep _ Little _
+    ((0x1007 ∷ []) ∷ (0x320F ∷ 1 ∷ 1 ∷ []) ∷ (0x100 ∷ 0x1000 ∷ 0x200 ∷ replicate 63 1) ∷
+    (0x320F ∷ 0x1000 ∷ 0x1018 ∷ []) ∷ []) ((Some (0 ∷ [])) ∷ None ∷ (Some (2 ∷ [])) ∷ (Some []) ∷ [])
+    refl refl refl refl refl refl

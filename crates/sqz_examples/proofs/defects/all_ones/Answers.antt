@@ -6,7 +6,4 @@ use Rattle.sqz_examples.proofs.defects.all_ones.Goals as goal
 
 pub returns : goal.returns
 returns c =
-    IsRefused-for_defect _ Little
-    ((replicate 63 0xFFFFFFFF) ∷ []) Keep
-    ((Some []) ∷ [])
-    _ refl refl refl refl refl
+    IsRefused-for_defect Keep _ Little _ ((replicate 63 0xFFFFFFFF) ∷ []) ((Some []) ∷ []) refl refl refl refl refl

@@ -6,7 +6,4 @@ use Rattle.sqz_examples.proofs.defects.field_below_base.Goals as goal
 
 pub returns : goal.returns
 returns c =
-    IsRefused-for_defect _ Little
-    ((0x1007 ∷ []) ∷ (0x320B ∷ 0 ∷ []) ∷ []) Keep
-    (None ∷ (Some []) ∷ [])
-    _ refl refl refl refl refl
+    IsRefused-for_defect Keep _ Little _ ((0x1007 ∷ []) ∷ (0x320B ∷ 0 ∷ []) ∷ []) (None ∷ (Some []) ∷ []) refl refl refl refl refl

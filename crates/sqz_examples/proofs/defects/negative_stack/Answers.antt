@@ -1,14 +1,10 @@
 use Rattle.std.proofs.Common.{[], ◌∷◌, Some, None, refl}
 use Rattle.sqz_object.specs.declared.order.Order.TheVariants.{Little}
 use Rattle.sqz_trace.specs.declared.weak.Weak.TheVariants.{Keep}
-use Rattle.sqz_examples.proofs.WorkedImages.{IsRefused-for_defect}
+use Rattle.sqz_examples.proofs.WorkedImages.{IsRefused-for_defect, with_stack_pointer}
 use Rattle.sqz_examples.proofs.defects.negative_stack.Goals as goal
 
 pub returns : goal.returns
 returns c =
-    IsRefused-for_defect _ Little
-    ((0x1007 ∷ []) ∷ (0x100B ∷ 1 ∷ []) ∷ (0x100B ∷ 1 ∷ []) ∷ (0x100B ∷ 1 ∷ []) ∷
-    (0xD32F ∷ 0x1000 ∷ 1 ∷ 0xFFFFFFFF ∷ 0x1000 ∷ 0x1000 ∷ 0x1000 ∷ 0x100C ∷ 0x1014 ∷ 2 ∷ 0xFFFFFFFE ∷ []) ∷
-    (0x320F ∷ 0x1000 ∷ 0x101C ∷ []) ∷ []) Keep
-    ((Some (0 ∷ [])) ∷ None ∷ None ∷ None ∷ (Some (4 ∷ [])) ∷ (Some []) ∷ [])
-    _ refl refl refl refl refl
+    IsRefused-for_defect Keep _ Little _ (with_stack_pointer 0xFFFFFFFF)
+    ((Some (0 ∷ [])) ∷ None ∷ None ∷ None ∷ (Some (4 ∷ [])) ∷ (Some []) ∷ []) refl refl refl refl refl

@@ -1,13 +1,9 @@
-use Rattle.std.proofs.Common.{[], ◌∷◌, Some, None, refl}
+use Rattle.std.proofs.Common.{refl}
 use Rattle.sqz_object.specs.declared.order.Order.TheVariants.{Little}
 use Rattle.sqz_trace.specs.declared.weak.Weak.TheVariants.{Clear}
-use Rattle.sqz_examples.proofs.WorkedImages.{CompactsTo-computed}
+use Rattle.sqz_examples.proofs.WorkedImages.{CompactsTo-computed, with_weak_slot, paths_by_strong_slots}
 use Rattle.sqz_examples.proofs.prefixes.weak_slot.Goals as goal
 
 pub returns : goal.returns
 returns c =
-    CompactsTo-computed _ Little
-    ((0x1007 ∷ []) ∷ (0x1113 ∷ 1 ∷ 1 ∷ 0x405 ∷ []) ∷ (0x100B ∷ 1 ∷ []) ∷ (0x1005 ∷ 0x409 ∷ 0x1014 ∷ []) ∷
-    (0x320F ∷ 0x1000 ∷ 0x1020 ∷ []) ∷ []) Clear
-    ((Some (0 ∷ [])) ∷ (Some (3 ∷ 1 ∷ [])) ∷ None ∷ (Some (3 ∷ [])) ∷ (Some []) ∷ [])
-    _ refl refl refl refl refl refl
+    CompactsTo-computed Clear _ Little _ with_weak_slot paths_by_strong_slots refl refl refl refl refl refl
