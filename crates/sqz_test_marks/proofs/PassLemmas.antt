@@ -1,4 +1,7 @@
 -- What a pass knows after calls, one after the other.
+-- Serves `passes::mark_rest`, `passes::race`, `steps::assert_blackens`, `::assert_claims`, `::assert_looks`,
+-- `::assert_marked`, `::blacken_named`, `::claim`, `::mark_dead_cycle`, `::mark_named`, `::mark_special`,
+-- `targets::claim_target` and `targets::mark_targets`.
 use Rattle.std.proofs.Common.{◌≡◌, ◌≢◌, ◌⊎◌, ℕ, ◌<◌, List, ◌∷◌, Option, Some, None, refl, sym, ap, subst, ◌∙◌, arith, inl, inr}
 use Rattle.sqz_image.specs.declared.fault.Slot.{Slot}
 use Rattle.sqz_image.specs.Objects.{Memory, object_count}
@@ -9,7 +12,8 @@ use Rattle.sqz_trace.proofs.EdgeLemmas.{named_among-lt}
 use Rattle.sqz_marks.specs.declared.view.View.{View}
 use Rattle.sqz_marks.specs.declared.claim.Claim.{Claim}
 use Rattle.sqz_marks.specs.declared.claim.Claim.TheVariants.{Won}
-use Rattle.sqz_marks.specs.Core.{times, HasWon, HasSeen, first_view, looked, seen_by, won_by, counted, blackened, kept_of, part_of, joined}
+use Rattle.sqz_marks.specs.Core.{times, HasWon, HasSeen, first_view, looked, seen_by, won_by, counted, blackened}
+use Rattle.sqz_marks.specs.Core.{kept_of, part_of, joined}
 use Rattle.sqz_marks.specs.Table.{HeldPass, HasCountedAll, knowing}
 use Rattle.sqz_marks.specs.Claims.{IsClaim}
 use Rattle.sqz_marks.proofs.TimesLemmas.{times-same, times-more, times-either, times-append, times-in_two}
@@ -203,6 +207,12 @@ pub ClaimsTargets-blackened : (IsTarget : ℕ → Type 0) (object : ℕ) (first 
 ClaimsTargets-blackened IsTarget object first second third step some =
     subst (λ (p : HeldPass). ClaimsTargets IsTarget first p) (sym step)
     (record {
-      later = record { table = some.later.table; workers = some.later.workers; weight = some.later.weight; keeps = some.later.keeps; counts = some.later.counts };
+      later = record {
+        table = some.later.table;
+        workers = some.later.workers;
+        weight = some.later.weight;
+        keeps = some.later.keeps;
+        counts = some.later.counts;
+      };
       targets = some.targets;
     })
