@@ -10,18 +10,22 @@ const KIND: BitField = BitField {
     lowest: 0,
     width: 2,
 };
+
 const SIZE_FIELD: BitField = BitField {
     lowest: 2,
     width: 6,
 };
+
 const FORMAT: BitField = BitField {
     lowest: 8,
     width: 4,
 };
+
 const COMPACT: BitField = BitField {
     lowest: 12,
     width: 5,
 };
+
 const HASH: BitField = BitField {
     lowest: 17,
     width: 12,

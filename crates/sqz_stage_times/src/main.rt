@@ -6,11 +6,11 @@ mod stages;
 mod stopwatch;
 
 use anyhow::Result;
-use stages::{Work, print_stages};
 use sqz_command::{Arguments, read_arguments};
 use sqz_marks::Workers;
 use sqz_regions::Cut;
 use sqz_trace::Weak;
+use stages::{Work, print_stages};
 use std::alloc::Global;
 use std::env;
 use std::process::ExitCode;
