@@ -11,11 +11,13 @@ objects near and far. In the first part far is up to a MiB away, at each size, s
 differ in the size alone. In the second, `anywhere` in the image, so that the larger of them has not
 only more pointers but pointers that miss the caches more often.
 
-Each image of the third part, `mixed`, is made as real ones are. Nine objects of ten have a header of
+Each image of the third part, `mixed`, has objects of all kinds. Nine objects of ten have a header of
 one word, the others a class word, those of more than 63 words among them. A third of the words is in
 byte objects and in compiled methods, of which the literals are traced; some objects are contexts, and
 a few have thousands of words. There are free chunks. Most pointers are to objects near, the others up
-to a MiB away; class words name one object in 500, anywhere.
+to a MiB away; class words name one object in 500, anywhere. A real image differs: it has more bytes and
+methods, fewer fields, more class words, and pointers that go far back. The table beside `SHARES` says by
+how much; bench/measure_image.py measures it.
 
 Each line of the table is one run of the program and one of `cp`, each into a file that is not there
 yet. Each image has three lines, or as many as `--runs` says. The images are the same each time, and
@@ -86,6 +88,20 @@ Reach = collections.namedtuple("Reach", "near far")
 Chunk = collections.namedtuple("Chunk", "kind before size")
 POINTERS, BYTES, METHOD, CONTEXT, FREE = range(5)
 # How many of a thousand chunks are of which kind, and the formats and compact indexes of the objects.
+# A real image has others. Of the live objects of Debian's Scratch.image, and of a mixed image of 4 MiB:
+#
+#                                                      real         mixed
+#     headers of 1, 2, 3 words, percent           71, 27, 2     90, 10, 0
+#     words of an object: mean, median, most   17, 5, 24395  14, 11, 4815
+#     weak, percent of objects                            0            17
+#     bytes and words, percent of words                  50            17
+#     methods, percent of words                          19            16
+#     traced fields, percent of words                    35            64
+#     pointers to nil, percent of these                  19             0
+#     other pointers, percent of these                   58            64
+#     pointers but nil that go back, percent             93            41
+#     how far back: median and percentile 90     1.0, 4.9 MB   1.4, 39 KB
+#     how far forwards: the same                64 KB, 3.5 MB  1.7, 362 KB
 SHARES = {POINTERS: 670, BYTES: 188, METHOD: 102, CONTEXT: 15, FREE: 25}
 FORMATS = {POINTERS: (1, 2, 3, 4), BYTES: (8, 9, 10, 11), METHOD: (12, 13, 14, 15), CONTEXT: (3,)}
 CONTEXT_INDEXES = (13, 14)
