@@ -1,0 +1,119 @@
+#!/usr/bin/env python3
+"""Draws a small image and what it is compacted to, word by word, as an SVG on standard output.
+
+Usage: docs/draw_compaction.py IN OUT >compaction.svg
+"""
+
+import os
+import sys
+
+sys.path.insert(0, os.path.join(os.path.dirname(os.path.dirname(os.path.realpath(__file__))), "tests"))
+
+from object_memory import Image, traced_end
+
+# The place of the first word, and a word's width and height; the tops of the two rows; and the picture's height.
+LEFT, WIDE, HIGH = 70, 88, 34
+TOPS = (74, 234)
+HEIGHT = 300
+# These are seen on white and on black.
+TEXT, LIVE, DEAD, MOVE = "#787878", "#3d8bd4", "#999999", "#d4803d"
+
+
+def middle(place):
+    """Where the middle of a word is."""
+    return LEFT + WIDE * place + WIDE // 2
+
+
+def words_at(left, top, words, anchor="middle", fill=TEXT):
+    return f'<text x="{left}" y="{top}" text-anchor="{anchor}" fill="{fill}">{words}</text>'
+
+
+def shown(image, it, place):
+    """What is written into a word."""
+    word = image.words[place]
+    if place <= it.base or place >= traced_end(image.words, it):
+        return "header" if place <= it.base else f"{word:X}"
+    return str(word >> 1) if word & 1 else f"{word:X}"
+
+
+def label(image, number, is_live):
+    """What an object is called."""
+    if number == image.special:
+        return "special objects"
+    return "nil" if number == image.field(image.special, 0) else "array" if is_live else "array, named by none"
+
+
+def draw_object(image, number, is_live, top):
+    """The words of an object, their addresses, and what it is called."""
+    it, colour = image.objects[number], LIVE if is_live else DEAD
+    size = it.end - it.first
+    dashes = "" if is_live else ' stroke-dasharray="5 4"'
+    yield (
+        f'<rect x="{LEFT + WIDE * it.first + 2}" y="{top}" width="{WIDE * size - 4}" height="{HIGH}" rx="4" '
+        f'fill="{colour}" fill-opacity="0.15" stroke="{colour}"{dashes}/>'
+    )
+    yield words_at(LEFT + WIDE * it.first + WIDE * size // 2, top + HIGH + 17, label(image, number, is_live), fill=colour)
+    for place in range(it.first, it.end):
+        yield words_at(middle(place), top + 22, shown(image, it, place))
+        yield words_at(LEFT + WIDE * place + 4, top - 6, f"{image.base + 4 * place:X}", "start")
+
+
+def arc(image, pointer, top):
+    """An arrow from a field to the object that it names, above the words."""
+    begin, end = middle(pointer.place), middle(image.objects[pointer.named].first)
+    high = top - 56
+    return (
+        f'<path d="M{begin} {top - 2} C{begin} {high} {end} {high} {end} {top - 4}" fill="none" stroke="{LIVE}" '
+        f'marker-end="url(#live)"/>'
+    )
+
+
+def arrow(begin, end):
+    """An arrow from an object's old place to its new one."""
+    return (
+        f'<path d="M{begin} {TOPS[0] + HIGH + 26} L{end} {TOPS[1] - 24}" fill="none" stroke="{MOVE}" stroke-width="2" '
+        f'marker-end="url(#move)"/>'
+    )
+
+
+def head_of(name, colour):
+    """The head of arrows of this colour."""
+    return (
+        f'<marker id="{name}" viewBox="0 0 8 8" refX="7" refY="4" markerWidth="8" markerHeight="8" '
+        f'markerUnits="userSpaceOnUse" orient="auto"><path d="M0 0 L8 4 L0 8 z" fill="{colour}"/></marker>'
+    )
+
+
+def draw(before, after):
+    """The picture of an image and of what it is compacted to."""
+    width = LEFT + WIDE * len(before.words) + 10
+    live = before.live()
+    yield (
+        f'<svg xmlns="http://www.w3.org/2000/svg" viewBox="0 0 {width} {HEIGHT}" width="{width}" height="{HEIGHT}" '
+        f'font-family="sans-serif" font-size="13">'
+    )
+    yield "<title>An image and what it is compacted to</title>"
+    yield f"<defs>{head_of('live', LIVE)}{head_of('move', MOVE)}</defs>"
+    for image, alive, top, name in ((before, live, TOPS[0], "before"), (after, after.live(), TOPS[1], "after")):
+        yield words_at(LEFT - 12, top + 22, name, "end")
+        for number in range(len(image.objects)):
+            yield from draw_object(image, number, alive[number], top)
+        for pointer in image.pointers:
+            if alive[pointer.owner]:
+                yield arc(image, pointer, top)
+    moved = [it for it, is_live in zip(before.objects, live) if is_live]
+    for old, new in zip(moved, after.objects):
+        yield arrow(*(LEFT + WIDE * (it.first + it.end) // 2 for it in (old, new)))
+    yield "</svg>"
+
+
+def main():
+    images = []
+    for path in sys.argv[1:3]:
+        with open(path, "rb") as file:
+            images.append(Image.read(file.read())[0])
+    print("\n".join(draw(*images)))
+
+
+if __name__ == "__main__":
+    main()
