@@ -1,9 +1,12 @@
 #!/usr/bin/env python3
 """Draws a small image and what it is compacted to, word by word, as an SVG on standard output.
 
-Usage: docs/draw_compaction.py IN OUT >compaction.svg
+Usage: docs/draw_compaction.py [IN OUT] >compaction.svg
+
+Where no image is named it is one of nil, a dead array, two free words, and the special objects array.
 """
 
+import array
 import os
 import sys
 
@@ -12,9 +15,12 @@ sys.path.insert(0, os.path.join(os.path.dirname(os.path.dirname(os.path.realpath
 from object_memory import Image, traced_end
 
 # The place of the first word, and a word's width and height; the tops of the two rows; and the picture's height.
-LEFT, WIDE, HIGH = 70, 88, 34
+LEFT, WIDE, HIGH = 70, 80, 34
 TOPS = (74, 234)
 HEIGHT = 300
+# The example's base, and its data words.
+BASE = 0x1000
+WORDS = (0x1007, 0x320F, 1, 1, 0xA, 0, 0x320B, BASE)
 # These are seen on white and on black.
 TEXT, LIVE, DEAD, MOVE = "#787878", "#3d8bd4", "#999999", "#d4803d"
 
@@ -43,16 +49,28 @@ def label(image, number, is_live):
     return "nil" if number == image.field(image.special, 0) else "array" if is_live else "array, named by none"
 
 
+def draw_box(first, end, top, colour, opacity, words):
+    """A box around the words from one up to another, and what stands below it. What is to go has a border of dashes."""
+    dashes = "" if colour == LIVE else ' stroke-dasharray="5 4"'
+    return (
+        f'<rect x="{LEFT + WIDE * first + 2}" y="{top}" width="{WIDE * (end - first) - 4}" height="{HIGH}" rx="4" '
+        f'fill="{colour}" fill-opacity="{opacity}" stroke="{colour}"{dashes}/>'
+        + words_at(LEFT + WIDE * (first + end) // 2, top + HIGH + 17, words, fill=colour)
+    )
+
+
+def draw_free(image, top):
+    """What is between objects."""
+    ends = [0, *(it.end for it in image.objects)]
+    for end, first in zip(ends, [it.first for it in image.objects]):
+        if end < first:
+            yield draw_box(end, first, top, DEAD, 0, "free")
+
+
 def draw_object(image, number, is_live, top):
     """The words of an object, their addresses, and what it is called."""
-    it, colour = image.objects[number], LIVE if is_live else DEAD
-    size = it.end - it.first
-    dashes = "" if is_live else ' stroke-dasharray="5 4"'
-    yield (
-        f'<rect x="{LEFT + WIDE * it.first + 2}" y="{top}" width="{WIDE * size - 4}" height="{HIGH}" rx="4" '
-        f'fill="{colour}" fill-opacity="0.15" stroke="{colour}"{dashes}/>'
-    )
-    yield words_at(LEFT + WIDE * it.first + WIDE * size // 2, top + HIGH + 17, label(image, number, is_live), fill=colour)
+    it = image.objects[number]
+    yield draw_box(it.first, it.end, top, LIVE if is_live else DEAD, 0.15, label(image, number, is_live))
     for place in range(it.first, it.end):
         yield words_at(middle(place), top + 22, shown(image, it, place))
         yield words_at(LEFT + WIDE * place + 4, top - 6, f"{image.base + 4 * place:X}", "start")
@@ -60,7 +78,7 @@ def draw_object(image, number, is_live, top):
 
 def arc(image, pointer, top):
     """An arrow from a field to the object that it names, above the words."""
-    begin, end = middle(pointer.place), middle(image.objects[pointer.named].first)
+    begin, end = middle(pointer.place) + 24, middle(image.objects[pointer.named].first) + 16
     high = top - 56
     return (
         f'<path d="M{begin} {top - 2} C{begin} {high} {end} {high} {end} {top - 4}" fill="none" stroke="{LIVE}" '
@@ -96,6 +114,7 @@ def draw(before, after):
     yield f"<defs>{head_of('live', LIVE)}{head_of('move', MOVE)}</defs>"
     for image, alive, top, name in ((before, live, TOPS[0], "before"), (after, after.live(), TOPS[1], "after")):
         yield words_at(LEFT - 12, top + 22, name, "end")
+        yield from draw_free(image, top)
         for number in range(len(image.objects)):
             yield from draw_object(image, number, alive[number], top)
         for pointer in image.pointers:
@@ -112,6 +131,11 @@ def main():
     for path in sys.argv[1:3]:
         with open(path, "rb") as file:
             images.append(Image.read(file.read())[0])
+    if not images:
+        special = BASE + 4 * (len(WORDS) - 2)
+        header = array.array("I", [6502, 64, 4 * len(WORDS), BASE, special, *[0] * 11])
+        image = Image(header, array.array("I", WORDS))
+        images = [image, image.compacted()]
     print("\n".join(draw(*images)))
 
 
