@@ -3,7 +3,7 @@
 
 Usage: bench/compare.py [--beside CHECKOUT | --census] [--runs N] [MIB ...]
 
-Of the objects in each image a third is dead. The table has three parts, named in its first column, and
+Of the objects in each image a third is dead. The table has four parts, named in its first column, and
 with `--census` two more.
 
 Each image of the first two parts has arrays of 1 to 20 words, with integers and with pointers to
@@ -15,9 +15,11 @@ Each image of the third part, `mixed`, has objects of all kinds. Nine objects of
 one word, the others a class word, those of more than 63 words among them. A third of the words is in
 byte objects and in compiled methods, of which the literals are traced; some objects are contexts, and
 a few have thousands of words. There are free chunks. Most pointers are to objects near, the others up
-to a MiB away; class words name one object in 500, anywhere. A real image differs: it has more bytes and
-methods, fewer fields, more class words, and pointers that go far back. The table beside `SHARES` says by
-how much; bench/measure_image.py measures it.
+to a MiB away; class words name one object in 500, anywhere.
+
+A real image differs: it has more bytes and methods, fewer fields, more class words, nil in many fields,
+and pointers that go far back. Each image of the fourth part, `fitted`, is made so. The table beside
+`SHARES` says what was measured; bench/measure_image.py measures it.
 
 Each line of the table is one run of the program and one of `cp`, each into a file that is not there
 yet. Each image has three lines, or as many as `--runs` says. The images are the same each time, and
@@ -88,22 +90,26 @@ Reach = collections.namedtuple("Reach", "near far")
 Chunk = collections.namedtuple("Chunk", "kind before size")
 POINTERS, BYTES, METHOD, CONTEXT, FREE = range(5)
 # How many of a thousand chunks are of which kind, and the formats and compact indexes of the objects.
-# A real image has others. Of the live objects of Debian's Scratch.image, and of a mixed image of 4 MiB:
+# A real image has others. Of the live objects of Debian's Scratch.image, and of a mixed and a fitted image of 4 MiB:
 #
-#                                                      real         mixed
-#     headers of 1, 2, 3 words, percent           71, 27, 2     90, 10, 0
-#     words of an object: mean, median, most   17, 5, 24395  14, 11, 4815
-#     weak, percent of objects                            0            17
-#     bytes and words, percent of words                  50            17
-#     methods, percent of words                          19            16
-#     traced fields, percent of words                    35            64
-#     pointers to nil, percent of these                  19             0
-#     other pointers, percent of these                   58            64
-#     pointers but nil that go back, percent             93            41
-#     how far back: median and percentile 90     1.0, 4.9 MB   1.4, 39 KB
-#     how far forwards: the same                64 KB, 3.5 MB  1.7, 362 KB
+#                                                     real        mixed       fitted
+#     headers of 1, 2, 3 words, percent          71, 27, 2    90, 10, 0    71, 26, 2
+#     words of an object: mean, median               17, 5       14, 11        17, 6
+#     weak, percent of objects                           0           17            0
+#     bytes and words, percent of words                 50           17           42
+#     methods, percent of words                         19           16           22
+#     traced fields, percent of words                   35           64           38
+#     pointers to nil, percent of these                 19            0           21
+#     other pointers, percent of these                  58           64           56
+#     pointers but nil that go back, percent            93           41           93
+#     how far back: median, percentile 90      1.0, 4.9 MB   1.4, 39 KB  0.4, 1.3 MB
+#     how far forwards: the same              64 KB, 3.5 MB  1.7, 362 KB   72, 138 KB
+#
+# The fitted one's pointers go back to anywhere, so farther in a larger image; that of which this is measured has 2.7 MB.
 SHARES = {POINTERS: 670, BYTES: 188, METHOD: 102, CONTEXT: 15, FREE: 25}
 FORMATS = {POINTERS: (1, 2, 3, 4), BYTES: (8, 9, 10, 11), METHOD: (12, 13, 14, 15), CONTEXT: (3,)}
+FITTED_SHARES = {POINTERS: 480, BYTES: 310, METHOD: 195, CONTEXT: 1, FREE: 14}
+FITTED_FORMATS = {**FORMATS, POINTERS: (1, 2, 3)}
 CONTEXT_INDEXES = (13, 14)
 OTHER_INDEXES = tuple(index for index in range(1, 32) if index not in CONTEXT_INDEXES)
 CONTEXT_SIZES = (23, 63)
@@ -113,8 +119,15 @@ TYPES = (3, 1, 0)
 LARGEST_SHORT = 63
 # The words of the first objects of any image, which are live: nil and the special objects array.
 FIRSTS = (1, LARGEST)
-# How many of the small objects of a mixed image have a class word.
+# How many of the small objects of a mixed image have a class word, and how many of a fitted one.
 WORDED = 0.1
+FITTED_WORDED = 0.27
+# The parts of the fields of a fitted image that hold integers, and nil; and of the other pointers those that go back.
+INTEGERS, NILS, BACK = 0.25, 0.25, 0.91
+# How many of the pointers and of the byte objects of a fitted image are large.
+LARGE_POINTERS, LARGE_BYTES = 0.045, 0.0085
+# How many objects the pointers of a fitted image go forwards at most, but for those that keep an object alive.
+FORWARDS = 2000
 
 # The words of the first objects of an image with classes: the special objects array is so large that its
 # last field is the one that names the array of compact classes, which is the third object.
@@ -211,6 +224,11 @@ def words_of_arrays(words, far):
     return data
 
 
+# Which chunks there are: how many of a thousand are of which kind, the formats of each, what draws the words of one, and how many of
+# the small objects have a class word.
+Mix = collections.namedtuple("Mix", "shares formats size worded")
+
+
 def random_size(generator, kind):
     """The words of an object from its base header on, or those of a free chunk."""
     if kind == CONTEXT:
@@ -225,22 +243,33 @@ def random_size(generator, kind):
     return 1 + below(generator, LARGEST)
 
 
-def random_chunk(generator, worded):
-    """A chunk of any kind. Of the small objects this share has a class word."""
-    kind = generator.choices(list(SHARES), SHARES.values())[0]
-    size = random_size(generator, kind)
+def fitted_size(generator, kind):
+    """The same of a fitted image: half of the objects are small, and a few so large that they have most of the words."""
+    draw = generator.random()
+    if kind == BYTES and draw < LARGE_BYTES:
+        return 1000 + below(generator, 3000)
+    if kind == POINTERS and draw < LARGE_POINTERS:
+        return 64 + below(generator, 250)
+    if kind in (BYTES, POINTERS):
+        return 1 + below(generator, 8)
+    return min(random_size(generator, kind), 30)
+
+
+def random_chunk(generator, mix):
+    """A chunk of any kind."""
+    kind = generator.choices(list(mix.shares), mix.shares.values())[0]
+    size = mix.size(generator, kind)
     if size > LARGEST_SHORT:
         return Chunk(kind, 2, size)
-    return Chunk(kind, 1 if kind != FREE and generator.random() < worded else 0, size)
+    return Chunk(kind, 1 if kind != FREE and generator.random() < mix.worded else 0, size)
 
 
-def random_chunks(generator, words, firsts, worded):
-    """Chunks that fill so many words: first objects of these sizes, and others. Of the small ones of the
-    others this share has a class word."""
+def random_chunks(generator, words, firsts, mix):
+    """Chunks that fill so many words: first objects of these sizes, and others."""
     chunks = [Chunk(POINTERS, 0, size) for size in firsts]
     left = words - sum(firsts)
     while left > 0:
-        chunk = random_chunk(generator, worded)
+        chunk = random_chunk(generator, mix)
         if chunk.before + chunk.size > left:
             chunk = Chunk(FREE, 0, min(left, LARGEST))
         chunks.append(chunk)
@@ -248,13 +277,13 @@ def random_chunks(generator, words, firsts, worded):
     return chunks
 
 
-def put_header(generator, data, chunk, base):
+def put_header(generator, data, chunk, base, formats):
     """Puts an object's header words, but not its class word; the base header is data word `base`."""
     if chunk.before == 2:
         data[base - 2] = 4 * chunk.size
     size = chunk.size if chunk.before < 2 else 0
     compact = generator.choice(CONTEXT_INDEXES if chunk.kind == CONTEXT else OTHER_INDEXES)
-    upper = generator.getrandbits(12) << 17 | compact << 12 | generator.choice(FORMATS[chunk.kind]) << 8
+    upper = generator.getrandbits(12) << 17 | compact << 12 | generator.choice(formats[chunk.kind]) << 8
     data[base] = upper | size << 2 | TYPES[chunk.before]
 
 
@@ -278,9 +307,9 @@ def put_context(generator, data, first, end):
     return fields
 
 
-def put_object(generator, data, chunk, base):
+def put_object(generator, data, chunk, base, formats):
     """Puts an object but for its class word and its pointers, and answers where the pointers go."""
-    put_header(generator, data, chunk, base)
+    put_header(generator, data, chunk, base, formats)
     first, end = base + 1, base + chunk.size
     if chunk.kind == METHOD:
         return put_method(generator, data, first, end)
@@ -300,7 +329,7 @@ def put_class_words(generator, data, objects, addresses, live):
             data[base - 1] = generator.choice(classes) | TYPES[chunk.before]
 
 
-def put_chunks(generator, data, chunks):
+def put_chunks(generator, data, chunks, formats):
     """Puts chunks, one after the other, but for class words and pointers. Answers the objects, each with
     the data word of its base header, and where the pointers of each go."""
     ends = itertools.accumulate(chunk.before + chunk.size for chunk in chunks)
@@ -309,19 +338,67 @@ def put_chunks(generator, data, chunks):
     for chunk, base in placed:
         if chunk.kind == FREE:
             data[base] = 4 * chunk.size + 2
-    return objects, [put_object(generator, data, chunk, base) for chunk, base in objects]
+    return objects, [put_object(generator, data, chunk, base, formats) for chunk, base in objects]
+
+
+MIXED = Mix(SHARES, FORMATS, random_size, WORDED)
+FITTED = Mix(FITTED_SHARES, FITTED_FORMATS, fitted_size, FITTED_WORDED)
 
 
 def mixed_words(words):
     """So many data words, of objects of all kinds and of free chunks."""
     generator = random.Random(words)
     data = array.array("I", bytes(4 * words))
-    chunks = random_chunks(generator, words, FIRSTS, WORDED)
-    objects, fields = put_chunks(generator, data, chunks)
+    chunks = random_chunks(generator, words, FIRSTS, MIXED)
+    objects, fields = put_chunks(generator, data, chunks, FORMATS)
     addresses = [BASE + 4 * base for _, base in objects]
     live = choose_live(generator, len(objects), FIRSTS)
     connect(generator, data, fields, addresses, live, Reach(0.9, FAR))
     put_class_words(generator, data, objects, addresses, live)
+    return data
+
+
+def fitted_field(generator, addresses, place):
+    """An integer, nil, or one of these addresses: most from behind this place among them."""
+    kind = generator.random()
+    if kind < INTEGERS:
+        return generator.getrandbits(31) << 1 | 1
+    if kind < INTEGERS + NILS:
+        return BASE
+    if generator.random() < BACK:
+        return addresses[place + below(generator, len(addresses) - place)]
+    lowest = max(0, place - FORWARDS)
+    return addresses[lowest + below(generator, place + 1 - lowest)]
+
+
+def fill_fitted_fields(generator, data, fields, addresses, live):
+    """Fills the fields that are empty; those of live objects name live ones alone."""
+    live_addresses = [address for address, alive in zip(addresses, live) if alive]
+    live_before = 0
+    for index, places in enumerate(fields):
+        among, place = (live_addresses, live_before) if live[index] else (addresses, index)
+        live_before += live[index]
+        for field in places:
+            if data[field] == 0:
+                data[field] = fitted_field(generator, among, place)
+
+
+def fitted_words(words):
+    """So many data words, of objects as a real image has them. Behind the first two they are connected from the last one down, so
+    that pointers go back. The first field of the special objects array names nil."""
+    generator = random.Random(words)
+    data = array.array("I", bytes(4 * words))
+    chunks = random_chunks(generator, words, FIRSTS, FITTED)
+    objects, fields = put_chunks(generator, data, chunks, FITTED_FORMATS)
+    order = [0, 1, *range(len(objects) - 1, 1, -1)]
+    addresses = [BASE + 4 * objects[index][1] for index in order]
+    fields = [fields[index] for index in order]
+    data[fields[1][0]] = BASE
+    fields[1] = fields[1][1:]
+    live = choose_live(generator, len(objects), FIRSTS)
+    name_live_objects(generator, data, fields, addresses, live, FAR)
+    fill_fitted_fields(generator, data, fields, addresses, live)
+    put_class_words(generator, data, [objects[index] for index in order], addresses, live)
     return data
 
 
@@ -375,10 +452,11 @@ def put_words_of_classes(generator, data, objects, addresses, live, classes):
 def classed_words(words, worded, most):
     """So many data words as mixed ones are, of which so many objects at most are classes. Of the small
     objects this share has a class word."""
+    mix = MIXED._replace(worded=worded)
     generator = random.Random(words)
     data = array.array("I", bytes(4 * words))
-    chunks = random_chunks(generator, words, CLASSED_FIRSTS, worded)
-    objects, fields = put_chunks(generator, data, chunks)
+    chunks = random_chunks(generator, words, CLASSED_FIRSTS, mix)
+    objects, fields = put_chunks(generator, data, chunks, FORMATS)
     addresses = [BASE + 4 * base for _, base in objects]
     live = choose_live(generator, len(objects), CLASSED_FIRSTS)
     classes = choose_classes(generator, objects, live, most)
@@ -410,7 +488,7 @@ def many_classes_words(words):
 
 
 # The parts of the table: what makes the data words of so many words, by the part's name.
-PARTS = {"1 MiB": near_words, "anywhere": far_words, "mixed": mixed_words}
+PARTS = {"1 MiB": near_words, "anywhere": far_words, "mixed": mixed_words, "fitted": fitted_words}
 # Those of a table with a census.
 CENSUS_PARTS = {**PARTS, "1 class": one_class_words, "many": many_classes_words}
 

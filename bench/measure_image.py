@@ -1,5 +1,5 @@
 #!/usr/bin/env python3
-"""Measures what is in an image, and in the mixed image that bench/compare.py makes, side by side.
+"""Measures what is in an image, and in the mixed and the fitted one that bench/compare.py makes, side by side.
 
 Usage: bench/measure_image.py [IMAGE]
 
@@ -101,12 +101,14 @@ def main():
         path = sys.argv[1] if len(sys.argv) > 1 else scratch.find_image(folder)
         if path is None:
             return 1
-        mixed = os.path.join(folder, "mixed.image")
-        compare.make_image(mixed, MIB * compare.MIB, compare.mixed_words)
-        real, made = lines_of(path), lines_of(mixed)
-    print(f"{'':30} {'image':>18} {'mixed':>18}")
-    for name, text in real.items():
-        print(f"{name:30} {text:>18} {made[name]:>18}")
+        columns = {"image": lines_of(path)}
+        for part in ("mixed", "fitted"):
+            made = os.path.join(folder, part)
+            compare.make_image(made, MIB * compare.MIB, compare.PARTS[part])
+            columns[part] = lines_of(made)
+    print(f"{'':30}" + "".join(f" {name:>18}" for name in columns))
+    for name in columns["image"]:
+        print(f"{name:30}" + "".join(f" {lines[name]:>18}" for lines in columns.values()))
     return 0
 
 
