@@ -94,7 +94,7 @@ POINTERS, BYTES, METHOD, CONTEXT, FREE = range(5)
 #
 #                                                     real        mixed       fitted
 #     headers of 1, 2, 3 words, percent          71, 27, 2    90, 10, 0    71, 26, 2
-#     words of an object: mean, median               17, 5       14, 11        17, 6
+#     words of an object: mean, median               17, 5       14, 11        18, 6
 #     weak, percent of objects                           0           17            0
 #     bytes and words, percent of words                 50           17           42
 #     methods, percent of words                         19           16           22
