@@ -9,6 +9,7 @@ shopt -s nullglob
 root=$(dirname "$(dirname "$(readlink -f "${BASH_SOURCE[0]}")")")
 images=$root/images
 program=$root/crates/sqzcompact/out/sqzcompact
+timer=$root/crates/sqz_stage_times/out/sqz_stage_times
 folder=$(mktemp -d) || exit 1
 trap 'rm -rf "$folder"' EXIT
 cd "$folder" || exit 1
@@ -431,13 +432,21 @@ refuses_number() {
   faulted 2 "$line" && [ ! -e out ]
 }
 
-# The program that times the stages of a run writes the image that the program writes, in each of its runs.
+# Builds the program that times the stages of a run, where it is not there or older than a source.
+build_timer() {
+  if [ -x "$timer" ] && [ -z "$(find "$root"/crates.txt "$root"/crates/*/{src,specs,proofs} -newer "$timer" -print -quit)" ]; then
+    return
+  fi
+  (cd "$root/crates/sqz_stage_times" && rt run -- --help) </dev/null >printed 2>said
+}
+
+# That program writes the image that the program writes, in each of its runs.
 writes_as_it_times() {
   local image=$1 answer=$2
   shift 2
   rm -f out
-  (cd "$root/crates/sqz_stage_times" && rt run -- --help) </dev/null >printed 2>said
-  "$root/crates/sqz_stage_times/out/sqz_stage_times" "$@" "$image" out >printed 2>said
+  build_timer
+  "$timer" "$@" "$image" out >printed 2>said
   status=$?
   [ "$status" -eq 0 ] && cmp -s out "$answer"
 }
