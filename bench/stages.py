@@ -4,7 +4,7 @@
 Usage: bench/stages.py [--part PART] [--mib N] [--runs N] [--workers N ...]
 
 The image is one of bench/compare.py: `mixed` (the default), `fitted`, `1 MiB` or `anywhere`. The numbers are milliseconds, each the median
-of so many times three runs, all within one process that `crates/sqz_stage_times` builds; `rt run -- --help` there makes it.
+of so many times three runs; the program of `crates/sqz_stage_times` makes three at a time, and `rt run -- --help` there builds it.
 Plain marking, which a run does not do, stands there to compare with. Copies by `cp` are made in turns with the runs."""
 
 import argparse

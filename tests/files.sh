@@ -445,7 +445,7 @@ writes_as_it_times() {
   local image=$1 answer=$2
   shift 2
   rm -f out
-  build_timer
+  build_timer || return 1
   "$timer" "$@" "$image" out >printed 2>said
   status=$?
   [ "$status" -eq 0 ] && cmp -s out "$answer"
