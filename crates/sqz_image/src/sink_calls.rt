@@ -51,7 +51,7 @@ impl SinkCalls {
         ensures some { IfOk result (λ count. 0 < length from.now → 0 < count) }
         ensures unflushed { IfOk result (λ count. self.new.unflushed ≡ (if count == 0 then self.old.unflushed else true)) }
         ensures sound { OnOk result (self.new.failed ≡ self.old.failed) }
-        ensures none { OnErr result (IfOk written (λ count. count ≡ 0)) }
+        ensures none { OnErr result (IfOk written (λ count. (count ≡ 0) × (0 < length from.now))) }
         ensures left { OnErr result (self.new.unflushed ≡ self.old.unflushed) }
         ensures failed { OnErr result (self.new.failed ≡ true) }
         ensures same_writes { self.new.writes ≡ self.old.writes }
