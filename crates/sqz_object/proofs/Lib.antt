@@ -1,3 +1,4 @@
 pub mod ChunkLemmas
 pub mod PartitionLemmas
+pub mod RankedLemmas
 pub mod WordLemmas
