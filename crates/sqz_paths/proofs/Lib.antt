@@ -1,0 +1,3 @@
+pub mod SearchLemmas
+pub mod PathLemmas
+pub mod MemberLemmas

@@ -1,0 +1,108 @@
+-- Steps along slots, the paths that they are, and how a search leads back to its first object.
+-- Serves `path::path_to`, `path::path_back`, `slots_between::slot_between` and `MemberLemmas`.
+use Rattle.std.proofs.Common.{◌≡◌, ℕ, zero, suc, ◌+◌, ◌<◌, eqb, List, [], ◌∷◌, Option, Some, None, true, false, true≢false, length}
+use Rattle.std.proofs.Common.{get_or, sym, ap, subst, ◌∙◌, arith}
+use Rattle.std.specs.Prelude.{slice_index, All}
+use Rattle.std.specs.Option.{option_eq}
+use Rattle.std.proofs.lemmas.Bool.{eq-eqb, eqb-true}
+use Rattle.std.proofs.lemmas.List.{get_or_read}
+use Rattle.std.proofs.lemmas.Option.{same_Some}
+use Rattle.sqz_image.specs.declared.fault.Slot.{Slot}
+use Rattle.sqz_image.specs.Objects.{Memory, object_count, chunk_words}
+use Rattle.sqz_trace.specs.declared.weak.Weak.{Weak}
+use Rattle.sqz_trace.specs.Edges.{strong_target, HasEdge}
+use Rattle.sqz_trace.specs.Strong.{strong}
+use Rattle.sqz_trace.specs.Graph.{Leads}
+use Rattle.sqz_trace.specs.Reachability.{graph_from}
+use Rattle.sqz_trace.proofs.EdgeLemmas.{named_among-lt}
+use Rattle.sqz_paths.specs.declared.path.Step.{Step}
+use Rattle.sqz_paths.specs.Paths.{LeadsBySlots, objects_on}
+use Rattle.sqz_paths.specs.Search.{no_place, IsLed, IsSearchOf}
+
+module _ (memory : Memory) (weak : Weak) where
+  -- what a strong slot names is an object
+  pub strong_target-lt : (index : ℕ) (slot : Slot) (to : ℕ) → strong_target memory weak index slot ≡ Some to → to < object_count memory
+  strong_target-lt index slot to names =
+      named_among-lt memory (strong memory weak (chunk_words memory index)) (chunk_words memory index) slot to names
+
+  -- steps along strong slots are a path of the graph
+  pub Leads-by_slots : (start from : ℕ) (steps : List Step) (goal : ℕ) → from < object_count memory
+      → LeadsBySlots memory weak from steps goal → Leads (graph_from start memory weak) from (objects_on steps) goal
+  Leads-by_slots start from [] goal inside same = same
+  Leads-by_slots start from (step ∷ steps) goal inside by_slots = (
+    record { inside = inside; slot = step.slot; names = by_slots.0 },
+    Leads-by_slots start step.object steps goal (strong_target-lt from step.slot step.object by_slots.0) by_slots.1,
+  )
+
+  -- what steps come to are objects
+  pub steps-inside : (from : ℕ) (steps : List Step) (goal : ℕ) → LeadsBySlots memory weak from steps goal
+      → All (λ step. step.object < object_count memory) steps
+  steps-inside from [] goal same k d lt = absurd (omega arith)
+  steps-inside from (step ∷ steps) goal by_slots zero d lt = strong_target-lt from step.slot step.object by_slots.0
+  steps-inside from (step ∷ steps) goal by_slots (suc k) d lt = steps-inside step.object steps goal by_slots.1 k d (omega arith)
+
+-- ---- a look-up that is compared with an object
+
+-- where `==` says that they are one, it is found
+pub is_the_one : (found : Option ℕ) (to : ℕ) → option_eq eqb found (Some to) ≡ true → found ≡ Some to
+is_the_one None to is = absurd (true≢false (sym is))
+is_the_one (Some index) to is = ap (λ (i : ℕ). Some i) (eqb-true index to is)
+
+-- and where it says that they are not, it is not
+pub is_another : (found : Option ℕ) (to : ℕ) → option_eq eqb found (Some to) ≡ false → found ≡ Some to → ⊥
+is_another None to isnt same = cc
+is_another (Some index) to isnt same = true≢false (sym (eq-eqb index to (same_Some index to same)) ∙ isnt)
+
+-- ---- back from an object that was found
+
+module _ (memory : Memory) (weak : Weak) (found from : List ℕ) (last : ℕ) (law : IsSearchOf memory weak found from last)
+    (place : ℕ) (here : place < length found) (object : ℕ) (object_is : object ≡ get_or found place object) where
+  -- it is the object at that place
+  pub found-is : object ≡ slice_index found place
+  found-is = get_or_read found place object here object_is 0
+
+  -- it is an object of the graph
+  pub found-inside : object < length from
+  found-inside = omega (arith, law.search.inside place here, found-is, law.search.sized)
+
+-- what a search tells of the object at a place, and of the place before, from which it was led to
+pub record IsReadBack (memory : Memory) (weak : Weak) (found from : List ℕ) (last place object before : ℕ) : Type 0 where
+  pub law : IsSearchOf memory weak found from last
+  pub here : place < length found
+  pub some : 0 < place
+  pub object_is : object ≡ get_or found place object
+  pub before_is : before ≡ get_or from object before
+
+module _ (memory : Memory) (weak : Weak) (found from : List ℕ) (last place object before : ℕ)
+    (read : IsReadBack memory weak found from last place object before) where
+  led : IsLed (graph_from read.law.start memory weak) found from read.law.search.depths place
+  led = read.law.search.led place read.some read.here
+
+  object_there : object ≡ slice_index found place
+  object_there = found-is memory weak found from last read.law place read.here object read.object_is
+
+  is_before : before ≡ led.before
+  is_before =
+      get_or_read from object before (found-inside memory weak found from last read.law place read.here object read.object_is)
+      read.before_is no_place
+      ∙ (ap (λ (i : ℕ). get_or from i no_place) object_there ∙ led.is)
+
+  -- the one that led to it stands before it
+  pub before-earlier : before < place
+  before-earlier = omega (arith, is_before, led.earlier)
+
+  -- has an edge to it
+  pub before-edge : HasEdge memory weak (slice_index found before) object
+  before-edge =
+      subst (λ (i : ℕ). HasEdge memory weak (slice_index found i) object) (sym is_before)
+      (subst (λ (i : ℕ). HasEdge memory weak (slice_index found led.before) i) (sym object_there) led.edge)
+
+  -- and is less deep by one
+  pub before-deep : slice_index read.law.search.depths place ≡ slice_index read.law.search.depths before + 1
+  before-deep = led.deeper ∙ ap (λ (i : ℕ). slice_index read.law.search.depths i + 1) (sym is_before)
+
+  -- an object that is read there is the one that stands there
+  pub before-is : (other : ℕ) → other ≡ get_or found before other → other ≡ slice_index found before
+  before-is other is =
+      let earlier = before-earlier in
+      get_or_read found before other (omega (arith, read.here)) is 0

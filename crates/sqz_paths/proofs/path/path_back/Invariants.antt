@@ -1,0 +1,18 @@
+use Rattle.std.proofs.Common.{◌≡◌, ◌+◌, ◌<◌, length}
+use Rattle.std.specs.Prelude.{reverse, slice_index}
+use Rattle.sqz_paths.specs.Paths.{LeadsBySlots}
+use Rattle.sqz_paths.specs.Search.{IsSearchOf}
+use Rattle.sqz_paths.proofs.path.path_back.Given as goal
+
+abbrev pub invariant-loop-next : goal.invariant-loop-next
+invariant-loop-next l =
+    record {
+      inside : l.next < length l.search.found.items;
+      leads : LeadsBySlots l.heap l.weak (slice_index l.search.found.items l.next) (reverse l.steps.items)
+          (slice_index l.search.found.items l.place);
+      deep : (law : IsSearchOf l.heap l.weak l.search.found.items l.search.from.items l.place)
+          → slice_index law.search.depths l.next + length l.steps.items ≡ slice_index law.search.depths l.place;
+    }
+
+abbrev pub decreases-loop-next : goal.decreases-loop-next
+decreases-loop-next l = l.next

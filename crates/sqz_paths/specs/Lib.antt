@@ -1,0 +1,3 @@
+pub mod Paths
+pub mod Search
+pub mod Members

@@ -1,0 +1,33 @@
+-- Shortest paths along strong slots from the special objects array.
+use Rattle.std.specs.Prelude.{◌≡◌, ◌<◌, ◌≤◌, ℕ, List, [], ◌∷◌, length, map, All, Some}
+use Rattle.sqz_image.specs.Objects.{Memory, object_count, find}
+use Rattle.sqz_trace.specs.declared.weak.Weak.{Weak}
+use Rattle.sqz_trace.specs.Edges.{strong_target}
+use Rattle.sqz_trace.specs.Graph.{Leads, IsReachable}
+use Rattle.sqz_trace.specs.Reachability.{graph_from}
+use Rattle.sqz_paths.specs.declared.path.Step.{Step}
+
+-- from an object, each step's slot names the object that the step comes to, and the last one is the goal
+abbrev pub LeadsBySlots : Memory → Weak → ℕ → List Step → ℕ → Type 0
+LeadsBySlots memory weak from [] goal = from ≡ goal
+LeadsBySlots memory weak from (step ∷ steps) goal =
+    (strong_target memory weak from step.slot ≡ Some step.object) × LeadsBySlots memory weak step.object steps goal
+
+-- the objects that steps come to, one after the other
+abbrev pub objects_on : List Step → List ℕ
+objects_on steps = map (λ step. step.object) steps
+
+-- the steps are a path to the object, by the slots that they name, and no path to it has fewer
+pub record IsShortestPath (memory : Memory) (weak : Weak) (object : ℕ) (steps : List Step) : Type 0 where
+  pub start : ℕ
+  pub is_special : find memory memory.special ≡ Some start
+  pub inside : All (λ step. step.object < object_count memory) steps
+  pub leads : Leads (graph_from start memory weak) start (objects_on steps) object
+  pub by_slots : LeadsBySlots memory weak start steps object
+  pub shortest : (path : List ℕ) → Leads (graph_from start memory weak) start path object → length steps ≤ length path
+
+-- no path leads to the object
+pub record IsUnreachable (memory : Memory) (weak : Weak) (object : ℕ) : Type 0 where
+  pub start : ℕ
+  pub is_special : find memory memory.special ≡ Some start
+  pub none : IsReachable (graph_from start memory weak) object → ⊥
