@@ -11,6 +11,7 @@ mod rows;
 mod shares;
 mod tallies;
 
+pub use names::{class_name, compact_name, shown_byte};
 pub use printing::print;
 pub use row::Row;
 pub use rows::census;

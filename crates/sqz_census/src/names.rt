@@ -26,12 +26,7 @@ const MOST_BYTES: usize = 40;
 const MOST_WORDS: usize = 10;
 
 /// The name of a class: its own, or that of its one instance followed by ` class`, or a question mark.
-pub(crate) fn class_name(
-    alloc: Global,
-    heap: &Heap,
-    weak: Weak,
-    class: u32,
-) -> Result<Vec<u8>, AllocError>
+pub fn class_name(alloc: Global, heap: &Heap, weak: Weak, class: u32) -> Result<Vec<u8>, AllocError>
     requires { class < object_count heap.now }
     ensures { IfOk result (λ name. name.items ≡ class_name heap.now weak class) }
 {
@@ -48,7 +43,7 @@ pub(crate) fn class_name(
 }
 
 /// What stands for the name of a class in the row of objects without one.
-pub(crate) fn compact_name(alloc: Global, compact: u32) -> Result<Vec<u8>, AllocError>
+pub fn compact_name(alloc: Global, compact: u32) -> Result<Vec<u8>, AllocError>
     ensures { IfOk result (λ name. name.items ≡ codes "compact " ++ decimal compact) }
 {
     let name = format!(in alloc; "compact {compact}")?;
@@ -141,7 +136,7 @@ fn shown_bytes(alloc: Global, bytes: &[u8]) -> Result<Vec<u8>, AllocError>
 }
 
 /// A byte as it is printed: a question mark stands for one that is no printable ASCII character.
-fn shown_byte(byte: u8) -> u8
+pub fn shown_byte(byte: u8) -> u8
     ensures { result ≡ shown_byte byte }
 {
     if byte >= 32 && byte <= 126 {

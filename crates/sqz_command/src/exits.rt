@@ -9,10 +9,10 @@ use sqz_image::Fault;
 pub const DONE: u8 = 0;
 
 /// The image is at fault.
-pub(crate) const BAD_IMAGE: u8 = 1;
+pub const BAD_IMAGE: u8 = 1;
 
 /// The words of the command line are at fault.
-pub(crate) const BAD_ARGUMENTS: u8 = 2;
+pub const BAD_ARGUMENTS: u8 = 2;
 
 /// A file could not be read or written.
 pub(crate) const DEVICE_FAILED: u8 = 3;

@@ -12,7 +12,8 @@ mod refusals;
 mod wrong_words;
 
 pub use arguments::{Arguments, read_arguments};
-pub use exits::DONE;
+pub use exits::{BAD_ARGUMENTS, BAD_IMAGE, DONE};
 pub use output_file::OutputFile;
+pub use printing::print;
 pub use refusals::{explain, refuse};
 pub use wrong_words::refuse_words;

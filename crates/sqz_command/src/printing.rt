@@ -28,7 +28,7 @@ impl<W: Sink> fmt::Write for TextSink<'_, W> {
 }
 
 /// Prints a value, and takes no memory for it. Where the sink fails, the rest is left out.
-pub(crate) fn print<W: Sink, D: Display + Drop>(sink: &mut W, value: D) {
+pub fn print<W: Sink, D: Display + Drop>(sink: &mut W, value: D) {
     let mut text = TextSink { sink };
     let _ = write!(text, "{value}");
 }

@@ -1,0 +1,65 @@
+//! Answers to questions.
+
+ghost use Rattle.std.specs.Prelude.{◌<◌, IfOk};
+ghost use Rattle.sqz_image.specs.Objects.{object_count};
+
+use crate::addresses::address_in;
+use crate::arguments::{Arguments, Question};
+use crate::files::file_text;
+use crate::members::members_text;
+use crate::objects::object_text;
+use crate::refusal::Refusal;
+use sqz_image::{Fault, Heap, Image, ReadSource, read_all, read_image};
+use sqz_trace::named_by;
+use std::alloc::Global;
+use std::fs::File;
+use std::rt::Files;
+use std::thread::Threads;
+
+/// The answer to what a command line asks, whole.
+pub(crate) fn answer_to<T: Files + Threads + Sync>(
+    rt: &T,
+    alloc: Global,
+    arguments: &Arguments<'_>,
+) -> Result<Vec<u8>, Refusal> {
+    match arguments.question {
+        Question::File => {
+            let bytes = bytes_of(rt, alloc, arguments.input)?;
+            let image = read_image(alloc, &bytes)?;
+            Ok(file_text(rt, alloc, &bytes, &image, arguments.weak)?)
+        }
+        Question::Object(word) => {
+            let address = address_in(word).ok_or(Refusal::NoAddress)?;
+            let image = image_in(rt, alloc, arguments.input)?;
+            let object = object_at(image.heap(), address)?;
+            Ok(object_text(alloc, image.heap(), arguments.weak, object)?)
+        }
+        Question::Class(word) => {
+            let address = address_in(word).ok_or(Refusal::NoAddress)?;
+            let image = image_in(rt, alloc, arguments.input)?;
+            let class = object_at(image.heap(), address)?;
+            Ok(members_text(alloc, image.heap(), arguments.weak, class)?)
+        }
+    }
+}
+
+/// All bytes of a file.
+fn bytes_of<T: Files>(rt: &T, alloc: Global, path: &str) -> Result<Vec<u8>, Fault> {
+    let Ok(file) = File::open(rt, path) else {
+        return Err(Fault::ReadFailed);
+    };
+    read_all(alloc, &mut ReadSource::new(file))
+}
+
+/// The image in a file, whose bytes are let go.
+fn image_in<T: Files>(rt: &T, alloc: Global, path: &str) -> Result<Image, Fault> {
+    let bytes = bytes_of(rt, alloc, path)?;
+    read_image(alloc, &bytes)
+}
+
+/// The object with an address.
+fn object_at(heap: &Heap, address: u32) -> Result<u32, Refusal>
+    ensures { IfOk result (λ object. object < object_count heap.now) }
+{
+    named_by(heap, address).ok_or(Refusal::NoObject(address))
+}

@@ -1,0 +1,81 @@
+//! The command line.
+
+use clap::{Arg, ArgAction, Command, Error, value_parser};
+use sqz_trace::Weak;
+use std::alloc::{AllocError, Global};
+
+/// What is asked about an image. Addresses are as the words of the command line spell them.
+#[derive(Clone, Copy)]
+pub(crate) enum Question<'a> {
+    /// What the file holds.
+    File,
+    /// What the object with an address is, and why it is there.
+    Object(&'a str),
+    /// Which live objects the class with an address has.
+    Class(&'a str),
+}
+
+/// What the words of a command line ask for.
+#[derive(Clone, Copy)]
+pub(crate) struct Arguments<'a> {
+    /// The path of the image.
+    pub(crate) input: &'a str,
+    /// What becomes of weak slots.
+    pub(crate) weak: Weak,
+    pub(crate) question: Question<'a>,
+}
+
+/// Reads the words of a command line, of which the first is the program's name.
+///
+/// Fails with what is to be printed: the help, where it was asked for, or what is wrong.
+pub(crate) fn read_arguments<'a>(
+    alloc: Global,
+    words: &'a [String],
+) -> Result<Arguments<'a>, Error> {
+    let matches = command(alloc)?.try_get_matches_from(words)?;
+    let question = match (matches.get_str("class"), matches.get_str("ADDRESS")) {
+        (Some(class), _) => Question::Class(class),
+        (None, Some(object)) => Question::Object(object),
+        (None, None) => Question::File,
+    };
+    let weak = if matches.get_flag("clear-weak") {
+        Weak::Clear
+    } else {
+        Weak::Keep
+    };
+    // words without the path of the image are refused before
+    let input = matches.get_str("IN").unwrap_or("");
+    Ok(Arguments {
+        input,
+        weak,
+        question,
+    })
+}
+
+/// What the program takes.
+fn command<'a>(alloc: Global) -> Result<Command<'a>, AllocError> {
+    let input = Arg::new(alloc, "IN")
+        .help("The image to look into")
+        .required(true)
+        .action(ArgAction::Set);
+    let object = Arg::new(alloc, "ADDRESS")
+        .help("The address of an object in it: what that is, and what keeps it")
+        .action(ArgAction::Set);
+    let class = Arg::new(alloc, "class")
+        .long("class")
+        .value_name("ADDRESS")
+        .help("List the live objects of the class with this address")
+        .action(ArgAction::Set)
+        .conflicts_with("ADDRESS")?;
+    let clear_weak = Arg::new(alloc, "clear-weak")
+        .long("clear-weak")
+        .help("Look as if what only weak references name were let go of")
+        .action(ArgAction::SetTrue)
+        .value_parser(value_parser!(bool));
+    Command::new(alloc, "sqzlook")
+        .about("Tells what an image holds, and why an object is in it. Version 1.0.0")
+        .arg(input)?
+        .arg(object)?
+        .arg(class)?
+        .arg(clear_weak)
+}

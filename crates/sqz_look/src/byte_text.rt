@@ -1,0 +1,50 @@
+//! The bytes of an object, as they are printed.
+
+use sqz_census::shown_byte;
+use sqz_image::Object;
+use sqz_object::{Order, base_of, put_word};
+use std::alloc::{AllocError, Global};
+
+/// How many bytes are printed at most.
+const MOST_BYTES: usize = 400;
+
+/// Whether the fields of an object are bytes: the formats 8 to 11.
+pub(crate) fn has_bytes(object: &Object<'_>) -> bool {
+    let format = base_of(object.header().base).format;
+    format >= 8 && format <= 11
+}
+
+/// The number of an object's bytes, and the first of them, as a census prints those of names.
+pub(crate) fn text_of(
+    alloc: Global,
+    order: Order,
+    object: &Object<'_>,
+) -> Result<Vec<u8>, AllocError> {
+    let fields = object.fields();
+    let unused = base_of(object.header().base).format % 4;
+    let count = (4 * fields.len()).saturating_sub(unused as usize);
+    let mut text = format!(in alloc; "{count} bytes: ")?.into_bytes();
+    let shown = count.min(MOST_BYTES);
+    for byte in first_bytes(alloc, order, fields, shown)?.iter() {
+        text.push(shown_byte(*byte))?;
+    }
+    if shown < count {
+        text.extend_from_slice(b" ..")?;
+    }
+    Ok(text)
+}
+
+/// The first bytes that spell words, so many of them.
+fn first_bytes(
+    alloc: Global,
+    order: Order,
+    words: &[u32],
+    count: usize,
+) -> Result<Vec<u8>, AllocError> {
+    let mut bytes = Vec::new(alloc);
+    for word in words.iter().take(count.div_ceil(4)) {
+        bytes.extend_from_slice(&put_word(order, *word))?;
+    }
+    bytes.truncate(count);
+    Ok(bytes)
+}

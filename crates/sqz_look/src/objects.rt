@@ -1,0 +1,60 @@
+//! What an object is.
+
+ghost use Rattle.std.specs.Prelude.{◌<◌};
+ghost use Rattle.sqz_image.specs.Objects.{object_count};
+
+use crate::byte_text::{has_bytes, text_of};
+use crate::classes::{name_of_class, named_class};
+use crate::facts::Facts;
+use crate::paths::path_text;
+use crate::slots::add_slots;
+use sqz_image::{Fault, Heap};
+use sqz_object::base_of;
+use sqz_trace::{Weak, class_of};
+use std::alloc::{AllocError, Global};
+
+/// The facts of an object, what its slots hold, its bytes as text where it has such, and a path to it.
+pub(crate) fn object_text(
+    alloc: Global,
+    heap: &Heap,
+    weak: Weak,
+    object: u32,
+) -> Result<Vec<u8>, Fault>
+    requires { object < object_count heap.now }
+{
+    let mut facts = Facts::new(alloc);
+    add_header(alloc, &mut facts, heap, weak, object)?;
+    let chunk = heap.object(object);
+    add_slots(alloc, &mut facts, heap, weak, &chunk)?;
+    if has_bytes(&chunk) {
+        facts.add_text("text", &text_of(alloc, heap.order(), &chunk)?)?;
+    }
+    let mut text = facts.into_text();
+    text.extend_from_slice(&path_text(alloc, heap, weak, object)?)?;
+    Ok(text)
+}
+
+/// Adds what an object's header says.
+fn add_header(
+    alloc: Global,
+    facts: &mut Facts,
+    heap: &Heap,
+    weak: Weak,
+    object: u32,
+) -> Result<(), AllocError>
+    requires { object < object_count heap.now }
+{
+    let header = heap.chunk(object);
+    let base = base_of(header.base);
+    facts.add("address", format_args!("{:08x}", heap.address(object)))?;
+    match class_of(heap, weak, &heap.object(object)) {
+        Some(class) => facts.add_text("class", &named_class(alloc, heap, weak, class)?)?,
+        None => facts.add_text("class", &name_of_class(alloc, heap, weak, object)?)?,
+    }
+    facts.add("bytes", 4 * u64::from(header.length))?;
+    facts.add("header words", u64::from(header.before) + 1)?;
+    facts.add("compact index", base.compact)?;
+    facts.add("format", base.format)?;
+    facts.add("hash", base.hash)?;
+    facts.add("fields", heap.fields(object))
+}
