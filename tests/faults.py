@@ -10,7 +10,8 @@ fault and has written nothing, or a front of the answer where a write failed; or
 it does all that it is to do.
 
 The tests of crates/sqz_test_refusals are then run in the same way: each public call that is refused memory is made again
-there, and prints its name. So is the test of crates/sqz_test_marks that closes a table on which an image was marked.
+there, and prints its name. So is the test of crates/sqz_test_marks that closes a table on which an image was marked. And so is
+`sqzlook`, which prints its answer whole or not at all, or a front of it where a write failed.
 
 The last line is 'N passed, M failed'. Without a C compiler nothing is run, and a line says so.
 """
@@ -50,6 +51,16 @@ CALLS = {
 CLOSES_AGAIN = os.path.join(ROOT, "crates", "sqz_test_marks", "out", "sqz_test_marks_tests")
 TEST_OF_CLOSING = "steps::one_pass"
 WANTS_MEMORY = (b"error: OutOfMemory\n", b"error: AllocError\n")
+
+# The questions that are asked without memory, and where reads and writes fail: an image of images/, and further words.
+LOOK = os.path.join(ROOT, "crates", "sqzlook", "out", "sqzlook")
+QUESTIONS = (
+    ("dead_cycle.image",),
+    ("class_names.image", "00001024"),
+    ("context_stack.image", "0000101c"),
+    ("weak_fields.image", "00001020", "--clear-weak"),
+    ("class_names.image", "--class", "00001004"),
+)
 
 # A run: its options, the bytes of the image, and what it is to write and to print.
 Run = collections.namedtuple("Run", "options image answer census")
@@ -188,12 +199,13 @@ def try_devices(tests, library):
         try_calls(tests, library, name, next(runs_over(name)), {**failed, "ONE_BYTE": "1"})
 
 
-def ends_of(library, words):
-    """How a test ends in which one request for memory after the other is refused, as long as there is one."""
+def ends_of(library, words, variable="REFUSED_REQUEST", others=None):
+    """How a program ends to which one request for memory after the other is refused, or one call after the other, as long as there
+    is one."""
     for number in itertools.count(1):
         if os.path.exists("refused"):
             os.remove("refused")
-        environment = {**os.environ, "LD_PRELOAD": library, "REFUSED_REQUEST": str(number)}
+        environment = {**os.environ, "LD_PRELOAD": library, variable: str(number), **(others or {})}
         ended = subprocess.run(words, capture_output=True, timeout=SECONDS, env=environment, check=False)
         if not os.path.exists("refused"):
             return
@@ -219,6 +231,22 @@ def try_calls_again(tests, library):
     tests.add("a table that is closed again", closed > 0 and closed + others == len(ends))
 
 
+def try_looks(tests, memory, calls):
+    """Each question is answered whole, or ends with the fault."""
+    failed = {"FAILED_ERROR": str(errno.EIO)}
+    for image, *rest in QUESTIONS:
+        words = (LOOK, os.path.join(IMAGES, image), *rest)
+        answer = subprocess.run(words, capture_output=True, timeout=SECONDS, check=True).stdout
+        ends = [(it.returncode, it.stderr, it.stdout) for it in ends_of(memory, words)]
+        bears = all(end in ((0, b"", answer), (*NO_MEMORY, b"")) for end in ends)
+        tests.add(f"memory of a look {image} {rest}", bears and ends.count((*NO_MEMORY, b"")) > 10)
+        ends = [(it.returncode, it.stderr, it.stdout) for it in ends_of(calls, words, "FAILED_READ", failed)]
+        tests.add(f"reads of a look {image} {rest}", set(ends) == {(*NOT_READ, b"")})
+        ends = list(ends_of(calls, words, "FAILED_WRITE", failed))
+        bears = all(it.returncode == 3 and answer.startswith(it.stdout) for it in ends)
+        tests.add(f"writes of a look {image} {rest}", bears and len(ends) > 0)
+
+
 def main():
     tests = FaultTests()
     with tempfile.TemporaryDirectory() as folder:
@@ -230,6 +258,7 @@ def main():
             try_memory(tests, memory)
             try_devices(tests, calls)
             try_calls_again(tests, memory)
+            try_looks(tests, memory, calls)
         os.chdir(ROOT)
     print(f"{tests.faults} runs ended with a fault", file=sys.stderr)
     return tests.end()
