@@ -54,7 +54,9 @@ loop-next-preserved c =
     let step : Step = record { slot = c.in-Some.slot; object = object } in
     let pushed = c.in_ok-push-in-Some.ensures.items in
     let end = slice_index found c.args.place in
-    let is = found-is memory c.args.weak found _ c.args.place c.requires.searching c.loop-next.next so_far.inside object c.index-object.ensures in
+    let is =
+    found-is memory c.args.weak found _ c.args.place c.requires.searching c.loop-next.next so_far.inside object c.index-object.ensures
+    in
     let there = before-is _ _ _ _ _ _ _ _ read c.index-in-loop-next.result.now c.index-in-loop-next.ensures in
     let rest = subst (λ (i : ℕ). LeadsBySlots memory c.args.weak i (reverse c.loop-next.steps.items) end) (sym is) so_far.leads in
     let names = subst (λ (i : ℕ). strong_target memory c.args.weak i c.in-Some.slot ≡ Some object) there c.in-Some.ensures.names in
