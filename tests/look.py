@@ -167,7 +167,8 @@ def main():
     parser.add_argument("--seed", type=int, default=1)
     options = parser.parse_args()
     tests = Tests()
-    look("--help")
+    # The first call may build the program, which takes minutes.
+    subprocess.run([PROGRAM, "--help"], capture_output=True, check=True)
     try_stored(tests)
     home = os.getcwd()
     with tempfile.TemporaryDirectory() as folder:
