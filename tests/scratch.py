@@ -1,5 +1,6 @@
 """Finds an image that the Squeak machine itself saved: that of Debian's package `scratch`, or another one that is named."""
 
+import fcntl
 import hashlib
 import os
 import shutil
@@ -29,8 +30,11 @@ def unpacked(folder):
     if os.geteuid() != 0 or not shutil.which("apt-get") or not shutil.which("dpkg-deb"):
         return None
     fetch = (*APT, "download", PACKAGE)
-    if not succeeds(fetch, folder) and not (succeeds((*APT, "update"), folder) and succeeds(fetch, folder)):
-        return None
+    with open(__file__, encoding="utf-8") as lock:
+        # The package manager serves one at a time, and refuses who comes meanwhile: tests run side by side.
+        fcntl.flock(lock, fcntl.LOCK_EX)
+        if not succeeds(fetch, folder) and not (succeeds((*APT, "update"), folder) and succeeds(fetch, folder)):
+            return None
     packages = [name for name in os.listdir(folder) if name.endswith(".deb")]
     if len(packages) != 1 or not succeeds(("dpkg-deb", "-x", packages[0], "."), folder):
         return None

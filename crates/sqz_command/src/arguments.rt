@@ -63,38 +63,32 @@ fn command<'a>(alloc: Global) -> Result<Command<'a>, AllocError>
     ensures shape { IfOk result (λ command. app_of command ≡ command_line) }
     ensures given { IfOk result (λ command. (m : ArgMatches) → IsParsedFrom command m → GivesAll m) }
 {
-    let input = required(alloc, "IN", "The image to read");
-    let output = required(alloc, "OUT", "The image to write");
-    let workers = number(
-        alloc,
-        "workers",
-        "4",
-        "How many workers mark and move objects, from 1 to 64",
-    );
-    let region_words = number(
-        alloc,
-        "region-words",
-        "65536",
-        "How many words a region has, up to 2^30; workers that move objects share regions out",
-    );
-    let census = flag(
-        alloc,
-        "census",
-        "Print how many objects each class has, and how many bytes",
-    );
-    let clear_weak = flag(
-        alloc,
-        "clear-weak",
-        "Let go of what only weak references name",
-    );
     Command::new(alloc, "sqzcompact")
         .about("Writes an image with its reachable objects alone. Version 1.0.0")
-        .arg(input)?
-        .arg(output)?
-        .arg(workers)?
-        .arg(region_words)?
-        .arg(census)?
-        .arg(clear_weak)
+        .arg(required(alloc, "IN", "The image to read"))?
+        .arg(required(alloc, "OUT", "The image to write"))?
+        .arg(number(
+            alloc,
+            "workers",
+            "4",
+            "How many workers mark and move objects, from 1 to 64",
+        ))?
+        .arg(number(
+            alloc,
+            "region-words",
+            "65536",
+            "How many words a region has, up to 2^30; workers that move objects share regions out",
+        ))?
+        .arg(flag(
+            alloc,
+            "census",
+            "Print how many objects each class has, and how many bytes",
+        ))?
+        .arg(flag(
+            alloc,
+            "clear-weak",
+            "Let go of what only weak references name",
+        ))
 }
 
 /// A word that has to be there.

@@ -10,7 +10,7 @@ use crate::members::members_text;
 use crate::objects::object_text;
 use crate::refusal::Refusal;
 use sqz_image::{Fault, Heap, Image, ReadSource, read_all, read_image};
-use sqz_trace::named_by;
+use sqz_trace::{Weak, named_by};
 use std::alloc::Global;
 use std::fs::File;
 use std::rt::Files;
@@ -22,25 +22,56 @@ pub(crate) fn answer_to<T: Files + Threads + Sync>(
     alloc: Global,
     arguments: &Arguments<'_>,
 ) -> Result<Vec<u8>, Refusal> {
+    let path = arguments.input;
+    let weak = arguments.weak;
     match arguments.question {
-        Question::File => {
-            let bytes = bytes_of(rt, alloc, arguments.input)?;
-            let image = read_image(alloc, &bytes)?;
-            Ok(file_text(rt, alloc, &bytes, &image, arguments.weak)?)
-        }
-        Question::Object(word) => {
-            let address = address_in(word).ok_or(Refusal::NoAddress)?;
-            let image = image_in(rt, alloc, arguments.input)?;
-            let object = object_at(image.heap(), address)?;
-            Ok(object_text(alloc, image.heap(), arguments.weak, object)?)
-        }
-        Question::Class(word) => {
-            let address = address_in(word).ok_or(Refusal::NoAddress)?;
-            let image = image_in(rt, alloc, arguments.input)?;
-            let class = object_at(image.heap(), address)?;
-            Ok(members_text(alloc, image.heap(), arguments.weak, class)?)
-        }
+        Question::File => Ok(about_file(rt, alloc, path, weak)?),
+        Question::Object(word) => about_object(rt, alloc, path, weak, address_of(word)?),
+        Question::Class(word) => about_class(rt, alloc, path, weak, address_of(word)?),
     }
+}
+
+/// The address that a word spells.
+fn address_of(word: &str) -> Result<u32, Refusal> {
+    address_in(word).ok_or(Refusal::NoAddress)
+}
+
+/// What a file holds.
+fn about_file<T: Files + Threads + Sync>(
+    rt: &T,
+    alloc: Global,
+    path: &str,
+    weak: Weak,
+) -> Result<Vec<u8>, Fault> {
+    let bytes = bytes_of(rt, alloc, path)?;
+    let image = read_image(alloc, &bytes)?;
+    file_text(rt, alloc, &bytes, &image, weak)
+}
+
+/// What the object with an address is, and why it is there.
+fn about_object<T: Files>(
+    rt: &T,
+    alloc: Global,
+    path: &str,
+    weak: Weak,
+    address: u32,
+) -> Result<Vec<u8>, Refusal> {
+    let image = image_in(rt, alloc, path)?;
+    let object = object_at(image.heap(), address)?;
+    Ok(object_text(alloc, image.heap(), weak, object)?)
+}
+
+/// The live objects of the class with an address.
+fn about_class<T: Files>(
+    rt: &T,
+    alloc: Global,
+    path: &str,
+    weak: Weak,
+    address: u32,
+) -> Result<Vec<u8>, Refusal> {
+    let image = image_in(rt, alloc, path)?;
+    let class = object_at(image.heap(), address)?;
+    Ok(members_text(alloc, image.heap(), weak, class)?)
 }
 
 /// All bytes of a file.

@@ -54,28 +54,44 @@ pub(crate) fn read_arguments<'a>(
 
 /// What the program takes.
 fn command<'a>(alloc: Global) -> Result<Command<'a>, AllocError> {
-    let input = Arg::new(alloc, "IN")
+    Command::new(alloc, "sqzlook")
+        .about("Tells what an image holds, and why an object is in it. Version 1.0.0")
+        .arg(input(alloc))?
+        .arg(object(alloc))?
+        .arg(class(alloc)?)?
+        .arg(clear_weak(alloc))
+}
+
+/// The path of the image, which has to be there.
+fn input<'a>(alloc: Global) -> Arg<'a> {
+    Arg::new(alloc, "IN")
         .help("The image to look into")
         .required(true)
-        .action(ArgAction::Set);
-    let object = Arg::new(alloc, "ADDRESS")
+        .action(ArgAction::Set)
+}
+
+/// The address of an object.
+fn object<'a>(alloc: Global) -> Arg<'a> {
+    Arg::new(alloc, "ADDRESS")
         .help("The address of an object in it: what that is, and what keeps it")
-        .action(ArgAction::Set);
-    let class = Arg::new(alloc, "class")
+        .action(ArgAction::Set)
+}
+
+/// The option for a class, which goes without an object.
+fn class<'a>(alloc: Global) -> Result<Arg<'a>, AllocError> {
+    Arg::new(alloc, "class")
         .long("class")
         .value_name("ADDRESS")
         .help("List the live objects of the class with this address")
         .action(ArgAction::Set)
-        .conflicts_with("ADDRESS")?;
-    let clear_weak = Arg::new(alloc, "clear-weak")
+        .conflicts_with("ADDRESS")
+}
+
+/// The option to let go of what weak slots name.
+fn clear_weak<'a>(alloc: Global) -> Arg<'a> {
+    Arg::new(alloc, "clear-weak")
         .long("clear-weak")
         .help("Look as if what only weak references name were let go of")
         .action(ArgAction::SetTrue)
-        .value_parser(value_parser!(bool));
-    Command::new(alloc, "sqzlook")
-        .about("Tells what an image holds, and why an object is in it. Version 1.0.0")
-        .arg(input)?
-        .arg(object)?
-        .arg(class)?
-        .arg(clear_weak)
+        .value_parser(value_parser!(bool))
 }

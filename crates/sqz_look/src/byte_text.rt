@@ -23,14 +23,24 @@ pub(crate) fn text_of(
     let fields = object.fields();
     let unused = base_of(object.header().base).format % 4;
     let count = (4 * fields.len()).saturating_sub(unused as usize);
-    let mut text = format!(in alloc; "{count} bytes: ")?.into_bytes();
     let shown = count.min(MOST_BYTES);
-    for byte in first_bytes(alloc, order, fields, shown)?.iter() {
+    let bytes = first_bytes(alloc, order, fields, shown)?;
+    let rest = if shown < count { " .." } else { "" };
+    shown_text(alloc, count, &bytes, rest)
+}
+
+/// A number of bytes, some bytes as they are shown, and what stands behind them.
+fn shown_text(
+    alloc: Global,
+    count: usize,
+    bytes: &[u8],
+    rest: &str,
+) -> Result<Vec<u8>, AllocError> {
+    let mut text = format!(in alloc; "{count} bytes: ")?.into_bytes();
+    for byte in bytes {
         text.push(shown_byte(*byte))?;
     }
-    if shown < count {
-        text.extend_from_slice(b" ..")?;
-    }
+    text.extend_from_slice(rest.as_bytes())?;
     Ok(text)
 }
 

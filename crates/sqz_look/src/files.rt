@@ -8,7 +8,7 @@ use crate::free_chunks::free_chunks;
 use sqz_image::{Fault, Heap, Image};
 use sqz_object::Order;
 use sqz_trace::{Marks, Weak, first_defect, lacks_nil, mark_plain};
-use std::alloc::Global;
+use std::alloc::{AllocError, Global};
 use std::thread::Threads;
 
 /// How many bytes the header of an image has.
@@ -23,25 +23,42 @@ pub(crate) fn file_text(
     image: &Image,
     weak: Weak,
 ) -> Result<Vec<u8>, Fault> {
-    let heap = image.heap();
-    let marks = mark_plain(alloc, heap, weak)?;
-    let begins = image.prefix().len();
-    let data = bytes.get(begins.saturating_add(HEADER)..).unwrap_or(&[]);
     let mut facts = Facts::new(alloc);
+    add_header(&mut facts, image)?;
+    add_data(rt, alloc, &mut facts, bytes, image, weak)?;
+    Ok(facts.into_text())
+}
+
+/// Adds what is said of an image's place in its file, and by its header.
+fn add_header(facts: &mut Facts, image: &Image) -> Result<(), AllocError> {
+    let heap = image.heap();
+    let special = heap.address(heap.special());
     facts.add("order", name_of(heap.order()))?;
-    facts.add("begins at byte", begins)?;
+    facts.add("begins at byte", image.prefix().len())?;
     facts.add("base", format_args!("{:08x}", heap.base()))?;
     facts.add("bytes of data", 4 * u64::from(heap.words()))?;
-    facts.add(
-        "special objects",
-        format_args!("{:08x}", heap.address(heap.special())),
-    )?;
+    facts.add("special objects", format_args!("{special:08x}"))
+}
+
+/// Adds what its data hold: the objects, and the first fault.
+fn add_data(
+    rt: &(impl Threads + Sync),
+    alloc: Global,
+    facts: &mut Facts,
+    bytes: &[u8],
+    image: &Image,
+    weak: Weak,
+) -> Result<(), Fault> {
+    let heap = image.heap();
+    let begins = image.prefix().len().saturating_add(HEADER);
+    let data = bytes.get(begins..).unwrap_or(&[]);
+    let marks = mark_plain(alloc, heap, weak)?;
     facts.add("objects", heap.len())?;
     facts.add("free chunks", free_chunks(data, heap))?;
     facts.add("live objects", marks.count())?;
     facts.add("live bytes", live_bytes(heap, &marks))?;
-    add_fault(&mut facts, first_fault(rt, heap, weak, &marks))?;
-    Ok(facts.into_text())
+    add_fault(facts, first_fault(rt, heap, weak, &marks))?;
+    Ok(())
 }
 
 /// The name of a byte order.
@@ -76,10 +93,9 @@ fn first_fault(rt: &(impl Threads + Sync), heap: &Heap, weak: Weak, marks: &Mark
 }
 
 /// Adds the line of a fault, as it is printed where it stops a run.
-fn add_fault(facts: &mut Facts, fault: Option<Fault>) -> Result<(), Fault> {
+fn add_fault(facts: &mut Facts, fault: Option<Fault>) -> Result<(), AllocError> {
     match fault {
-        Some(fault) => facts.add("fault", format_args!("{}: {fault}", fault.number()))?,
-        None => facts.add("fault", "none")?,
+        Some(fault) => facts.add("fault", format_args!("{}: {fault}", fault.number())),
+        None => facts.add("fault", "none"),
     }
-    Ok(())
 }

@@ -7,7 +7,7 @@ use crate::classes::named_class;
 use sqz_image::{Fault, Heap};
 use sqz_paths::members_of;
 use sqz_trace::{Weak, mark_plain};
-use std::alloc::Global;
+use std::alloc::{AllocError, Global};
 
 /// A line for each live object of a class, most bytes first: its bytes, right-aligned in 12 places, and its address; and a last line
 /// with the sum, and what is listed.
@@ -25,15 +25,28 @@ pub(crate) fn members_text(
     let mut sum = 0u64;
     for member in &members {
         let bytes = 4 * u64::from(member.words);
-        let address = heap.address(member.object);
-        let line = format!(in alloc; "{bytes:>12} {address:08x}\n")?;
-        text.extend_from_slice(line.as_bytes())?;
+        add_member(alloc, &mut text, bytes, heap.address(member.object))?;
         sum = sum.saturating_add(bytes);
     }
-    let count = members.len();
-    let total = format!(in alloc; "{sum:>12} in {count} objects of ")?;
-    text.extend_from_slice(total.as_bytes())?;
+    add_sum(alloc, &mut text, sum, members.len())?;
     text.extend_from_slice(&named_class(alloc, heap, weak, class)?)?;
     text.push(b'\n')?;
     Ok(text)
+}
+
+/// Adds the line of an object with so many bytes.
+fn add_member(
+    alloc: Global,
+    text: &mut Vec<u8>,
+    bytes: u64,
+    address: u32,
+) -> Result<(), AllocError> {
+    let line = format!(in alloc; "{bytes:>12} {address:08x}\n")?;
+    text.extend_from_slice(line.as_bytes())
+}
+
+/// Adds the last line, up to what is listed.
+fn add_sum(alloc: Global, text: &mut Vec<u8>, sum: u64, count: usize) -> Result<(), AllocError> {
+    let line = format!(in alloc; "{sum:>12} in {count} objects of ")?;
+    text.extend_from_slice(line.as_bytes())
 }

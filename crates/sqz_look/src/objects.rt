@@ -6,7 +6,7 @@ ghost use Rattle.sqz_image.specs.Objects.{object_count};
 use crate::byte_text::{has_bytes, text_of};
 use crate::classes::{name_of_class, named_class};
 use crate::facts::Facts;
-use crate::paths::path_text;
+use crate::paths::add_path;
 use crate::slots::add_slots;
 use sqz_image::{Fault, Heap};
 use sqz_object::base_of;
@@ -29,9 +29,8 @@ pub(crate) fn object_text(
     if has_bytes(&chunk) {
         facts.add_text("text", &text_of(alloc, heap.order(), &chunk)?)?;
     }
-    let mut text = facts.into_text();
-    text.extend_from_slice(&path_text(alloc, heap, weak, object)?)?;
-    Ok(text)
+    add_path(alloc, &mut facts, heap, weak, object)?;
+    Ok(facts.into_text())
 }
 
 /// Adds what an object's header says.
@@ -47,14 +46,26 @@ fn add_header(
     let header = heap.chunk(object);
     let base = base_of(header.base);
     facts.add("address", format_args!("{:08x}", heap.address(object)))?;
-    match class_of(heap, weak, &heap.object(object)) {
-        Some(class) => facts.add_text("class", &named_class(alloc, heap, weak, class)?)?,
-        None => facts.add_text("class", &name_of_class(alloc, heap, weak, object)?)?,
+    facts.add_text("class", &class_text(alloc, heap, weak, object)?)?;
+    for (name, number) in &[
+        ("bytes", 4 * u64::from(header.length)),
+        ("header words", u64::from(header.before) + 1),
+        ("compact index", u64::from(base.compact)),
+        ("format", u64::from(base.format)),
+        ("hash", u64::from(base.hash)),
+        ("fields", u64::from(heap.fields(object))),
+    ] {
+        facts.add(name, *number)?;
     }
-    facts.add("bytes", 4 * u64::from(header.length))?;
-    facts.add("header words", u64::from(header.before) + 1)?;
-    facts.add("compact index", base.compact)?;
-    facts.add("format", base.format)?;
-    facts.add("hash", base.hash)?;
-    facts.add("fields", heap.fields(object))
+    Ok(())
+}
+
+/// The class of an object with its address; `compact K` with its compact index where it has none.
+fn class_text(alloc: Global, heap: &Heap, weak: Weak, object: u32) -> Result<Vec<u8>, AllocError>
+    requires { object < object_count heap.now }
+{
+    match class_of(heap, weak, &heap.object(object)) {
+        Some(class) => named_class(alloc, heap, weak, class),
+        None => name_of_class(alloc, heap, weak, object),
+    }
 }

@@ -2,27 +2,44 @@
 
 ghost use Rattle.std.specs.Prelude.{◌<◌};
 ghost use Rattle.sqz_image.specs.Objects.{object_count};
+ghost use Rattle.sqz_paths.specs.Paths.{IsShortestPath};
 
 use crate::classes::label_of;
 use crate::facts::Facts;
 use sqz_image::{Fault, Heap, Slot};
-use sqz_paths::path_to;
+use sqz_paths::{Path, path_to};
 use sqz_trace::Weak;
 use std::alloc::{AllocError, Global};
 
-/// The text of a shortest path to an object from the special objects array: how many steps it has, and a line for each object on
-/// it, with the slot that names the next one.
-pub(crate) fn path_text(
+/// Adds a shortest path to an object from the special objects array, or that there is none.
+pub(crate) fn add_path(
     alloc: Global,
+    facts: &mut Facts,
     heap: &Heap,
     weak: Weak,
     object: u32,
-) -> Result<Vec<u8>, Fault> {
-    let mut facts = Facts::new(alloc);
-    let Some(path) = path_to(alloc, heap, weak, object)? else {
-        facts.add("path", "none: it is not reachable")?;
-        return Ok(facts.into_text());
-    };
+) -> Result<(), Fault>
+    requires { object < object_count heap.now }
+{
+    match path_to(alloc, heap, weak, object)? {
+        Some(path) => add_steps(alloc, facts, heap, weak, object, &path)?,
+        None => facts.add("path", "none: it is not reachable")?,
+    }
+    Ok(())
+}
+
+/// Adds how many steps a path to an object has, and a line for each object on it, with the slot that names the next one.
+fn add_steps(
+    alloc: Global,
+    facts: &mut Facts,
+    heap: &Heap,
+    weak: Weak,
+    object: u32,
+    path: &Path,
+) -> Result<(), AllocError>
+    requires inside { object < object_count heap.now }
+    requires path { IsShortestPath heap.now weak object path.now.steps.items }
+{
     let count = path.steps.len();
     let noun = if count == 1 { "step" } else { "steps" };
     facts.add("path", format_args!("{count} {noun}"))?;
@@ -31,8 +48,7 @@ pub(crate) fn path_text(
         facts.add_text("", &line_of(alloc, heap, weak, at, step.slot)?)?;
         at = step.object;
     }
-    facts.add_text("", &label_of(alloc, heap, weak, at)?)?;
-    Ok(facts.into_text())
+    facts.add_text("", &label_of(alloc, heap, weak, object)?)
 }
 
 /// The line of an object on a path, by a slot of it.

@@ -1,7 +1,7 @@
 -- The live words of the regions, one region after the other.
 -- Serves `forward::range_places`, `sums::live_words`, `sums::live_words_between`, `EntryLemmas` and `ListedLemmas`;
--- `table::MarkTable::close` of `sqz_marks`; `TallyLemmas` of `sqz_census`; `compaction::compaction_of` and
--- `SettledLemmas` of `sqz_tool`; `stages::print_compaction` of `sqz_stage_times`.
+-- `table::MarkTable::close` of `sqz_marks`; `TallyLemmas` of `sqz_census`; `compaction::moved` and
+-- `SettledLemmas` of `sqz_tool`; `stages::print_moving` of `sqz_stage_times`.
 use Rattle.std.proofs.Common.{◌≡◌, ◌⊎◌, ℕ, zero, suc, ◌+◌, ◌*◌, ◌<◌, ◌≤◌, Bool, true, false, cond, ltb, eqb}
 use Rattle.std.proofs.Common.{List, [], ◌∷◌, ◌++◌, map, filter, length, get_or, take}
 use Rattle.std.proofs.Common.{refl, sym, ap, subst, ◌∙◌, arith, add-one, inl, inr}

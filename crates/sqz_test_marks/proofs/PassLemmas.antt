@@ -1,7 +1,7 @@
 -- What a pass knows after calls, one after the other.
--- Serves `passes::mark_rest`, `passes::race`, `steps::assert_blackens`, `::assert_claims`, `::assert_looks`,
--- `::assert_marked`, `::blacken_named`, `::claim`, `::mark_dead_cycle`, `::mark_named`, `::mark_special`,
--- `targets::claim_target` and `targets::mark_targets`.
+-- Serves `passes::raced`, `steps::assert_blackens`, `::assert_claims`, `::assert_each_blackens`, `::assert_looks`,
+-- `::assert_marked`, `::claim`, `::mark_dead_cycle`, `::mark_named`, `::mark_special`, `targets::claim_target` and
+-- `targets::mark_targets`.
 use Rattle.std.proofs.Common.{◌≡◌, ◌≢◌, ◌⊎◌, ℕ, ◌<◌, List, ◌∷◌, Option, Some, None, refl, sym, ap, subst, ◌∙◌, arith, inl, inr}
 use Rattle.sqz_image.specs.declared.fault.Slot.{Slot}
 use Rattle.sqz_image.specs.Objects.{Memory, object_count}

@@ -28,6 +28,14 @@ const DEAD_CYCLE_SHADES: [Shade; 6] = [
     Shade::Black,
 ];
 
+/// How many words the marked objects of it have in each region, which is cut before objects 1 and 2.
+const DEAD_CYCLE_WORDS: [u32; 3] = [1, 2, 5];
+
+/// The cut of it before objects 1 and 2.
+pub(crate) fn new_cut(alloc: Global) -> Result<Cut, Fail> {
+    Ok(Cut::at([1, 3].to_vec(alloc)?)?)
+}
+
 /// Asserts that a heap has six objects, of which the last is the special objects array, as that of the dead cycle.
 pub(crate) fn assert_dead_cycle<R: Abort>(rt: &R, heap: &Heap)
     ensures count { object_count heap.now ≡ 6 }
@@ -133,7 +141,7 @@ fn assert_blackens<R: Abort + AllocGlobal>(
 }
 
 /// Asserts it of objects of an image of six, one after the other: which they are, and what each of them wins.
-pub(crate) fn assert_each_blackens<R: Abort + AllocGlobal>(
+fn assert_each_blackens<R: Abort + AllocGlobal>(
     rt: &R,
     table: &MarkTable<'_>,
     pass: &mut Pass,
@@ -151,7 +159,7 @@ pub(crate) fn assert_each_blackens<R: Abort + AllocGlobal>(
 }
 
 /// What is left of a table. Where memory is refused once, it is asked for again: table and pass are as before.
-pub(crate) fn close_again(alloc: Global, table: MarkTable<'_>, pass: Pass) -> Result<Closed, Fault>
+fn close_again(alloc: Global, table: MarkTable<'_>, pass: Pass) -> Result<Closed, Fault>
     requires of { IsPassOf table pass }
     requires whole { pass.view.weight ≡ table.workers }
     requires counted { HasCountedAll pass.view }
@@ -166,7 +174,23 @@ pub(crate) fn close_again(alloc: Global, table: MarkTable<'_>, pass: Pass) -> Re
     Ok(closed)
 }
 
-/// How many words the marked objects of the dead cycle's image have in each region, which is cut before objects 1 and 2.
+/// What is left of the table of an image of six objects when these have been made black, as is asserted of them.
+pub(crate) fn closed_after<R: Abort + AllocGlobal>(
+    rt: &R,
+    table: MarkTable<'_>,
+    mut pass: Pass,
+    each: &[(u32, &[u32])],
+) -> Result<Closed, Fail>
+    requires of { IsPassOf table pass }
+    requires count { object_count table.heap.memory ≡ 6 }
+    requires whole { pass.view.weight ≡ table.workers }
+    requires counted { HasCountedAll pass.view }
+{
+    assert_each_blackens(rt, &table, &mut pass, each)?;
+    Ok(close_again(rt.alloc(), table, pass)?)
+}
+
+/// How many words these objects have in each region, as the heap has it.
 fn dead_cycle_words(heap: &Heap) -> [u32; 3]
     requires { object_count heap.now ≡ 6 }
 {
@@ -178,10 +202,10 @@ fn dead_cycle_words(heap: &Heap) -> [u32; 3]
 pub(crate) fn assert_closed<R: Abort>(rt: &R, heap: &Heap, closed: &Closed)
     requires { object_count heap.now ≡ 6 }
 {
-    let words = dead_cycle_words(heap);
-    assert_eq!(rt; words.as_slice(), [1, 2, 5].as_slice());
-    assert_eq!(rt; closed.live_words.as_slice(), words.as_slice());
-    assert_eq!(rt; closed.shades.as_slice(), DEAD_CYCLE_SHADES.as_slice());
+    assert_eq!(rt; dead_cycle_words(heap), DEAD_CYCLE_WORDS);
+    let found = (closed.live_words.as_slice(), closed.shades.as_slice());
+    let wanted = (DEAD_CYCLE_WORDS.as_slice(), DEAD_CYCLE_SHADES.as_slice());
+    assert_eq!(rt; found, wanted);
 }
 
 /// What the pass does with the special objects array.
@@ -215,6 +239,9 @@ fn mark_named<R: Abort>(rt: &R, table: &MarkTable<'_>, pass: &mut Pass)
     assert_claims(rt, table, pass, 3, Slot::Field(0), Claim::Seen(1));
 }
 
+/// The objects that are grey then, of which none wins another.
+const REST: &[(u32, &[u32])] = &[(0, &[]), (1, &[]), (3, &[])];
+
 /// Marks the dead cycle's image with one pass, which is so many workers' share.
 fn mark_dead_cycle<R: Abort + AllocGlobal>(
     rt: &R,
@@ -228,8 +255,19 @@ fn mark_dead_cycle<R: Abort + AllocGlobal>(
     let (table, mut pass) = MarkTable::new(rt.alloc(), heap, Weak::Keep, regions, workers)?;
     mark_special(rt, &table, &mut pass)?;
     mark_named(rt, &table, &mut pass);
-    assert_each_blackens(rt, &table, &mut pass, &[(0, &[]), (1, &[]), (3, &[])])?;
-    Ok(close_again(rt.alloc(), table, pass)?)
+    closed_after(rt, table, pass, REST)
+}
+
+/// Asserts what is left of a table where the pass is one worker's share, two's, or that of the most that there can be.
+fn assert_one_pass<R: Abort + AllocGlobal>(rt: &R, heap: &Heap, cut: &Cut) -> Result<(), Fail>
+    requires { object_count heap.now ≡ 6 }
+{
+    let regions = Regions::of(rt.alloc(), heap, cut)?;
+    for number in [1, 2, 64] {
+        let closed = mark_dead_cycle(rt, heap, &regions, Workers::new(number)?)?;
+        assert_closed(rt, heap, &closed);
+    }
+    Ok(())
 }
 
 #[test]
@@ -237,11 +275,5 @@ fn one_pass(rt: HostRuntime) -> Result<(), Fail> {
     let image = image_of(rt.alloc(), &DEAD_CYCLE)?;
     let heap = image.heap();
     assert_dead_cycle(&rt, heap);
-    let cut = Cut::at([1, 3].to_vec(rt.alloc())?)?;
-    let regions = Regions::of(rt.alloc(), heap, &cut)?;
-    for number in [1, 2, 64] {
-        let closed = mark_dead_cycle(&rt, heap, &regions, Workers::new(number)?)?;
-        assert_closed(&rt, heap, &closed);
-    }
-    Ok(())
+    assert_one_pass(&rt, heap, &new_cut(rt.alloc())?)
 }

@@ -1,11 +1,28 @@
 //! Command lines that are no plan, and the help.
 
-use super::programs::{assert_ended, run_program};
+use super::programs::{Ended, assert_ended, run_program};
 use std::process::Abort;
 use std::rt::Files;
 use std::sync::Wait;
 use std::test::Fail;
 use std::thread::Threads;
+
+/// Whether these bytes are not one text that stands there twice.
+fn is_said_once(bytes: &[u8]) -> bool {
+    let (first, second) = bytes.split_at(bytes.len() / 2);
+    first != second
+}
+
+/// Asserts that the program ended with 2 at so many words, and said why on standard error, once.
+fn assert_says_why<R: Abort>(rt: &R, ended: &Ended, count: usize) {
+    assert_eq!(rt;
+        (ended.exit, ended.out.contents().is_empty()),
+        (2, true),
+        "at {count} words"
+    );
+    let said = ended.err.contents();
+    assert!(rt; !said.is_empty() && is_said_once(said), "at {count} words");
+}
 
 /// Asserts that the program ends with 2 at these words, and says why on standard error, once.
 fn assert_not_taken<R: Threads + Wait + Sync + Abort + AllocGlobal + Files>(
@@ -13,11 +30,7 @@ fn assert_not_taken<R: Threads + Wait + Sync + Abort + AllocGlobal + Files>(
     words: &[&str],
 ) -> Result<(), Fail> {
     let ended = run_program(rt, rt.alloc(), words)?;
-    let count = words.len();
-    assert_eq!(rt; ended.exit, 2, "at {count} words");
-    assert!(rt; ended.out.is_empty() && !ended.err.is_empty());
-    let (first, second) = ended.err.split_at(ended.err.len() / 2);
-    assert!(rt; first != second, "at {count} words");
+    assert_says_why(rt, &ended, words.len());
     Ok(())
 }
 
@@ -35,21 +48,27 @@ fn takes_a_flag_once_and_without_a_value(rt: HostRuntime) -> Result<(), Fail> {
     assert_not_taken(&rt, &["--clear-weak", "--clear-weak", "a", "b"])
 }
 
+/// What is printed where the number of workers is refused.
+const BAD_WORKERS: &str = "fault 18: workers must be from 1 to 64\n";
+
+/// What is printed where the number of words of a region is.
+const BAD_CUT: &str = "fault 19: region cut is not valid\n";
+
+/// Words with numbers that are refused, and what is printed.
+const NUMBERS: [(&[&str], &str); 5] = [
+    (&["--workers", "0", "a", "b"], BAD_WORKERS),
+    (&["--workers", "65", "a", "b"], BAD_WORKERS),
+    (&["--region-words", "0", "a", "b"], BAD_CUT),
+    (&["--region-words", "1073741825", "a", "b"], BAD_CUT),
+    (
+        &["--region-words", "0", "--workers", "0", "a", "b"],
+        BAD_WORKERS,
+    ),
+];
+
 #[test]
 fn refuses_numbers(rt: HostRuntime) -> Result<(), Fail> {
-    let workers = "fault 18: workers must be from 1 to 64\n";
-    let cut = "fault 19: region cut is not valid\n";
-    let some: [(&[&str], &str); 5] = [
-        (&["--workers", "0", "a", "b"], workers),
-        (&["--workers", "65", "a", "b"], workers),
-        (&["--region-words", "0", "a", "b"], cut),
-        (&["--region-words", "1073741825", "a", "b"], cut),
-        (
-            &["--region-words", "0", "--workers", "0", "a", "b"],
-            workers,
-        ),
-    ];
-    for (words, line) in some {
+    for (words, line) in &NUMBERS {
         let ended = run_program(&rt, rt.alloc(), words)?;
         assert_ended(&rt, &ended, 2, line);
     }
@@ -60,6 +79,6 @@ fn refuses_numbers(rt: HostRuntime) -> Result<(), Fail> {
 fn helps(rt: HostRuntime) -> Result<(), Fail> {
     let ended = run_program(&rt, rt.alloc(), &["--help"])?;
     assert_eq!(rt; ended.exit, 0);
-    assert!(rt; !ended.out.is_empty() && ended.err.is_empty());
+    assert!(rt; !ended.out.contents().is_empty() && ended.err.contents().is_empty());
     Ok(())
 }

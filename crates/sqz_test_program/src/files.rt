@@ -1,10 +1,10 @@
 //! The program, over files of the operating system.
 
 use super::images::{compacted_image, whole_image};
-use super::programs::{assert_ended, run_program};
+use super::programs::{assert_ended, assert_printed, run_program};
 use sqz_test_images::answers::WEAK_FIELDS_CLEARED;
-use sqz_test_images::file_of;
 use sqz_test_images::with_weak_objects::WEAK_FIELDS;
+use sqz_test_images::{TestImage, file_of};
 use std::fs::File;
 use std::io::{Read, Write};
 use std::process::Abort;
@@ -13,11 +13,22 @@ use std::sync::Wait;
 use std::test::Fail;
 use std::thread::Threads;
 
+/// Makes a file with these bytes.
+fn make_file<R: Files>(rt: &R, path: &str, bytes: &[u8]) -> Result<(), Fail> {
+    File::create(rt, path)?.write_all(bytes)?;
+    Ok(())
+}
+
 /// Makes a file with the image of three objects.
 fn make_image<R: AllocGlobal + Files>(rt: &R, path: &str) -> Result<(), Fail> {
-    let image = whole_image(rt.alloc())?;
-    File::create(rt, path)?.write_all(&image)?;
-    Ok(())
+    make_file(rt, path, &whole_image(rt.alloc())?)
+}
+
+/// The bytes that a file holds.
+fn bytes_in<R: AllocGlobal + Files>(rt: &R, path: &str) -> Result<Vec<u8>, Fail> {
+    let mut found = Vec::new(rt.alloc());
+    File::open(rt, path)?.read_to_end(&mut found)?;
+    Ok(found)
 }
 
 /// Asserts that a file holds these bytes.
@@ -26,15 +37,20 @@ fn assert_holds<R: Abort + AllocGlobal + Files>(
     path: &str,
     wanted: &[u8],
 ) -> Result<(), Fail> {
-    let mut found = Vec::new(rt.alloc());
-    File::open(rt, path)?.read_to_end(&mut found)?;
+    let found = bytes_in(rt, path)?;
     assert_eq!(rt; found.as_slice(), wanted);
     Ok(())
 }
 
-/// Asserts that a file holds the image without its dead object.
-fn assert_compacted<R: Abort + AllocGlobal + Files>(rt: &R, path: &str) -> Result<(), Fail> {
-    assert_holds(rt, path, &compacted_image(rt.alloc())?)
+/// Asserts that the program, given these words, prints nothing, and that a file then holds these bytes.
+fn assert_makes<R: Threads + Wait + Sync + Abort + AllocGlobal + Files>(
+    rt: &R,
+    words: &[&str],
+    path: &str,
+    wanted: &[u8],
+) -> Result<(), Fail> {
+    assert_ended(rt, &run_program(rt, rt.alloc(), words)?, 0, "");
+    assert_holds(rt, path, wanted)
 }
 
 /// Asserts that the program compacts one file into another.
@@ -44,9 +60,7 @@ fn assert_compacts<R: Threads + Wait + Sync + Abort + AllocGlobal + Files>(
     to: &str,
 ) -> Result<(), Fail> {
     make_image(rt, from)?;
-    let ended = run_program(rt, rt.alloc(), &[from, to])?;
-    assert_ended(rt, &ended, 0, "");
-    assert_compacted(rt, to)
+    assert_makes(rt, &[from, to], to, &compacted_image(rt.alloc())?)
 }
 
 #[test]
@@ -59,41 +73,52 @@ fn compacts_in_place(rt: HostRuntime) -> Result<(), Fail> {
     assert_compacts(&rt, "both.image", "both.image")
 }
 
+/// The words that ask for a census.
+const CENSUS_WORDS: [&str; 6] = [
+    "--census",
+    "--workers",
+    "1",
+    "--region-words=1",
+    "counted.image",
+    "kept.image",
+];
+
+/// The text of the census of what is left of the image of three objects.
+const CENSUS: &str = concat!(
+    "         1            8 -------- compact 3\n",
+    "         1            4 -------- compact 1\n",
+    "         2           12 total\n",
+);
+
 #[test]
 fn prints_a_census(rt: HostRuntime) -> Result<(), Fail> {
     make_image(&rt, "counted.image")?;
-    let words = [
-        "--census",
-        "--workers",
-        "1",
-        "--region-words=1",
-        "counted.image",
-        "kept.image",
-    ];
-    let ended = run_program(&rt, rt.alloc(), &words)?;
-    assert_eq!(rt; ended.exit, 0);
-    let text = concat!(
-        "         1            8 -------- compact 3\n",
-        "         1            4 -------- compact 1\n",
-        "         2           12 total\n",
-    );
-    assert_eq!(rt; ended.out.as_slice(), text.as_bytes());
-    assert!(rt; ended.err.is_empty());
-    assert_compacted(&rt, "kept.image")
+    let ended = run_program(&rt, rt.alloc(), &CENSUS_WORDS)?;
+    assert_printed(&rt, &ended, 0, CENSUS, "");
+    assert_holds(&rt, "kept.image", &compacted_image(rt.alloc())?)
 }
+
+/// Words with and without the flag, the path of the file that they have made, and the image in it.
+const WEAK_RUNS: &[(&[&str], &str, &TestImage)] = &[
+    (
+        &["--clear-weak", "weak.image", "cleared.image"],
+        "cleared.image",
+        &WEAK_FIELDS_CLEARED,
+    ),
+    (
+        &["weak.image", "as_before.image"],
+        "as_before.image",
+        &WEAK_FIELDS,
+    ),
+];
 
 #[test]
 fn clears_weak_slots_where_it_is_asked_to(rt: HostRuntime) -> Result<(), Fail> {
-    let image = file_of(rt.alloc(), &WEAK_FIELDS)?;
-    File::create(&rt, "weak.image")?.write_all(&image)?;
-    let words = ["--clear-weak", "weak.image", "cleared.image"];
-    let ended = run_program(&rt, rt.alloc(), &words)?;
-    assert_ended(&rt, &ended, 0, "");
-    let cleared = file_of(rt.alloc(), &WEAK_FIELDS_CLEARED)?;
-    assert_holds(&rt, "cleared.image", &cleared)?;
-    let ended = run_program(&rt, rt.alloc(), &["weak.image", "as_before.image"])?;
-    assert_ended(&rt, &ended, 0, "");
-    assert_holds(&rt, "as_before.image", &image)
+    make_file(&rt, "weak.image", &file_of(rt.alloc(), &WEAK_FIELDS)?)?;
+    for (words, path, wanted) in WEAK_RUNS {
+        assert_makes(&rt, words, path, &file_of(rt.alloc(), wanted)?)?;
+    }
+    Ok(())
 }
 
 #[test]

@@ -18,23 +18,34 @@ pub(crate) fn compacted_image(alloc: Global) -> Result<Vec<u8>, AllocError> {
     file_of(alloc, &NIL_ALONE)
 }
 
-/// An image of more than a MiB, which is several blocks of 64 KiB: a class, a dead array of two fields if it is to have
-/// one, then an object of many bytes, and the special objects array, which names it.
-pub(crate) fn large_image(alloc: Global, has_dead: bool) -> Result<Vec<u8>, AllocError> {
+/// Puts the object of many bytes at the end of a file.
+fn put_many(file: &mut Vec<u8>) -> Result<(), AllocError> {
+    put_words(file, Order::Little, &[4 + MANY, 0x1000, 0x800])?;
+    for byte in 0..MANY {
+        file.push((byte % 251) as u8)?;
+    }
+    Ok(())
+}
+
+/// Puts the large image into an empty file.
+fn put_large_image(file: &mut Vec<u8>, has_dead: bool) -> Result<(), AllocError> {
     let named = if has_dead { 0x1018 } else { 0x100C };
     let special = named + 4 + MANY;
     let size = special + 12 - 0x1000;
     let order = Order::Little;
-    let mut file = Vec::new(alloc);
-    put_header(&mut file, order, size, 0x1000, special)?;
-    put_words(&mut file, order, &[0x1007])?;
+    put_header(file, order, size, 0x1000, special)?;
+    put_words(file, order, &[0x1007])?;
     if has_dead {
-        put_words(&mut file, order, &[0x320F, 1, 1])?;
+        put_words(file, order, &[0x320F, 1, 1])?;
     }
-    put_words(&mut file, order, &[4 + MANY, 0x1000, 0x800])?;
-    for byte in 0..MANY {
-        file.push((byte % 251) as u8)?;
-    }
-    put_words(&mut file, order, &[0x320F, 0x1000, named])?;
+    put_many(file)?;
+    put_words(file, order, &[0x320F, 0x1000, named])
+}
+
+/// An image of more than a MiB, which is several blocks of 64 KiB: a class, a dead array of two fields if it is to have
+/// one, then an object of many bytes, and the special objects array, which names it.
+pub(crate) fn large_image(alloc: Global, has_dead: bool) -> Result<Vec<u8>, AllocError> {
+    let mut file = Vec::new(alloc);
+    put_large_image(&mut file, has_dead)?;
     Ok(file)
 }

@@ -1,12 +1,14 @@
 //! The plan that a command line asks for, as the gate sees it that workers pass.
 
 use super::images::whole_image;
-use super::test_files::{Disk, IN, SOUND, TestFiles};
+use super::test_files::{Disk, IN, OUT, SOUND, TestFiles};
 use sqz_image::MemorySink;
 use sqz_tool::{Arguments, compact};
 use sqz_workers::{Gate, Phase};
+use std::sync::Wait;
 use std::sync::atomic::{AtomicU64, Ordering};
 use std::test::Fail;
+use std::thread::Threads;
 
 /// Counts the workers that mark, those that move objects, and the turns of the latter.
 #[derive(Drop)]
@@ -31,32 +33,41 @@ impl Gate for Counts {
     }
 }
 
+/// Three workers, and regions of one word.
+const ARGUMENTS: Arguments<'static> = Arguments {
+    input: IN,
+    output: OUT,
+    workers: 3,
+    region_words: 1,
+    census: false,
+    clear_weak: false,
+};
+
+/// Compacts an image as it is asked for, past a gate.
+fn compact_image<R: Threads + Wait + Sync + AllocGlobal + Drop>(
+    rt: &R,
+    image: &[u8],
+    gate: &Counts,
+) -> Result<(), Fail> {
+    let mut out = MemorySink::new(rt.alloc(), 0, None)?;
+    let disk = Disk::new(rt.alloc(), image, SOUND);
+    let files = TestFiles { disk: &disk, rt };
+    compact(&files, rt.alloc(), &ARGUMENTS, &mut out, gate)?;
+    Ok(())
+}
+
 /// Six words are as many regions where a region has one word, and each of three workers has two of them.
 #[test]
 fn workers_and_regions_that_are_asked_for(rt: HostRuntime) -> Result<(), Fail> {
-    let image = whole_image(rt.alloc())?;
-    let disk = Disk::new(rt.alloc(), &image, SOUND);
-    let files = TestFiles {
-        disk: &disk,
-        rt: &rt,
-    };
-    let arguments = Arguments {
-        input: IN,
-        output: SOUND.output,
-        workers: 3,
-        region_words: 1,
-        census: false,
-        clear_weak: false,
-    };
-    let gate = Counts {
+    let counts = Counts {
         markers: AtomicU64::new(0),
         movers: AtomicU64::new(0),
         moves: AtomicU64::new(0),
     };
-    let mut out = MemorySink::new(rt.alloc(), 0, None)?;
-    compact(&files, rt.alloc(), &arguments, &mut out, &gate)?;
-    assert_eq!(rt; gate.markers.load(Ordering::SeqCst), 3);
-    assert_eq!(rt; gate.movers.load(Ordering::SeqCst), 3);
-    assert_eq!(rt; gate.moves.load(Ordering::SeqCst), 6);
+    compact_image(&rt, &whole_image(rt.alloc())?, &counts)?;
+    let markers = counts.markers.load(Ordering::SeqCst);
+    let movers = counts.movers.load(Ordering::SeqCst);
+    let moves = counts.moves.load(Ordering::SeqCst);
+    assert_eq!(rt; (markers, movers, moves), (3, 3, 6));
     Ok(())
 }

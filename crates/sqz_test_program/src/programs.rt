@@ -1,8 +1,9 @@
 //! What a call of the program ended with and printed.
 
+use super::test_files::{Behavior, Disk, TestFiles, Written};
 use sqz_image::MemorySink;
 use sqz_tool::program;
-use std::alloc::Global;
+use std::alloc::{AllocError, Global};
 use std::process::Abort;
 use std::rt::Files;
 use std::sync::Wait;
@@ -13,8 +14,18 @@ use std::thread::Threads;
 #[derive(Drop)]
 pub(crate) struct Ended {
     pub exit: u8,
-    pub out: Vec<u8>,
-    pub err: Vec<u8>,
+    pub out: MemorySink,
+    pub err: MemorySink,
+}
+
+/// The words of a command line, of which the first is the program's name.
+fn line_of(alloc: Global, words: &[&str]) -> Result<Vec<String>, AllocError> {
+    let mut line = Vec::new(alloc);
+    line.push(String::from_str(alloc, "sqzcompact")?)?;
+    for word in words {
+        line.push(String::from_str(alloc, word)?)?;
+    }
+    Ok(line)
 }
 
 /// Runs the program with these words after its name.
@@ -23,24 +34,34 @@ pub(crate) fn run_program<R: Threads + Wait + Sync + Files>(
     alloc: Global,
     words: &[&str],
 ) -> Result<Ended, Fail> {
-    let mut line = Vec::new(alloc);
-    line.push(String::from_str(alloc, "sqzcompact")?)?;
-    for word in words {
-        line.push(String::from_str(alloc, word)?)?;
-    }
+    let line = line_of(alloc, words)?;
     let mut out = MemorySink::new(alloc, 4096, None)?;
     let mut err = MemorySink::new(alloc, 4096, None)?;
     let exit = program(rt, alloc, &line, &mut out, &mut err);
-    Ok(Ended {
-        exit,
-        out: Vec::from_slice(alloc, out.contents())?,
-        err: Vec::from_slice(alloc, err.contents())?,
-    })
+    Ok(Ended { exit, out, err })
+}
+
+/// How the program ends with these words where IN has this image, and what it does to OUT.
+pub(crate) fn run_over<R: Threads + Wait + Sync + Drop>(
+    rt: &R,
+    alloc: Global,
+    words: &[&str],
+    image: &[u8],
+    behavior: Behavior,
+) -> Result<(Ended, Written), Fail> {
+    let disk = Disk::new(alloc, image, behavior);
+    let files = TestFiles { disk: &disk, rt };
+    let ended = run_program(&files, alloc, words)?;
+    Ok((ended, disk.into_written()))
+}
+
+/// Asserts that the program ended so, and printed this.
+pub(crate) fn assert_printed<R: Abort>(rt: &R, ended: &Ended, exit: u8, out: &str, err: &str) {
+    let found = (ended.exit, ended.out.contents(), ended.err.contents());
+    assert_eq!(rt; found, (exit, out.as_bytes(), err.as_bytes()));
 }
 
 /// Asserts that the program ended so, with this line on standard error and nothing else printed.
 pub(crate) fn assert_ended<R: Abort>(rt: &R, ended: &Ended, exit: u8, line: &str) {
-    assert_eq!(rt; ended.exit, exit);
-    assert_eq!(rt; ended.err.as_slice(), line.as_bytes());
-    assert!(rt; ended.out.is_empty());
+    assert_printed(rt, ended, exit, "", line);
 }

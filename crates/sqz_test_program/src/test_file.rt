@@ -40,12 +40,7 @@ impl<'a> TestFile<'a> {
 
     /// OUT, made or emptied.
     pub(crate) fn make_output(disk: &'a Disk<'a>) -> io::Result<Self> {
-        let mut output = written(disk)?;
-        output.calls.makings = output.calls.makings.saturating_add(1);
-        if output.calls.makings <= disk.behavior.makings_fail {
-            return Err(Error::from(ErrorKind::PermissionDenied));
-        }
-        output.bytes.clear();
+        written(disk)?.make(&disk.behavior)?;
         Ok(TestFile::Output { disk })
     }
 }
@@ -71,32 +66,14 @@ impl Write for TestFile<'_> {
         let TestFile::Output { disk } = self else {
             return refuse();
         };
-        let mut output = written(disk)?;
-        output.calls.writes = output.calls.writes.saturating_add(1);
-        if output.calls.writes <= disk.behavior.writes_fail {
-            return Err(Error::from(ErrorKind::Other));
-        }
-        let room = disk.behavior.room.saturating_sub(output.bytes.len());
-        if room == 0 && !from.is_empty() {
-            return Err(Error::from(ErrorKind::StorageFull));
-        }
-        let count = from.len().min(room).min(disk.behavior.piece);
-        output.bytes.extend_from_slice(&from[..count])?;
-        output.flushed = false;
-        Ok(count)
+        written(disk)?.write(&disk.behavior, from)
     }
 
     fn flush(&mut self) -> io::Result<()> {
         let TestFile::Output { disk } = self else {
             return refuse();
         };
-        let mut output = written(disk)?;
-        output.calls.flushes = output.calls.flushes.saturating_add(1);
-        if output.calls.flushes <= disk.behavior.flushes_fail {
-            return Err(Error::from(ErrorKind::Other));
-        }
-        output.flushed = true;
-        Ok(())
+        written(disk)?.flush(&disk.behavior)
     }
 }
 

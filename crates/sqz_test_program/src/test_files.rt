@@ -1,6 +1,8 @@
 //! A file system of two files: one that can be read, and one that can be made and written. They fail where
 //! a test wants it, and the test sees what was done to the second.
 
+ghost use Rattle.std.specs.Prelude.{◌≤◌, length, IfOk};
+
 use super::test_file::{TestFile, refuse};
 use std::alloc::{Allocator, Global};
 use std::fs::{Metadata, OpenOptions};
@@ -12,6 +14,9 @@ use std::thread::Threads;
 
 /// The path of the file that can be read.
 pub(crate) const IN: &str = "in.image";
+
+/// The path of the file that can be made, where a test asks for no other one.
+pub(crate) const OUT: &str = "out.image";
 
 /// How the two files behave.
 #[derive(Clone, Copy)]
@@ -34,7 +39,7 @@ pub(crate) struct Behavior {
 
 /// Files that take all at once and never fail.
 pub(crate) const SOUND: Behavior = Behavior {
-    output: "out.image",
+    output: OUT,
     piece: usize::MAX,
     read_fails: false,
     makings_fail: 0,
@@ -59,6 +64,46 @@ pub(crate) struct Written {
     pub bytes: Vec<u8>,
     /// Whether a flush succeeded after the last write.
     pub flushed: bool,
+}
+
+impl Written {
+    /// Makes or empties the file.
+    pub(crate) fn make(&mut self, behavior: &Behavior) -> io::Result<()> {
+        self.calls.makings = self.calls.makings.saturating_add(1);
+        if self.calls.makings <= behavior.makings_fail {
+            return Err(Error::from(ErrorKind::PermissionDenied));
+        }
+        self.bytes.clear();
+        Ok(())
+    }
+
+    /// Takes as many of these bytes as one write does, and answers how many that were.
+    pub(crate) fn write(&mut self, behavior: &Behavior, from: &[u8]) -> io::Result<usize>
+        ensures { IfOk result (λ count. count ≤ length from.now) }
+    {
+        self.calls.writes = self.calls.writes.saturating_add(1);
+        if self.calls.writes <= behavior.writes_fail {
+            return Err(Error::from(ErrorKind::Other));
+        }
+        let room = behavior.room.saturating_sub(self.bytes.len());
+        if room == 0 && !from.is_empty() {
+            return Err(Error::from(ErrorKind::StorageFull));
+        }
+        let count = from.len().min(room).min(behavior.piece);
+        self.bytes.extend_from_slice(&from[..count])?;
+        self.flushed = false;
+        Ok(count)
+    }
+
+    /// Flushes the file.
+    pub(crate) fn flush(&mut self, behavior: &Behavior) -> io::Result<()> {
+        self.calls.flushes = self.calls.flushes.saturating_add(1);
+        if self.calls.flushes <= behavior.flushes_fail {
+            return Err(Error::from(ErrorKind::Other));
+        }
+        self.flushed = true;
+        Ok(())
+    }
 }
 
 /// What the two files hold.

@@ -1,9 +1,8 @@
 //! The program, over files that give and take little at a time, and files that fail.
 
 use super::images::{compacted_image, large_image, whole_image};
-use super::programs::{Ended, assert_ended, run_program};
-use super::test_files::{Behavior, Calls, Disk, IN, SOUND, TestFiles, Written};
-use std::alloc::Global;
+use super::programs::{assert_ended, run_over};
+use super::test_files::{Behavior, Calls, IN, SOUND, Written};
 use std::process::Abort;
 use std::sync::Wait;
 use std::test::Fail;
@@ -12,19 +11,6 @@ use std::thread::Threads;
 /// What is printed where the image cannot be written.
 const NOT_WRITTEN: &str = "fault 17: cannot write the output\n";
 
-/// How the program ended with this image in IN, and what it did to OUT.
-fn run_over<R: Threads + Wait + Sync + Drop>(
-    rt: &R,
-    alloc: Global,
-    image: &[u8],
-    behavior: Behavior,
-) -> Result<(Ended, Written), Fail> {
-    let disk = Disk::new(alloc, image, behavior);
-    let files = TestFiles { disk: &disk, rt };
-    let ended = run_program(&files, alloc, &[IN, behavior.output])?;
-    Ok((ended, disk.into_written()))
-}
-
 /// Asserts that the program writes this to OUT and flushes it, and prints nothing.
 fn assert_writes<R: Threads + Wait + Sync + Abort + AllocGlobal + Drop>(
     rt: &R,
@@ -32,7 +18,8 @@ fn assert_writes<R: Threads + Wait + Sync + Abort + AllocGlobal + Drop>(
     behavior: Behavior,
     wanted: &[u8],
 ) -> Result<(), Fail> {
-    let (ended, written) = run_over(rt, rt.alloc(), image, behavior)?;
+    let words = [IN, behavior.output];
+    let (ended, written) = run_over(rt, rt.alloc(), &words, image, behavior)?;
     assert_ended(rt, &ended, 0, "");
     assert!(rt; written.bytes.as_slice() == wanted && written.flushed);
     Ok(())
@@ -48,7 +35,8 @@ fn assert_fails<R: Threads + Wait + Sync + Abort + AllocGlobal + Drop>(
 ) -> Result<Written, Fail> {
     let mut image = whole_image(rt.alloc())?;
     image.truncate(count);
-    let (ended, written) = run_over(rt, rt.alloc(), &image, behavior)?;
+    let words = [IN, behavior.output];
+    let (ended, written) = run_over(rt, rt.alloc(), &words, &image, behavior)?;
     assert_ended(rt, &ended, 3, line);
     Ok(written)
 }
@@ -80,14 +68,17 @@ fn several_blocks(rt: HostRuntime) -> Result<(), Fail> {
     Ok(())
 }
 
+/// Asserts that OUT has been made once and holds as much of the answer as it takes.
+fn assert_full<R: Abort>(rt: &R, written: &Written, room: usize, mut answer: Vec<u8>) {
+    answer.truncate(room);
+    assert_eq!(rt; (written.calls.makings, &written.bytes), (1, &answer));
+}
+
 #[test]
 fn file_is_full(rt: HostRuntime) -> Result<(), Fail> {
     for room in [0, 1, 64, 75] {
         let written = assert_fails(&rt, 88, Behavior { room, ..SOUND }, NOT_WRITTEN)?;
-        assert_eq!(rt; written.calls.makings, 1);
-        let mut wanted = compacted_image(rt.alloc())?;
-        wanted.truncate(room);
-        assert_eq!(rt; written.bytes, wanted);
+        assert_full(&rt, &written, room, compacted_image(rt.alloc())?);
     }
     Ok(())
 }

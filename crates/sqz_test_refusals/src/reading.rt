@@ -1,9 +1,12 @@
 //! Reading a file and its image, and a sink, where memory is refused.
 
+ghost use Rattle.std.specs.Prelude.{◌≡◌};
+ghost use Rattle.sqz_image.specs.Objects.{object_count};
+
 use super::again::again;
 use super::dead_cycle::{assert_six_objects, image_in, new_sink};
 use super::rows::DEAD_CYCLE;
-use sqz_image::{Fault, Image, ReadSource, Sink, read_all};
+use sqz_image::{Fault, Heap, Image, MemorySink, ReadSource, Sink, read_all};
 use std::process::Abort;
 use std::test::Fail;
 
@@ -26,17 +29,30 @@ fn file_read<R: Print + AllocGlobal>(rt: &R) -> Result<Vec<u8>, Fail> {
     )
 }
 
+/// Asserts what the objects of a heap are.
+fn assert_objects<R: Abort>(rt: &R, heap: &Heap)
+    requires { object_count heap.now ≡ 6 }
+{
+    for (object, wanted) in OBJECTS.iter().enumerate() {
+        let object = object as u32;
+        let found = (heap.address(object), heap.object(object).words());
+        assert_eq!(rt; found, *wanted, "object {object}");
+    }
+}
+
 /// Asserts what the image is.
 fn assert_image<R: Abort>(rt: &R, image: &Image) {
     assert!(rt; image.prefix().is_empty());
     assert_eq!(rt; (image.header(0), image.header(2)), (6502, 48));
     let heap = image.heap();
     assert_six_objects(rt, heap);
-    for (object, (address, words)) in OBJECTS.iter().enumerate() {
-        let object = object as u32;
-        assert_eq!(rt; heap.address(object), *address, "object {object}");
-        assert_eq!(rt; heap.object(object).words(), *words, "object {object}");
-    }
+    assert_objects(rt, heap);
+}
+
+/// Asserts that a sink takes all of the file.
+fn assert_takes<R: Abort>(rt: &R, sink: &mut MemorySink, file: &[u8]) {
+    assert_eq!(rt; sink.write(file), Ok(112));
+    assert_eq!(rt; sink.contents(), DEAD_CYCLE.file);
 }
 
 #[test]
@@ -44,8 +60,6 @@ fn reading_serves_again(rt: HostRuntime) -> Result<(), Fail> {
     let file = file_read(&rt)?;
     assert_eq!(rt; file.as_slice(), DEAD_CYCLE.file);
     assert_image(&rt, &image_in(&rt, &file)?);
-    let mut sink = new_sink(&rt)?;
-    assert_eq!(rt; sink.write(&file), Ok(112));
-    assert_eq!(rt; sink.contents(), DEAD_CYCLE.file);
+    assert_takes(&rt, &mut new_sink(&rt)?, &file);
     Ok(())
 }

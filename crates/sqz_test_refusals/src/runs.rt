@@ -1,5 +1,6 @@
 //! A whole run, where memory is refused.
 
+use super::again::print_refused;
 use super::dead_cycle::{new_cut, new_sink};
 use super::rows::{DEAD_CYCLE, ROWS, Row};
 use sqz_image::{Fault, MemorySink, MemorySource, ReadSource};
@@ -34,12 +35,39 @@ fn run_again<R: Threads + Sync + Abort + Print + AllocGlobal>(
 ) -> Result<Summary, Fail> {
     match run_once(rt, plan, sink, report) {
         Err(Fault::OutOfMemory) => {
-            println!(rt; "refused: run")?;
+            print_refused(rt, "run")?;
             assert!(rt; sink.contents().is_empty() && report.contents().is_empty());
             Ok(run_once(rt, plan, sink, report)?)
         }
         made => Ok(made?),
     }
+}
+
+/// Asserts what a run over an image by a plan answers and writes.
+fn assert_gives<R: Abort>(
+    rt: &R,
+    plan: &Plan,
+    row: &Row,
+    answer: Result<Summary, Fault>,
+    sink: &MemorySink,
+    report: &MemorySink,
+) {
+    let weak = plan.weak;
+    let found = (answer, sink.contents(), report.contents());
+    let wanted = (Ok(row.summary), row.answer, row.census.as_bytes());
+    assert_eq!(rt; found, wanted, "{weak:?}");
+}
+
+/// Asserts what a run by a plan gives that is made again with the same sinks.
+fn assert_serves<R: Threads + Sync + Abort + Print + AllocGlobal>(
+    rt: &R,
+    plan: &Plan,
+) -> Result<(), Fail> {
+    let mut sink = new_sink(rt)?;
+    let mut report = new_sink(rt)?;
+    let summary = run_again(rt, plan, &mut sink, &mut report)?;
+    assert_gives(rt, plan, &DEAD_CYCLE, Ok(summary), &sink, &report);
+    Ok(())
 }
 
 #[test]
@@ -51,12 +79,7 @@ fn run_serves_again(rt: HostRuntime) -> Result<(), Fail> {
             weak,
             census: true,
         };
-        let mut sink = new_sink(&rt)?;
-        let mut report = new_sink(&rt)?;
-        let summary = run_again(&rt, &plan, &mut sink, &mut report)?;
-        assert_eq!(rt; summary, DEAD_CYCLE.summary, "{weak:?}");
-        assert_eq!(rt; sink.contents(), DEAD_CYCLE.answer, "{weak:?}");
-        assert_eq!(rt; report.contents(), DEAD_CYCLE.census.as_bytes(), "{weak:?}");
+        assert_serves(&rt, &plan)?;
     }
     Ok(())
 }
@@ -103,24 +126,32 @@ fn run_with<R: Threads + Sync + AllocGlobal>(
     )
 }
 
-/// Asserts what a run over an image gives. Where it is refused memory it asserts that nothing was written, and makes the run
-/// again over new devices.
+/// Asserts what a run over an image gives from and to new devices.
+fn assert_runs<R: Threads + Sync + Abort + Print + AllocGlobal>(
+    rt: &R,
+    plan: &Plan,
+    row: &Row,
+) -> Result<(), Fail> {
+    let mut devices = new_devices(rt, row.file)?;
+    let answer = run_with(rt, plan, &mut devices);
+    assert_gives(rt, plan, row, answer, &devices.sink, &devices.report);
+    Ok(())
+}
+
+/// The same. Where the run is refused memory it asserts that nothing was written, and makes the run again over new devices.
 fn assert_row<R: Threads + Sync + Abort + Print + AllocGlobal>(
     rt: &R,
     plan: &Plan,
     row: &Row,
 ) -> Result<(), Fail> {
     let mut devices = new_devices(rt, row.file)?;
-    let mut answer = run_with(rt, plan, &mut devices);
+    let answer = run_with(rt, plan, &mut devices);
     if answer == Err(Fault::OutOfMemory) {
-        println!(rt; "refused: run")?;
+        print_refused(rt, "run")?;
         assert!(rt; devices.sink.contents().is_empty() && devices.report.contents().is_empty());
-        devices = new_devices(rt, row.file)?;
-        answer = run_with(rt, plan, &mut devices);
+        return assert_runs(rt, plan, row);
     }
-    assert_eq!(rt; answer, Ok(row.summary));
-    assert_eq!(rt; devices.sink.contents(), row.answer);
-    assert_eq!(rt; devices.report.contents(), row.census.as_bytes());
+    assert_gives(rt, plan, row, answer, &devices.sink, &devices.report);
     Ok(())
 }
 

@@ -10,7 +10,7 @@ use super::rows::DEAD_CYCLE;
 use sqz_census::{Row, census, print};
 use sqz_image::{Fault, Heap};
 use sqz_marks::Workers;
-use sqz_regions::{Forward, Regions, bases, live_words};
+use sqz_regions::{Cut, Forward, Regions, bases, live_words};
 use sqz_slide::{Pieces, slide};
 use sqz_trace::{Marks, Weak, mark_plain};
 use sqz_workers::{Marked, OpenGate, mark, mark_locked};
@@ -202,13 +202,32 @@ fn assert_places<R: Abort>(rt: &R, forward: &Forward)
     }
 }
 
+/// Asserts which words these are.
+fn assert_words<R: Abort>(rt: &R, found: &[u32], wanted: &[u32]) {
+    assert_eq!(rt; found, wanted);
+}
+
+/// Asserts where the live words of each region begin.
+fn assert_bases<R: Abort>(rt: &R, bases: &[u64]) {
+    assert_eq!(rt; bases, BASES.as_slice());
+}
+
 /// Asserts which words each region has.
 fn assert_pieces<R: Abort>(rt: &R, pieces: &Pieces) {
     let pieces = pieces.as_slice();
     assert_eq!(rt; pieces.len(), PIECES.len());
     for (piece, wanted) in pieces.iter().zip(&PIECES) {
-        assert_eq!(rt; piece.as_slice(), *wanted);
+        assert_words(rt, piece, wanted);
     }
+}
+
+/// Asserts what workers that steal give.
+fn assert_stolen<R: Abort>(rt: &R, marked: &Marked)
+    requires { length marked.now.marks ≡ 6 }
+{
+    assert_marks(rt, &marked.marks);
+    assert_words(rt, &marked.live_words, &SUMS);
+    assert_eq!(rt; marked.claims.len(), 2);
 }
 
 /// Asserts what the ways to mark give.
@@ -222,12 +241,8 @@ fn assert_marked<R: Threads + Wait + Sync + Abort + Print + AllocGlobal>(
     requires memory { regions.now.memory ≡ heap.now }
     requires count { object_count heap.now ≡ 6 }
 {
-    let marks = locked_marks(rt, heap, weak, workers)?;
-    assert_marks(rt, &marks);
-    let marked = marked_by(rt, heap, weak, regions, workers)?;
-    assert_marks(rt, &marked.marks);
-    assert_eq!(rt; marked.live_words.as_slice(), SUMS.as_slice());
-    assert_eq!(rt; marked.claims.len(), 2);
+    assert_marks(rt, &locked_marks(rt, heap, weak, workers)?);
+    assert_stolen(rt, &marked_by(rt, heap, weak, regions, workers)?);
     Ok(())
 }
 
@@ -244,16 +259,41 @@ fn placed<R: Threads + Sync + Abort + Print + AllocGlobal>(
     ensures { IfOk result (λ forward. length forward ≡ 6) }
 {
     let sums = sums_of(rt, heap, regions, marks)?;
-    assert_eq!(rt; sums.as_slice(), SUMS.as_slice());
+    assert_words(rt, &sums, &SUMS);
     let bases = bases_of(rt, heap.base(), &sums)?;
-    assert_eq!(rt; bases.as_slice(), BASES.as_slice());
+    assert_bases(rt, &bases);
     let forward = places_of(rt, heap, regions, marks, &bases)?;
     assert_places(rt, &forward);
     Ok(forward)
 }
 
-/// Asserts what each stage gives.
-fn assert_stages<R: Threads + Wait + Sync + Abort + Print + AllocGlobal>(
+/// Asserts what the text of rows is.
+fn assert_census<R: Abort + Print + AllocGlobal>(rt: &R, rows: &[Row]) -> Result<(), Fail> {
+    let text = text_of(rt, rows)?;
+    assert_eq!(rt; text.as_slice(), DEAD_CYCLE.census.as_bytes());
+    Ok(())
+}
+
+/// Asserts what the stages give that want to know where the marked objects go.
+fn assert_last_stages<R: Threads + Sync + Abort + Print + AllocGlobal>(
+    rt: &R,
+    heap: &Heap,
+    weak: Weak,
+    regions: &Regions<'_>,
+    workers: Workers,
+    marks: &Marks,
+    forward: &Forward,
+) -> Result<(), Fail>
+    requires memory { regions.now.memory ≡ heap.now }
+    requires sized { length marks.now ≡ object_count heap.now }
+    requires one_each { length forward.now ≡ object_count heap.now }
+{
+    assert_pieces(rt, &pieces_of(rt, heap, weak, regions, forward, workers)?);
+    assert_census(rt, &rows_of(rt, heap, weak, marks, forward)?)
+}
+
+/// Asserts what one worker's marks are, and what each stage after them gives.
+fn assert_later_stages<R: Threads + Sync + Abort + Print + AllocGlobal>(
     rt: &R,
     heap: &Heap,
     weak: Weak,
@@ -263,15 +303,39 @@ fn assert_stages<R: Threads + Wait + Sync + Abort + Print + AllocGlobal>(
     requires memory { regions.now.memory ≡ heap.now }
     requires count { object_count heap.now ≡ 6 }
 {
-    assert_marked(rt, heap, weak, regions, workers)?;
     let marks = plain_marks(rt, heap, weak)?;
     assert_marks(rt, &marks);
     let forward = placed(rt, heap, regions, &marks)?;
-    let pieces = pieces_of(rt, heap, weak, regions, &forward, workers)?;
-    assert_pieces(rt, &pieces);
-    let rows = rows_of(rt, heap, weak, &marks, &forward)?;
-    let text = text_of(rt, &rows)?;
-    assert_eq!(rt; text.as_slice(), DEAD_CYCLE.census.as_bytes());
+    assert_last_stages(rt, heap, weak, regions, workers, &marks, &forward)
+}
+
+/// Asserts what each stage gives.
+fn assert_stages<R: Threads + Wait + Sync + Abort + Print + AllocGlobal>(
+    rt: &R,
+    heap: &Heap,
+    weak: Weak,
+    regions: &Regions<'_>,
+) -> Result<(), Fail>
+    requires memory { regions.now.memory ≡ heap.now }
+    requires count { object_count heap.now ≡ 6 }
+{
+    let workers = Workers::new(2)?;
+    assert_marked(rt, heap, weak, regions, workers)?;
+    assert_later_stages(rt, heap, weak, regions, workers)
+}
+
+/// Asserts what each stage gives by each policy on weak slots.
+fn assert_each_policy<R: Threads + Wait + Sync + Abort + Print + AllocGlobal>(
+    rt: &R,
+    heap: &Heap,
+    cut: &Cut,
+) -> Result<(), Fail>
+    requires { object_count heap.now ≡ 6 }
+{
+    let regions = regions_of(rt, heap, cut)?;
+    for weak in [Weak::Keep, Weak::Clear] {
+        assert_stages(rt, heap, weak, &regions)?;
+    }
     Ok(())
 }
 
@@ -280,10 +344,5 @@ fn stages_serve_again(rt: HostRuntime) -> Result<(), Fail> {
     let image = image_in(&rt, DEAD_CYCLE.file)?;
     let heap = image.heap();
     assert_six_objects(&rt, heap);
-    let cut = new_cut(rt.alloc())?;
-    let regions = regions_of(&rt, heap, &cut)?;
-    for weak in [Weak::Keep, Weak::Clear] {
-        assert_stages(&rt, heap, weak, &regions, Workers::new(2)?)?;
-    }
-    Ok(())
+    assert_each_policy(&rt, heap, &new_cut(rt.alloc())?)
 }

@@ -3,13 +3,14 @@
 ghost use Rattle.std.specs.Prelude.{◌≡◌, IfOk};
 ghost use Rattle.sqz_marks.specs.Table.{IsPassOf, HasCountedAll};
 
-use super::again::again;
+use super::again::{again, print_refused};
 use super::dead_cycle::{assert_six_objects, image_in, new_cut, regions_of};
 use super::rows::DEAD_CYCLE;
 use sqz_image::{Fault, Heap};
 use sqz_marks::{Closed, MarkTable, Pass, Workers};
-use sqz_regions::Regions;
+use sqz_regions::{Cut, Regions};
 use sqz_trace::{Shade, Weak};
+use std::process::Abort;
 use std::test::Fail;
 
 /// The shades at which marking begins: the special objects array alone is marked.
@@ -54,11 +55,30 @@ fn closed<R: Print + AllocGlobal>(rt: &R, table: MarkTable<'_>, pass: Pass) -> R
         Ok(closed) => return Ok(closed),
         Err(refused) => refused,
     };
-    println!(rt; "refused: MarkTable::close")?;
+    print_refused(rt, "MarkTable::close")?;
     let Ok(closed) = table.close(rt.alloc(), pass) else {
         return Err(Fault::OutOfMemory.into());
     };
     Ok(closed)
+}
+
+/// Asserts that this is what is left of the table at which marking begins.
+fn assert_closed<R: Abort>(rt: &R, closed: &Closed) {
+    let found = (closed.shades.as_slice(), closed.live_words.as_slice());
+    let wanted = (FIRST_SHADES.as_slice(), FIRST_WORDS.as_slice());
+    assert_eq!(rt; found, wanted);
+}
+
+/// Asserts what is left of the table at which marking begins, where it is closed at once.
+fn assert_table<R: Abort + Print + AllocGlobal>(
+    rt: &R,
+    heap: &Heap,
+    cut: &Cut,
+) -> Result<(), Fail> {
+    let regions = regions_of(rt, heap, cut)?;
+    let (table, pass) = new_table(rt, heap, &regions, Workers::new(2)?)?;
+    assert_closed(rt, &closed(rt, table, pass)?);
+    Ok(())
 }
 
 #[test]
@@ -66,11 +86,5 @@ fn mark_table_serves_again(rt: HostRuntime) -> Result<(), Fail> {
     let image = image_in(&rt, DEAD_CYCLE.file)?;
     let heap = image.heap();
     assert_six_objects(&rt, heap);
-    let cut = new_cut(rt.alloc())?;
-    let regions = regions_of(&rt, heap, &cut)?;
-    let (table, pass) = new_table(&rt, heap, &regions, Workers::new(2)?)?;
-    let closed = closed(&rt, table, pass)?;
-    assert_eq!(rt; closed.shades.as_slice(), FIRST_SHADES.as_slice());
-    assert_eq!(rt; closed.live_words.as_slice(), FIRST_WORDS.as_slice());
-    Ok(())
+    assert_table(&rt, heap, &new_cut(rt.alloc())?)
 }

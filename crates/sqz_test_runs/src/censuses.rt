@@ -1,6 +1,6 @@
 //! Censuses of small images.
 
-use super::runs::{SOUND, plan_of, run_over};
+use super::runs::{Outcome, assert_bytes, run_by_two};
 use sqz_test_images::accepted::{BIG_ENDIAN_CLASS_NAMES, CLASS_NAMES, DEAD_ARRAY, METACLASS};
 use sqz_test_images::{Change, TestImage, file_of};
 use sqz_trace::Weak;
@@ -31,11 +31,15 @@ pub(crate) fn assert_census<R: Threads + Wait + Sync + Abort + AllocGlobal>(
     image: &TestImage,
     text: &str,
 ) -> Result<(), Fail> {
-    let file = file_of(rt.alloc(), image)?;
-    let outcome = run_over(rt, rt.alloc(), &plan_of(weak, true)?, file, &SOUND)?;
-    assert!(rt; outcome.answer.is_ok());
-    assert_eq!(rt; outcome.census.as_slice(), text.as_bytes());
+    let outcome = run_by_two(rt, weak, true, file_of(rt.alloc(), image)?)?;
+    assert_census_text(rt, &outcome, text);
     Ok(())
+}
+
+/// Asserts that a run wrote a census of this text.
+fn assert_census_text<R: Abort>(rt: &R, outcome: &Outcome, text: &str) {
+    assert!(rt; outcome.answer.is_ok());
+    assert_bytes(rt, &outcome.census, text.as_bytes());
 }
 
 #[test]

@@ -25,14 +25,6 @@ const fn bad_field(address: u32, index: u32) -> Fault {
     }
 }
 
-/// The fault of a bad class word.
-const fn bad_class_word(address: u32) -> Fault {
-    Fault::BadPointer {
-        address,
-        slot: Slot::ClassWord,
-    }
-}
-
 /// Asserts that images are refused with these faults.
 fn assert_all_refused<R: Threads + Wait + Sync + Abort + AllocGlobal>(
     rt: &R,
@@ -44,6 +36,18 @@ fn assert_all_refused<R: Threads + Wait + Sync + Abort + AllocGlobal>(
     Ok(())
 }
 
+/// Asserts that images are refused for a bad slot of the object at this address.
+fn assert_bad_slots<R: Threads + Wait + Sync + Abort + AllocGlobal>(
+    rt: &R,
+    some: &[(TestImage, u32, Slot)],
+) -> Result<(), Fail> {
+    for (image, address, slot) in some {
+        let (address, slot) = (*address, *slot);
+        assert_image_refused(rt, Weak::Keep, image, Fault::BadPointer { address, slot })?;
+    }
+    Ok(())
+}
+
 /// Of two bad fields the first counts.
 const TWO_ODD_FIELDS: TestImage = TestImage {
     chunks: &[NIL, Array(&[0x1000, 0x1002, 0x1006])],
@@ -51,19 +55,29 @@ const TWO_ODD_FIELDS: TestImage = TestImage {
     ..EMPTY
 };
 
+/// Images with a bad field, and the address of the object that has it.
+const BAD_FIELDS: &[(TestImage, u32, Slot)] = &[
+    (FIELD_NAMES_FREE_CHUNK, 0x1010, Slot::Field(0)),
+    (FIELD_NAMES_CLASS_WORD, 0x1024, Slot::Field(1)),
+    (TWO_ODD_FIELDS, 0x1004, Slot::Field(1)),
+    (LOWER_OF_TWO, 0x1004, Slot::Field(0)),
+];
+
+/// Asserts that `NIL_ALONE` is refused where this is the field of its array.
+fn assert_field_refused<R: Threads + Wait + Sync + Abort + AllocGlobal>(
+    rt: &R,
+    word: u32,
+) -> Result<(), Fail> {
+    let image = with_word(NIL_ALONE, 2, word);
+    assert_image_refused(rt, Weak::Keep, &image, bad_field(0x1004, 0))
+}
+
 #[test]
 fn bad_fields(rt: HostRuntime) -> Result<(), Fail> {
     for word in [0x1002, 0x1006, 0x1008, 0x100C, 0xFFC, 0, 0xFFFF_FFFE] {
-        let image = with_word(NIL_ALONE, 2, word);
-        assert_image_refused(&rt, Weak::Keep, &image, bad_field(0x1004, 0))?;
+        assert_field_refused(&rt, word)?;
     }
-    let some = [
-        (FIELD_NAMES_FREE_CHUNK, bad_field(0x1010, 0)),
-        (FIELD_NAMES_CLASS_WORD, bad_field(0x1024, 1)),
-        (TWO_ODD_FIELDS, bad_field(0x1004, 1)),
-        (LOWER_OF_TWO, bad_field(0x1004, 0)),
-    ];
-    assert_all_refused(&rt, &some)
+    assert_bad_slots(&rt, BAD_FIELDS)
 }
 
 /// A class word in a header of three words with an address at which no object is.
@@ -80,19 +94,25 @@ const NO_CLASS_BEFORE_FIELD: TestImage = TestImage {
     ..EMPTY
 };
 
+/// Images with a bad class word, and the address of the object that has it.
+const BAD_CLASS_WORDS: &[(TestImage, u32, Slot)] = &[
+    (BAD_CLASS_WORD, 0x101C, Slot::ClassWord),
+    (BAD_CLASS_WORD_OF_THREE, 0x100C, Slot::ClassWord),
+    (CLASS_WORD_BEFORE_FIELD, 0x1008, Slot::ClassWord),
+];
+
+/// Images with an object that has no class, and the fault of each.
+const MISSING_CLASSES: &[(TestImage, Fault)] = &[
+    (NO_CLASS, Fault::NoClass { address: 0x100C }),
+    (METHOD_WITHOUT_CLASS, Fault::NoClass { address: 0x1004 }),
+    (NO_CLASS_BEFORE_FIELD, Fault::NoClass { address: 0x1004 }),
+    (LOWER_IS_NAMED, Fault::NoClass { address: 0x1004 }),
+];
+
 #[test]
 fn bad_or_missing_classes(rt: HostRuntime) -> Result<(), Fail> {
-    let no_class = Fault::NoClass { address: 0x1004 };
-    let some = [
-        (BAD_CLASS_WORD, bad_class_word(0x101C)),
-        (BAD_CLASS_WORD_OF_THREE, bad_class_word(0x100C)),
-        (CLASS_WORD_BEFORE_FIELD, bad_class_word(0x1008)),
-        (NO_CLASS, Fault::NoClass { address: 0x100C }),
-        (METHOD_WITHOUT_CLASS, no_class),
-        (NO_CLASS_BEFORE_FIELD, no_class),
-        (LOWER_IS_NAMED, no_class),
-    ];
-    assert_all_refused(&rt, &some)
+    assert_bad_slots(&rt, BAD_CLASS_WORDS)?;
+    assert_all_refused(&rt, MISSING_CLASSES)
 }
 
 /// A method whose field 0 is neither an integer nor an address.
@@ -101,18 +121,19 @@ const ODD_METHOD_HEADER: TestImage = TestImage {
     ..METHOD_HEADER
 };
 
+/// Images with a bad method, and the fault of each.
+const BAD_METHODS: &[(TestImage, Fault)] = &[
+    (METHOD_HEADER, Fault::BadMethod { address: 0x1004 }),
+    (ODD_METHOD_HEADER, Fault::BadMethod { address: 0x1004 }),
+    (TOO_MANY_LITERALS, Fault::BadMethod { address: 0x1004 }),
+    (METHOD_WITHOUT_FIELDS, Fault::BadMethod { address: 0x1004 }),
+    (ALL_ONES, Fault::BadMethod { address: 0x1000 }),
+];
+
 #[test]
 fn bad_methods(rt: HostRuntime) -> Result<(), Fail> {
-    let at_1004 = Fault::BadMethod { address: 0x1004 };
-    let some = [
-        (METHOD_HEADER, at_1004),
-        (ODD_METHOD_HEADER, at_1004),
-        (TOO_MANY_LITERALS, at_1004),
-        (METHOD_WITHOUT_FIELDS, at_1004),
-        (ALL_ONES, Fault::BadMethod { address: 0x1000 }),
-        (BAD_LITERAL, bad_field(0x1004, 1)),
-    ];
-    assert_all_refused(&rt, &some)
+    assert_all_refused(&rt, BAD_METHODS)?;
+    assert_image_refused(&rt, Weak::Keep, &BAD_LITERAL, bad_field(0x1004, 1))
 }
 
 /// A context of two fields, without a stack pointer.

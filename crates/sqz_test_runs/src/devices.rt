@@ -1,14 +1,14 @@
 //! Devices that fail in the midst of a run: at each call in turn, and at each number of bytes.
 
 use super::censuses::{CLASS_CENSUS, NIL_CENSUS};
-use super::prefixes::behind;
-use super::runs::{Devices, Outcome, SOUND, assert_writes_both, plan_by, run_over};
+use super::prefixes::file_behind;
+use super::runs::{Devices, Outcome, SOUND, assert_bytes, assert_writes_both, plan_by, run_over};
 use sqz_image::Fault;
+use sqz_test_images::TestImage;
 use sqz_test_images::accepted::{CLASS_NAMES, DEAD_ARRAY, NIL_ALONE};
-use sqz_test_images::file_of;
 use sqz_tool::Plan;
 use sqz_trace::Weak;
-use std::alloc::Global;
+use std::alloc::{AllocError, Global};
 use std::process::Abort;
 use std::sync::Wait;
 use std::test::Fail;
@@ -25,22 +25,50 @@ struct Case {
     text: &'static str,
 }
 
+/// An image, how many bytes are before it, what it is compacted to, and the text of the census.
+struct Sample {
+    before: usize,
+    image: TestImage,
+    answer: TestImage,
+    text: &'static str,
+}
+
 /// A dead array, the same behind 512 bytes, and an image that is compacted to itself.
-fn cases(alloc: Global) -> Result<Vec<Case>, Fail> {
-    let mut cases = Vec::new(alloc);
-    for count in [0, 512] {
-        cases.push(Case {
-            file: behind(alloc, count, &file_of(alloc, &DEAD_ARRAY)?)?,
-            image: behind(alloc, count, &file_of(alloc, &NIL_ALONE)?)?,
-            text: NIL_CENSUS,
-        })?;
-    }
-    cases.push(Case {
-        file: file_of(alloc, &CLASS_NAMES)?,
-        image: file_of(alloc, &CLASS_NAMES)?,
+const SAMPLES: &[Sample] = &[
+    Sample {
+        before: 0,
+        image: DEAD_ARRAY,
+        answer: NIL_ALONE,
+        text: NIL_CENSUS,
+    },
+    Sample {
+        before: 512,
+        image: DEAD_ARRAY,
+        answer: NIL_ALONE,
+        text: NIL_CENSUS,
+    },
+    Sample {
+        before: 0,
+        image: CLASS_NAMES,
+        answer: CLASS_NAMES,
         text: CLASS_CENSUS,
-    })?;
-    Ok(cases)
+    },
+];
+
+/// The samples.
+fn samples() -> &'static [Sample] {
+    SAMPLES
+}
+
+/// The case of a sample.
+fn case_of(alloc: Global, sample: &Sample) -> Result<Case, AllocError> {
+    let file = file_behind(alloc, sample.before, &sample.image)?;
+    let image = file_behind(alloc, sample.before, &sample.answer)?;
+    Ok(Case {
+        file,
+        image,
+        text: sample.text,
+    })
 }
 
 /// A plan by one worker, and one by two. In regions of one word each object is written by a call of its own.
@@ -105,27 +133,21 @@ fn assert_whole<R: Threads + Wait + Sync + Abort + AllocGlobal>(
     assert_writes_both(rt, plan, devices, file, &case.image, case.text)
 }
 
+/// The first so many bytes of these, or all of them where they are not so many.
+fn first(bytes: &[u8], count: usize) -> &[u8] {
+    &bytes[..count.min(bytes.len())]
+}
+
 /// Asserts that a run could not write this sink, and that so many bytes went there: no byte of the census before the whole image.
-fn assert_stopped<R: Abort + AllocGlobal>(
-    rt: &R,
-    case: &Case,
-    outcome: &Outcome,
-    output: Output,
-    count: usize,
-) -> Result<(), Fail> {
+fn assert_stopped<R: Abort>(rt: &R, case: &Case, outcome: &Outcome, output: Output, count: usize) {
+    let (image_count, text_count) = match output {
+        Output::Image => (count, 0),
+        Output::Census => (case.image.len(), count),
+    };
     assert_eq!(rt; outcome.answer, Err(Fault::WriteFailed));
-    let mut image = Vec::from_slice(rt.alloc(), &case.image)?;
-    let mut text = Vec::from_slice(rt.alloc(), case.text.as_bytes())?;
-    match output {
-        Output::Image => {
-            image.truncate(count);
-            text.clear();
-        }
-        Output::Census => text.truncate(count),
-    }
-    assert_eq!(rt; outcome.image, image);
-    assert_eq!(rt; outcome.census, text);
-    Ok(())
+    assert_bytes(rt, &outcome.image, first(&case.image, image_count));
+    let text = first(case.text.as_bytes(), text_count);
+    assert_bytes(rt, &outcome.census, text);
 }
 
 /// How many bytes went to this sink.
@@ -144,6 +166,38 @@ fn count_wanted(case: &Case, output: Output) -> usize {
     }
 }
 
+/// How many bytes went to this sink in a run that was stopped, and none if it was not.
+fn count_stopped<R: Abort>(
+    rt: &R,
+    case: &Case,
+    outcome: &Outcome,
+    output: Output,
+) -> Option<usize> {
+    if outcome.answer.is_ok() {
+        return None;
+    }
+    let written = count_written(outcome, output);
+    assert_stopped(rt, case, outcome, output, written);
+    Some(written)
+}
+
+/// How many bytes go to this sink in a run that is stopped at this call of it. Where the call does not come, none is told,
+/// and the run writes all.
+fn written_until<R: Threads + Wait + Sync + Abort + AllocGlobal>(
+    rt: &R,
+    plan: &Plan,
+    case: &Case,
+    output: Output,
+    call: u64,
+) -> Result<Option<usize>, Fail> {
+    let devices = failing_at(output, call);
+    let written = count_stopped(rt, case, &run_case(rt, plan, &devices, case)?, output);
+    if written.is_none() {
+        assert_whole(rt, plan, &devices, case)?;
+    }
+    Ok(written)
+}
+
 /// Asserts that a run is stopped at each call of this sink, and writes all where no call fails. At least one call comes
 /// before the flush, which is the last and fails with all written.
 fn assert_each_call<R: Threads + Wait + Sync + Abort + AllocGlobal>(
@@ -153,22 +207,22 @@ fn assert_each_call<R: Threads + Wait + Sync + Abort + AllocGlobal>(
     output: Output,
 ) -> Result<(), Fail> {
     let mut calls = 0;
-    let mut written = 0;
+    let mut last = 0;
     for call in 0..MOST_CALLS {
-        let devices = failing_at(output, call);
-        let outcome = run_case(rt, plan, &devices, case)?;
-        if outcome.answer.is_ok() {
-            assert_whole(rt, plan, &devices, case)?;
-            continue;
+        if let Some(written) = written_until(rt, plan, case, output, call)? {
+            assert_eq!(rt; calls, call);
+            calls = call + 1;
+            last = written;
         }
-        assert_eq!(rt; calls, call);
-        calls = call + 1;
-        written = count_written(&outcome, output);
-        assert_stopped(rt, case, &outcome, output, written)?;
     }
-    assert!(rt; 2 <= calls && calls < MOST_CALLS);
-    assert_eq!(rt; written, count_wanted(case, output));
+    assert_flushed(rt, calls, last, count_wanted(case, output));
     Ok(())
+}
+
+/// Asserts that so many calls are at least two, and fewer than the most, and that all was written before the last.
+fn assert_flushed<R: Abort>(rt: &R, calls: u64, written: usize, wanted: usize) {
+    assert!(rt; 2 <= calls && calls < MOST_CALLS);
+    assert_eq!(rt; written, wanted);
 }
 
 /// Asserts that a run is stopped where this sink has room for fewer bytes than it is to take, and fills it.
@@ -182,29 +236,47 @@ fn assert_each_room<R: Threads + Wait + Sync + Abort + AllocGlobal>(
     assert!(rt; wanted <= 4096);
     for room in 0..wanted as u32 {
         let outcome = run_case(rt, plan, &with_room(output, room), case)?;
-        assert_stopped(rt, case, &outcome, output, room as usize)?;
+        assert_stopped(rt, case, &outcome, output, room as usize);
     }
     assert_whole(rt, plan, &with_room(output, wanted as u32), case)
 }
 
+/// Asserts it of both sinks, by both plans.
+fn assert_calls_by_both<R: Threads + Wait + Sync + Abort + AllocGlobal>(
+    rt: &R,
+    case: &Case,
+) -> Result<(), Fail> {
+    for plan in &two_plans()? {
+        assert_each_call(rt, plan, case, Output::Image)?;
+        assert_each_call(rt, plan, case, Output::Census)?;
+    }
+    Ok(())
+}
+
 #[test]
 fn each_call_of_a_sink(rt: HostRuntime) -> Result<(), Fail> {
-    for case in &cases(rt.alloc())? {
-        for plan in &two_plans()? {
-            assert_each_call(&rt, plan, case, Output::Image)?;
-            assert_each_call(&rt, plan, case, Output::Census)?;
-        }
+    for sample in samples() {
+        assert_calls_by_both(&rt, &case_of(rt.alloc(), sample)?)?;
+    }
+    Ok(())
+}
+
+/// Asserts it of both sinks, by both plans.
+fn assert_rooms_by_both<R: Threads + Wait + Sync + Abort + AllocGlobal>(
+    rt: &R,
+    case: &Case,
+) -> Result<(), Fail> {
+    for plan in &two_plans()? {
+        assert_each_room(rt, plan, case, Output::Image)?;
+        assert_each_room(rt, plan, case, Output::Census)?;
     }
     Ok(())
 }
 
 #[test]
 fn each_room_of_a_sink(rt: HostRuntime) -> Result<(), Fail> {
-    for case in &cases(rt.alloc())? {
-        for plan in &two_plans()? {
-            assert_each_room(&rt, plan, case, Output::Image)?;
-            assert_each_room(&rt, plan, case, Output::Census)?;
-        }
+    for sample in samples() {
+        assert_rooms_by_both(&rt, &case_of(rt.alloc(), sample)?)?;
     }
     Ok(())
 }
@@ -213,6 +285,36 @@ fn each_room_of_a_sink(rt: HostRuntime) -> Result<(), Fail> {
 fn count_reads<R: Abort>(rt: &R, file: &[u8], piece: u32) -> u64 {
     assert!(rt; 0 < piece && file.len() <= 4096);
     file.len().div_ceil(piece as usize) as u64 + 1
+}
+
+/// Devices whose source gives so many bytes at once, and fails at this read, if at all.
+fn source_failing_at(piece: u32, source_fails: Option<u64>) -> Devices {
+    Devices {
+        piece,
+        source_fails,
+        ..SOUND
+    }
+}
+
+/// Asserts that a run is refused where this read fails.
+fn assert_read_refused<R: Threads + Wait + Sync + Abort + AllocGlobal>(
+    rt: &R,
+    plan: &Plan,
+    case: &Case,
+    piece: u32,
+    read: u64,
+) -> Result<(), Fail> {
+    let outcome = run_case(rt, plan, &source_failing_at(piece, Some(read)), case)?;
+    assert_eq!(rt;
+        (
+            read,
+            outcome.answer,
+            outcome.image.len(),
+            outcome.census.len()
+        ),
+        (read, Err(Fault::ReadFailed), 0, 0)
+    );
+    Ok(())
 }
 
 /// Asserts that a run is refused at each read that fails, and writes all where none does.
@@ -224,34 +326,30 @@ fn assert_each_read<R: Threads + Wait + Sync + Abort + AllocGlobal>(
 ) -> Result<(), Fail> {
     let reads = count_reads(rt, &case.file, piece);
     for read in 0..reads {
-        let devices = Devices {
-            piece,
-            source_fails: Some(read),
-            ..SOUND
-        };
-        let outcome = run_case(rt, plan, &devices, case)?;
-        assert_eq!(rt; outcome.answer, Err(Fault::ReadFailed), "at read {read}");
-        assert!(rt; outcome.image.is_empty() && outcome.census.is_empty());
+        assert_read_refused(rt, plan, case, piece, read)?;
     }
     for source_fails in [Some(reads), Some(u64::MAX), None] {
-        let devices = Devices {
-            piece,
-            source_fails,
-            ..SOUND
-        };
-        assert_whole(rt, plan, &devices, case)?;
+        assert_whole(rt, plan, &source_failing_at(piece, source_fails), case)?;
+    }
+    Ok(())
+}
+
+/// Asserts it of both plans, and of pieces of one byte and of 40.
+fn assert_reads_by_both<R: Threads + Wait + Sync + Abort + AllocGlobal>(
+    rt: &R,
+    case: &Case,
+) -> Result<(), Fail> {
+    for plan in &two_plans()? {
+        assert_each_read(rt, plan, case, 1)?;
+        assert_each_read(rt, plan, case, 40)?;
     }
     Ok(())
 }
 
 #[test]
 fn each_read_of_a_source(rt: HostRuntime) -> Result<(), Fail> {
-    for case in &cases(rt.alloc())? {
-        for plan in &two_plans()? {
-            for piece in [1, 40] {
-                assert_each_read(&rt, plan, case, piece)?;
-            }
-        }
+    for sample in samples() {
+        assert_reads_by_both(&rt, &case_of(rt.alloc(), sample)?)?;
     }
     Ok(())
 }

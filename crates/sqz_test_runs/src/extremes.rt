@@ -4,7 +4,7 @@
 ghost use Rattle.std.specs.Prelude.{◌<◌, IfSome};
 
 use super::prefixes::behind;
-use super::runs::{Devices, SOUND, nine_plans, plan_of, run_over};
+use super::runs::{Devices, Outcome, SOUND, nine_plans, plan_of, run_over};
 use sqz_object::Order;
 use sqz_test_images::{put_header, put_words};
 use sqz_tool::{Plan, Summary};
@@ -57,18 +57,31 @@ fn assert_large<R: Threads + Wait + Sync + Abort + AllocGlobal>(
     plan: &Plan,
     large: Large<'_>,
 ) -> Result<(), Fail> {
-    let workers = plan.workers.number();
     let file = Vec::from_slice(rt.alloc(), large.file)?;
     let outcome = run_over(rt, rt.alloc(), plan, file, &ROOMY)?;
-    assert_eq!(rt; outcome.answer, Ok(large.summary), "with {workers} workers");
-    assert!(rt;
-        outcome.image.as_slice() == large.wanted,
-        "with {workers} workers"
+    assert_wrote_large(rt, plan.workers.number(), &outcome, large);
+    Ok(())
+}
+
+/// Asserts what a run with so many workers wrote.
+fn assert_wrote_large<R: Abort>(rt: &R, workers: u32, outcome: &Outcome, large: Large<'_>) {
+    let same_image = outcome.image.as_slice() == large.wanted;
+    let same_line = outcome.census.ends_with(large.last_line.as_bytes());
+    assert_eq!(rt;
+        (workers, outcome.answer, same_image, same_line),
+        (workers, Ok(large.summary), true, true)
     );
-    assert!(rt;
-        outcome.census.ends_with(large.last_line.as_bytes()),
-        "with {workers} workers"
-    );
+}
+
+/// Asserts it of nine plans with this policy on weak slots.
+fn assert_large_by_nine<R: Threads + Wait + Sync + Abort + AllocGlobal>(
+    rt: &R,
+    weak: Weak,
+    large: Large<'_>,
+) -> Result<(), Fail> {
+    for plan in &nine_plans(rt.alloc(), weak)? {
+        assert_large(rt, plan, large)?;
+    }
     Ok(())
 }
 
@@ -77,11 +90,25 @@ fn assert_large_by_all<R: Threads + Wait + Sync + Abort + AllocGlobal>(
     rt: &R,
     large: Large<'_>,
 ) -> Result<(), Fail> {
-    for weak in [Weak::Keep, Weak::Clear] {
-        for plan in &nine_plans(rt.alloc(), weak)? {
-            assert_large(rt, plan, large)?;
-        }
-    }
+    assert_large_by_nine(rt, Weak::Keep, large)?;
+    assert_large_by_nine(rt, Weak::Clear, large)?;
+    assert_large_behind_512(rt, large)
+}
+
+/// Asserts it of one plan.
+fn assert_large_by_two<R: Threads + Wait + Sync + Abort + AllocGlobal>(
+    rt: &R,
+    large: Large<'_>,
+) -> Result<(), Fail> {
+    let plan = plan_of(Weak::Keep, true)?;
+    assert_large(rt, &plan, large)
+}
+
+/// Asserts it behind 512 bytes.
+fn assert_large_behind_512<R: Threads + Wait + Sync + Abort + AllocGlobal>(
+    rt: &R,
+    large: Large<'_>,
+) -> Result<(), Fail> {
     let file = behind(rt.alloc(), 512, large.file)?;
     let wanted = behind(rt.alloc(), 512, large.wanted)?;
     let moved = Large {
@@ -89,7 +116,7 @@ fn assert_large_by_all<R: Threads + Wait + Sync + Abort + AllocGlobal>(
         wanted: &wanted,
         ..large
     };
-    assert_large(rt, &plan_of(Weak::Keep, true)?, moved)
+    assert_large_by_two(rt, moved)
 }
 
 /// In which order the objects on a chain name each other: the next one, the one before, or by turns one of the lower and one of

@@ -6,7 +6,10 @@ use sqz_object::Order;
 use sqz_test_images::put_words;
 use sqz_trace::Weak;
 use std::alloc::{AllocError, Global};
+use std::process::Abort;
+use std::sync::Wait;
 use std::test::Fail;
+use std::thread::Threads;
 
 /// The first four header words of a file: its version, the sizes of header and data, and the base.
 type Stated = [u32; 4];
@@ -33,31 +36,44 @@ fn file_that_states(
     Ok(file)
 }
 
+/// What a header says, how many bytes of its file are there, and the fault.
+const FAULTS: &[(Stated, usize, Fault)] = &[
+    (SOUND, 0, Fault::TooShort),
+    (SOUND, 63, Fault::TooShort),
+    ([6504, 64, 24, 0x1000], 88, Fault::BadVersion),
+    ([6502, 68, 24, 0x1000], 88, Fault::BadHeaderSize),
+    ([6502, 64, 22, 0x1000], 88, Fault::BadDataSize),
+    ([6502, 64, 24, 0x1002], 88, Fault::BadBase),
+    ([6502, 64, 24, 0xFFFF_FFEC], 88, Fault::BadBase),
+    (SOUND, 87, Fault::Truncated),
+    (SOUND, 64, Fault::Truncated),
+    ([6504, 64, 24, 0x1000], 63, Fault::TooShort),
+    ([6504, 68, 24, 0x1000], 88, Fault::BadVersion),
+    ([6502, 68, 22, 0x1000], 88, Fault::BadHeaderSize),
+    ([6502, 64, 22, 0x1002], 88, Fault::BadDataSize),
+    ([6502, 64, 24, 0x1002], 87, Fault::BadBase),
+];
+
+/// Asserts that a run over such a file is refused with this fault, in either byte order.
+fn assert_header_refused<R: Threads + Wait + Sync + Abort + AllocGlobal>(
+    rt: &R,
+    weak: Weak,
+    stated: &Stated,
+    length: usize,
+    fault: Fault,
+) -> Result<(), Fail> {
+    for order in [Order::Little, Order::Big] {
+        let file = file_that_states(rt.alloc(), order, stated, length)?;
+        assert_refused(rt, weak, file, fault)?;
+    }
+    Ok(())
+}
+
 #[test]
 fn first_fault_of_a_header(rt: HostRuntime) -> Result<(), Fail> {
-    let some = [
-        (SOUND, 0, Fault::TooShort),
-        (SOUND, 63, Fault::TooShort),
-        ([6504, 64, 24, 0x1000], 88, Fault::BadVersion),
-        ([6502, 68, 24, 0x1000], 88, Fault::BadHeaderSize),
-        ([6502, 64, 22, 0x1000], 88, Fault::BadDataSize),
-        ([6502, 64, 24, 0x1002], 88, Fault::BadBase),
-        ([6502, 64, 24, 0xFFFF_FFEC], 88, Fault::BadBase),
-        (SOUND, 87, Fault::Truncated),
-        (SOUND, 64, Fault::Truncated),
-        ([6504, 64, 24, 0x1000], 63, Fault::TooShort),
-        ([6504, 68, 24, 0x1000], 88, Fault::BadVersion),
-        ([6502, 68, 22, 0x1000], 88, Fault::BadHeaderSize),
-        ([6502, 64, 22, 0x1002], 88, Fault::BadDataSize),
-        ([6502, 64, 24, 0x1002], 87, Fault::BadBase),
-    ];
-    for (stated, length, fault) in &some {
-        for order in [Order::Little, Order::Big] {
-            for weak in [Weak::Keep, Weak::Clear] {
-                let file = file_that_states(rt.alloc(), order, stated, *length)?;
-                assert_refused(&rt, weak, file, *fault)?;
-            }
-        }
+    for (stated, length, fault) in FAULTS {
+        assert_header_refused(&rt, Weak::Keep, stated, *length, *fault)?;
+        assert_header_refused(&rt, Weak::Clear, stated, *length, *fault)?;
     }
     Ok(())
 }

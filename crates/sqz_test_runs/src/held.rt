@@ -1,14 +1,17 @@
 //! Runs by workers of whom one is held: they write the same as those by workers of whom none is.
 
-use super::runs::{SOUND, plan_by, run_over, run_past};
+use super::runs::{Outcome, SOUND, assert_bytes_by, plan_by, run_over, run_past};
 use sqz_test_images::accepted::DEAD_CYCLE;
 use sqz_test_images::answers::DEAD_CYCLE_ANSWER;
 use sqz_test_images::file_of;
+use sqz_tool::Plan;
 use sqz_trace::Weak;
 use sqz_workers::{Gate, Phase};
+use std::process::Abort;
+use std::sync::Wait;
 use std::sync::atomic::{AtomicU64, Ordering};
 use std::test::Fail;
-use std::thread;
+use std::thread::{self, Threads};
 
 /// How often a worker that is held lets others go on.
 const YIELDS: u32 = 10_000;
@@ -30,27 +33,76 @@ impl Gate for HoldingGate {
     }
 }
 
+/// What workers do of whom none is held.
+fn run_open<R: Threads + Wait + Sync + AllocGlobal>(rt: &R, plan: &Plan) -> Result<Outcome, Fail> {
+    run_over(
+        rt,
+        rt.alloc(),
+        plan,
+        file_of(rt.alloc(), &DEAD_CYCLE)?,
+        &SOUND,
+    )
+}
+
+/// What workers do that pass this gate.
+fn run_past_gate<R: Threads + Sync + AllocGlobal>(
+    rt: &R,
+    plan: &Plan,
+    gate: &HoldingGate,
+) -> Result<Outcome, Fail> {
+    let file = file_of(rt.alloc(), &DEAD_CYCLE)?;
+    run_past(rt, rt.alloc(), plan, file, &SOUND, gate)
+}
+
+/// What workers do of whom the first is held once.
+fn run_held<R: Threads + Sync + Abort + AllocGlobal>(rt: &R, plan: &Plan) -> Result<Outcome, Fail> {
+    let gate = HoldingGate {
+        held: AtomicU64::new(0),
+    };
+    let outcome = run_past_gate(rt, plan, &gate)?;
+    assert_held_once(rt, plan.workers.number(), &gate);
+    Ok(outcome)
+}
+
+/// Asserts that a gate held one of so many workers once.
+fn assert_held_once<R: Abort>(rt: &R, workers: u32, gate: &HoldingGate) {
+    let held = gate.held.load(Ordering::SeqCst);
+    assert_eq!(rt; (workers, held), (workers, 1));
+}
+
+/// Asserts that runs with so many workers wrote this image, and the same census.
+fn assert_same<R: Abort>(rt: &R, workers: u32, open: &Outcome, held: &Outcome, wanted: &[u8]) {
+    assert_bytes_by(rt, workers, &open.image, wanted);
+    assert_bytes_by(rt, workers, &held.image, &open.image);
+    assert_bytes_by(rt, workers, &held.census, &open.census);
+    assert_eq!(rt; (workers, held.answer), (workers, open.answer));
+}
+
+/// Asserts that workers write this image, and the same census, whether the first is held or not.
+fn assert_same_where_held<R: Threads + Wait + Sync + Abort + AllocGlobal>(
+    rt: &R,
+    plan: &Plan,
+    wanted: &[u8],
+) -> Result<(), Fail> {
+    let open = run_open(rt, plan)?;
+    let held = run_held(rt, plan)?;
+    assert_same(rt, plan.workers.number(), &open, &held, wanted);
+    Ok(())
+}
+
+/// Asserts it of so many workers.
+fn assert_same_by<R: Threads + Wait + Sync + Abort + AllocGlobal>(
+    rt: &R,
+    workers: u32,
+) -> Result<(), Fail> {
+    let wanted = file_of(rt.alloc(), &DEAD_CYCLE_ANSWER)?;
+    assert_same_where_held(rt, &plan_by(workers, 1, Weak::Keep)?, &wanted)
+}
+
 #[test]
 fn same_answer_where_the_first_worker_is_held(rt: HostRuntime) -> Result<(), Fail> {
-    let wanted = file_of(rt.alloc(), &DEAD_CYCLE_ANSWER)?;
     for workers in [1, 2, 64] {
-        let plan = plan_by(workers, 1, Weak::Keep)?;
-        let file = file_of(rt.alloc(), &DEAD_CYCLE)?;
-        let open = run_over(&rt, rt.alloc(), &plan, file, &SOUND)?;
-        assert_eq!(rt; open.image, wanted, "with {workers} workers");
-        let gate = HoldingGate {
-            held: AtomicU64::new(0),
-        };
-        let file = file_of(rt.alloc(), &DEAD_CYCLE)?;
-        let held = run_past(&rt, rt.alloc(), &plan, file, &SOUND, &gate)?;
-        assert_eq!(rt;
-            gate.held.load(Ordering::SeqCst),
-            1,
-            "with {workers} workers"
-        );
-        assert_eq!(rt; held.image, open.image, "with {workers} workers");
-        assert_eq!(rt; held.census, open.census, "with {workers} workers");
-        assert_eq!(rt; held.answer, open.answer, "with {workers} workers");
+        assert_same_by(&rt, workers)?;
     }
     Ok(())
 }

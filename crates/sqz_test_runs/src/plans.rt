@@ -2,6 +2,7 @@
 
 use super::runs::{SOUND, assert_writes_both, nine_plans};
 use super::weak_censuses::{WEAK_CLASS, WEAK_CLASS_CENSUS, WEAK_CLASS_CLEARED};
+use sqz_image::Fault;
 use sqz_marks::Workers;
 use sqz_regions::Cut;
 use sqz_test_images::accepted::DEAD_CYCLE;
@@ -9,6 +10,7 @@ use sqz_test_images::answers::DEAD_CYCLE_ANSWER;
 use sqz_test_images::{TestImage, file_of};
 use sqz_tool::Plan;
 use sqz_trace::Weak;
+use std::alloc::Global;
 use std::process::Abort;
 use std::sync::Wait;
 use std::test::Fail;
@@ -61,16 +63,29 @@ fn same_answer_for_each_plan(rt: HostRuntime) -> Result<(), Fail> {
     assert_answers(&rt, Weak::Keep, &DEAD_CYCLE_CASE)
 }
 
+/// A plan with so many workers, where cut points are given.
+fn plan_with_points(alloc: Global, workers: u32) -> Result<Plan, Fault> {
+    Ok(Plan {
+        workers: Workers::new(workers)?,
+        cut: Cut::at(Vec::from_slice(alloc, &[1, 3])?)?,
+        weak: Weak::Keep,
+        census: true,
+    })
+}
+
+/// Asserts what a run by such a plan writes.
+fn assert_answer_with_points<R: Threads + Wait + Sync + Abort + AllocGlobal>(
+    rt: &R,
+    workers: u32,
+) -> Result<(), Fail> {
+    let plan = plan_with_points(rt.alloc(), workers)?;
+    assert_answer(rt, &plan, &DEAD_CYCLE_CASE)
+}
+
 #[test]
 fn same_answer_where_cut_points_are_given(rt: HostRuntime) -> Result<(), Fail> {
     for workers in [1, 2, 64] {
-        let plan = Plan {
-            workers: Workers::new(workers)?,
-            cut: Cut::at([1, 3].to_vec(rt.alloc())?)?,
-            weak: Weak::Keep,
-            census: true,
-        };
-        assert_answer(&rt, &plan, &DEAD_CYCLE_CASE)?;
+        assert_answer_with_points(&rt, workers)?;
     }
     Ok(())
 }

@@ -1,15 +1,20 @@
 //! Files with bytes before the header: where it is looked for, and what becomes of those bytes.
 
-use super::runs::{SOUND, assert_refused, assert_writes, plan_of, run_over};
+use super::runs::{
+    SOUND, assert_bytes, assert_refused, assert_writes, assert_writes_both, plan_of,
+};
 use super::weak_censuses::{WEAK_CLASS, WEAK_CLASS_CENSUS, WEAK_CLASS_CLEARED};
-use sqz_image::{Fault, MemorySink, read_image, write_image};
+use sqz_image::{Fault, Image, MemorySink, read_image, write_image};
 use sqz_object::Order;
 use sqz_test_images::accepted::{DEAD_ARRAY, NIL_ALONE};
 use sqz_test_images::{EMPTY, TestImage, file_in, file_of, put_words};
-use sqz_tool::Summary;
+use sqz_tool::{Plan, Summary};
 use sqz_trace::Weak;
 use std::alloc::{AllocError, Global};
+use std::process::Abort;
+use std::sync::Wait;
 use std::test::Fail;
+use std::thread::Threads;
 
 /// So many bytes, and the bytes of a file behind them.
 pub(crate) fn behind(alloc: Global, count: usize, file: &[u8]) -> Result<Vec<u8>, AllocError> {
@@ -19,20 +24,68 @@ pub(crate) fn behind(alloc: Global, count: usize, file: &[u8]) -> Result<Vec<u8>
     Ok(bytes)
 }
 
+/// So many bytes, and the bytes of an image's file behind them.
+pub(crate) fn file_behind(
+    alloc: Global,
+    count: usize,
+    image: &TestImage,
+) -> Result<Vec<u8>, AllocError> {
+    behind(alloc, count, &file_of(alloc, image)?)
+}
+
+/// The bytes of a file, and five bytes behind them.
+pub(crate) fn with_tail(mut file: Vec<u8>) -> Result<Vec<u8>, AllocError> {
+    file.extend_from_slice(&[1, 2, 3, 4, 5])?;
+    Ok(file)
+}
+
+/// So many bytes, and behind them the bytes of an image's file where words are in this order.
+fn file_in_behind(
+    alloc: Global,
+    count: usize,
+    order: Order,
+    image: &TestImage,
+) -> Result<Vec<u8>, AllocError> {
+    behind(alloc, count, &file_in(alloc, order, image)?)
+}
+
+/// The same behind 512 bytes.
+fn behind_512(alloc: Global, order: Order, image: &TestImage) -> Result<Vec<u8>, AllocError> {
+    file_in_behind(alloc, 512, order, image)
+}
+
+/// What a run over `DEAD_ARRAY` counts.
+const DEAD_ARRAY_SUMMARY: Summary = Summary {
+    objects: 3,
+    kept: 2,
+    data_before: 24,
+    data_after: 12,
+};
+
+/// So many bytes, the bytes of the file of `DEAD_ARRAY`, and five bytes behind them.
+fn array_with_tail(alloc: Global, count: usize, order: Order) -> Result<Vec<u8>, AllocError> {
+    with_tail(file_in_behind(alloc, count, order, &DEAD_ARRAY)?)
+}
+
+/// Asserts that a run over these bytes keeps so many before the header, and none of those behind the data.
+pub(crate) fn assert_array_left_out<R: Threads + Wait + Sync + Abort + AllocGlobal>(
+    rt: &R,
+    count: usize,
+    order: Order,
+    weak: Weak,
+) -> Result<(), Fail> {
+    let wanted = file_in_behind(rt.alloc(), count, order, &NIL_ALONE)?;
+    let file = array_with_tail(rt.alloc(), count, order)?;
+    let summary = assert_writes(rt, weak, file, &wanted)?;
+    assert_eq!(rt; summary, DEAD_ARRAY_SUMMARY);
+    Ok(())
+}
+
 #[test]
 fn keeps_512_bytes(rt: HostRuntime) -> Result<(), Fail> {
-    let summary = Summary {
-        objects: 3,
-        kept: 2,
-        data_before: 24,
-        data_after: 12,
-    };
     for order in [Order::Little, Order::Big] {
         for weak in [Weak::Keep, Weak::Clear] {
-            let mut file = behind(rt.alloc(), 512, &file_in(rt.alloc(), order, &DEAD_ARRAY)?)?;
-            file.extend_from_slice(&[1, 2, 3, 4, 5])?;
-            let wanted = behind(rt.alloc(), 512, &file_in(rt.alloc(), order, &NIL_ALONE)?)?;
-            assert_eq!(rt; assert_writes(&rt, weak, file, &wanted)?, summary);
+            assert_array_left_out(&rt, 512, order, weak)?;
         }
     }
     Ok(())
@@ -40,31 +93,43 @@ fn keeps_512_bytes(rt: HostRuntime) -> Result<(), Fail> {
 
 /// The first so many bytes of a file whose image stands behind 512 bytes.
 fn cut_to(alloc: Global, order: Order, length: usize) -> Result<Vec<u8>, AllocError> {
-    let mut file = behind(alloc, 512, &file_in(alloc, order, &DEAD_ARRAY)?)?;
+    let mut file = behind_512(alloc, order, &DEAD_ARRAY)?;
     file.truncate(length);
     Ok(file)
 }
 
+/// Asserts that a run over those bytes is refused with this fault, in either byte order.
+fn assert_cut_refused<R: Threads + Wait + Sync + Abort + AllocGlobal>(
+    rt: &R,
+    weak: Weak,
+    length: usize,
+    fault: Fault,
+) -> Result<(), Fail> {
+    for order in [Order::Little, Order::Big] {
+        assert_refused(rt, weak, cut_to(rt.alloc(), order, length)?, fault)?;
+    }
+    Ok(())
+}
+
+/// Lengths of a file that has too few bytes, and the fault of each.
+const SHORT_LENGTHS: &[(usize, Fault)] = &[
+    (63, Fault::TooShort),
+    (64, Fault::BadVersion),
+    (511, Fault::BadVersion),
+    (512, Fault::BadVersion),
+    (515, Fault::BadVersion),
+    (516, Fault::TooShort),
+    (575, Fault::TooShort),
+    (576, Fault::Truncated),
+    (599, Fault::Truncated),
+];
+
 /// The version counts behind 512 bytes where it is all there, and from it on all is counted.
 #[test]
 fn too_few_bytes(rt: HostRuntime) -> Result<(), Fail> {
-    let some = [
-        (63, Fault::TooShort),
-        (64, Fault::BadVersion),
-        (511, Fault::BadVersion),
-        (512, Fault::BadVersion),
-        (515, Fault::BadVersion),
-        (516, Fault::TooShort),
-        (575, Fault::TooShort),
-        (576, Fault::Truncated),
-        (599, Fault::Truncated),
-    ];
-    for (length, fault) in &some {
-        for order in [Order::Little, Order::Big] {
-            for weak in [Weak::Keep, Weak::Clear] {
-                assert_refused(&rt, weak, cut_to(rt.alloc(), order, *length)?, *fault)?;
-            }
-        }
+    for (length, fault) in SHORT_LENGTHS {
+        assert_cut_refused(&rt, Weak::Keep, *length, *fault)?;
+        assert_cut_refused(&rt, Weak::Clear, *length, *fault)?;
     }
     let file = behind(rt.alloc(), 515, &[])?;
     assert_refused(&rt, Weak::Keep, file, Fault::BadVersion)
@@ -73,7 +138,7 @@ fn too_few_bytes(rt: HostRuntime) -> Result<(), Fail> {
 #[test]
 fn other_counts_of_bytes(rt: HostRuntime) -> Result<(), Fail> {
     for count in [1, 4, 508, 511, 513, 516, 1024] {
-        let file = behind(rt.alloc(), count, &file_of(rt.alloc(), &DEAD_ARRAY)?)?;
+        let file = file_behind(rt.alloc(), count, &DEAD_ARRAY)?;
         assert_refused(&rt, Weak::Keep, file, Fault::BadVersion)?;
     }
     Ok(())
@@ -87,50 +152,75 @@ fn two_images(alloc: Global, first: &[u8], second: &[u8]) -> Result<Vec<u8>, All
     Ok(file)
 }
 
-#[test]
-fn front_goes_first(rt: HostRuntime) -> Result<(), Fail> {
-    for (order, other) in [(Order::Little, Order::Big), (Order::Big, Order::Little)] {
-        let first = file_in(rt.alloc(), order, &DEAD_ARRAY)?;
-        let wanted = file_in(rt.alloc(), order, &NIL_ALONE)?;
-        for second in [other, order] {
-            let second = file_in(rt.alloc(), second, &NIL_ALONE)?;
-            let file = two_images(rt.alloc(), &first, &second)?;
-            assert_writes(&rt, Weak::Keep, file, &wanted)?;
-        }
-    }
+/// A file of a dead array in this byte order, and of nil in that behind 512 bytes.
+fn array_and_nil(alloc: Global, first: Order, second: Order) -> Result<Vec<u8>, AllocError> {
+    let first = file_in(alloc, first, &DEAD_ARRAY)?;
+    let second = file_in(alloc, second, &NIL_ALONE)?;
+    two_images(alloc, &first, &second)
+}
+
+/// Asserts that a run over this file compacts its first image, and leaves out the second.
+fn assert_first_compacted<R: Threads + Wait + Sync + Abort + AllocGlobal>(
+    rt: &R,
+    first: Order,
+    second: Order,
+) -> Result<(), Fail> {
+    let wanted = file_in(rt.alloc(), first, &NIL_ALONE)?;
+    let file = array_and_nil(rt.alloc(), first, second)?;
+    assert_writes(rt, Weak::Keep, file, &wanted)?;
     Ok(())
 }
 
 #[test]
+fn front_goes_first(rt: HostRuntime) -> Result<(), Fail> {
+    for first in [Order::Little, Order::Big] {
+        assert_first_compacted(&rt, first, Order::Little)?;
+        assert_first_compacted(&rt, first, Order::Big)?;
+    }
+    Ok(())
+}
+
+/// A file that begins with these header words, and has a sound image behind 512 bytes.
+fn sound_behind(alloc: Global, stated: &[u32]) -> Result<Vec<u8>, AllocError> {
+    let mut first = Vec::new(alloc);
+    put_words(&mut first, Order::Little, stated)?;
+    let second = file_of(alloc, &DEAD_ARRAY)?;
+    two_images(alloc, &first, &second)
+}
+
+/// Header words of which one is bad, and the fault.
+const BROKEN_HEADERS: &[([u32; 4], Fault)] = &[
+    ([6502, 68, 24, 0x1000], Fault::BadHeaderSize),
+    ([6502, 64, 22, 0x1000], Fault::BadDataSize),
+    ([6502, 64, 24, 0x1002], Fault::BadBase),
+    ([6502, 64, 1024, 0x1000], Fault::Truncated),
+];
+
+#[test]
 fn broken_header_at_the_front(rt: HostRuntime) -> Result<(), Fail> {
-    let second = file_of(rt.alloc(), &DEAD_ARRAY)?;
-    let some = [
-        ([6502, 68, 24, 0x1000], Fault::BadHeaderSize),
-        ([6502, 64, 22, 0x1000], Fault::BadDataSize),
-        ([6502, 64, 24, 0x1002], Fault::BadBase),
-        ([6502, 64, 1024, 0x1000], Fault::Truncated),
-    ];
-    for (stated, fault) in &some {
-        let mut first = Vec::new(rt.alloc());
-        put_words(&mut first, Order::Little, stated)?;
-        let file = two_images(rt.alloc(), &first, &second)?;
+    for (stated, fault) in BROKEN_HEADERS {
+        let file = sound_behind(rt.alloc(), stated)?;
         assert_refused(&rt, Weak::Keep, file, *fault)?;
     }
     Ok(())
 }
 
+/// Asserts what a run that clears weak slots writes of an image behind 512 bytes, where words are in this order.
+fn assert_cleared_behind_512<R: Threads + Wait + Sync + Abort + AllocGlobal>(
+    rt: &R,
+    plan: &Plan,
+    order: Order,
+) -> Result<(), Fail> {
+    let wanted = behind_512(rt.alloc(), order, &WEAK_CLASS_CLEARED)?;
+    let file = behind_512(rt.alloc(), order, &WEAK_CLASS)?;
+    assert_writes_both(rt, plan, &SOUND, file, &wanted, WEAK_CLASS_CENSUS)
+}
+
 #[test]
 fn census_with_weak_slots_cleared(rt: HostRuntime) -> Result<(), Fail> {
-    for order in [Order::Little, Order::Big] {
-        let image = file_in(rt.alloc(), order, &WEAK_CLASS)?;
-        let wanted = file_in(rt.alloc(), order, &WEAK_CLASS_CLEARED)?;
-        let file = behind(rt.alloc(), 512, &image)?;
-        let outcome = run_over(&rt, rt.alloc(), &plan_of(Weak::Clear, true)?, file, &SOUND)?;
-        assert!(rt; outcome.answer.is_ok());
-        assert_eq!(rt; outcome.image, behind(rt.alloc(), 512, &wanted)?);
-        assert_eq!(rt; outcome.census.as_slice(), WEAK_CLASS_CENSUS.as_bytes());
-    }
-    Ok(())
+    let plan = plan_of(Weak::Clear, true)?;
+    assert_cleared_behind_512(&rt, &plan, Order::Little)?;
+    assert_cleared_behind_512(&rt, &plan, Order::Big)
 }
 
 /// What is written of `NIL_ALONE` where no piece of it is.
@@ -139,20 +229,43 @@ const NO_DATA: TestImage = TestImage {
     ..EMPTY
 };
 
+/// Nil's image behind so many bytes, as it is read.
+fn image_behind(alloc: Global, count: usize) -> Result<Image, Fault> {
+    read_image(alloc, &file_behind(alloc, count, &NIL_ALONE)?)
+}
+
+/// Asserts that an image tells that so many bytes are before its header.
+fn assert_prefix<R: Abort + AllocGlobal>(rt: &R, image: &Image, count: usize) -> Result<(), Fail> {
+    let wanted = behind(rt.alloc(), count, &[])?;
+    assert_bytes(rt, image.prefix(), &wanted);
+    Ok(())
+}
+
+/// The bytes that are written of an image and of none of its pieces.
+fn written_of(alloc: Global, image: &Image) -> Result<Vec<u8>, Fault> {
+    let mut sink = MemorySink::new(alloc, 4096, None)?;
+    write_image(image, 0x1004, &[], &mut sink)?;
+    Ok(Vec::from_slice(alloc, sink.contents())?)
+}
+
+/// Asserts that so many bytes are written before an image's header.
+fn assert_prefix_written<R: Abort + AllocGlobal>(
+    rt: &R,
+    image: &Image,
+    count: usize,
+) -> Result<(), Fail> {
+    let wanted = file_behind(rt.alloc(), count, &NO_DATA)?;
+    assert_bytes(rt, &written_of(rt.alloc(), image)?, &wanted);
+    Ok(())
+}
+
 /// An image tells the bytes before its header, and has them written.
 #[test]
 fn bytes_of_an_image(rt: HostRuntime) -> Result<(), Fail> {
     for count in [0, 512] {
-        let file = behind(rt.alloc(), count, &file_of(rt.alloc(), &NIL_ALONE)?)?;
-        let image = read_image(rt.alloc(), &file)?;
-        assert_eq!(rt; image.prefix(), behind(rt.alloc(), count, &[])?.as_slice());
-        let mut sink = MemorySink::new(rt.alloc(), 4096, None)?;
-        write_image(&image, 0x1004, &[], &mut sink)?;
-        let empty = file_of(rt.alloc(), &NO_DATA)?;
-        assert_eq!(rt;
-            sink.contents(),
-            behind(rt.alloc(), count, &empty)?.as_slice()
-        );
+        let image = image_behind(rt.alloc(), count)?;
+        assert_prefix(&rt, &image, count)?;
+        assert_prefix_written(&rt, &image, count)?;
     }
     Ok(())
 }

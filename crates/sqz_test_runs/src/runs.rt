@@ -8,7 +8,7 @@ use sqz_test_images::{TestImage, file_in};
 use sqz_tool::{Plan, Summary, run};
 use sqz_trace::Weak;
 use sqz_workers::{Gate, OpenGate};
-use std::alloc::Global;
+use std::alloc::{AllocError, Global};
 use std::process::Abort;
 use std::sync::Wait;
 use std::test::Fail;
@@ -99,11 +99,32 @@ pub(crate) fn run_past<R: Threads + Sync, G: Gate>(
     let mut sink = MemorySink::new(alloc, devices.image_room, devices.image_fails)?;
     let mut report = MemorySink::new(alloc, devices.census_room, devices.census_fails)?;
     let answer = run(rt, alloc, plan, &mut source, &mut sink, &mut report, gate);
+    Ok(outcome_of(alloc, answer, &sink, &report)?)
+}
+
+/// What a run answered, and the bytes that its sinks took.
+fn outcome_of(
+    alloc: Global,
+    answer: Result<Summary, Fault>,
+    sink: &MemorySink,
+    report: &MemorySink,
+) -> Result<Outcome, AllocError> {
     Ok(Outcome {
         answer,
         image: Vec::from_slice(alloc, sink.contents())?,
         census: Vec::from_slice(alloc, report.contents())?,
     })
+}
+
+/// A run over a file by two workers, with devices that do not fail.
+pub(crate) fn run_by_two<R: Threads + Wait + Sync + AllocGlobal>(
+    rt: &R,
+    weak: Weak,
+    census: bool,
+    file: Vec<u8>,
+) -> Result<Outcome, Fail> {
+    let plan = plan_of(weak, census)?;
+    run_over(rt, rt.alloc(), &plan, file, &SOUND)
 }
 
 /// Asserts that a run over a file writes this image and no census.
@@ -113,10 +134,25 @@ pub(crate) fn assert_writes<R: Threads + Wait + Sync + Abort + AllocGlobal>(
     file: Vec<u8>,
     wanted: &[u8],
 ) -> Result<Summary, Fail> {
-    let outcome = run_over(rt, rt.alloc(), &plan_of(weak, false)?, file, &SOUND)?;
-    assert_eq!(rt; outcome.image.as_slice(), wanted);
-    assert!(rt; outcome.census.is_empty());
+    let outcome = run_by_two(rt, weak, false, file)?;
+    assert_wrote(rt, &outcome, wanted);
     Ok(outcome.answer?)
+}
+
+/// Asserts that a run wrote this image and no census.
+fn assert_wrote<R: Abort>(rt: &R, outcome: &Outcome, wanted: &[u8]) {
+    assert_bytes(rt, &outcome.image, wanted);
+    assert_bytes(rt, &outcome.census, &[]);
+}
+
+/// Asserts that bytes are these.
+pub(crate) fn assert_bytes<R: Abort>(rt: &R, bytes: &[u8], wanted: &[u8]) {
+    assert_eq!(rt; bytes, wanted);
+}
+
+/// Asserts that the bytes that so many workers wrote are these.
+pub(crate) fn assert_bytes_by<R: Abort>(rt: &R, workers: u32, bytes: &[u8], wanted: &[u8]) {
+    assert_eq!(rt; bytes, wanted, "with {workers} workers");
 }
 
 /// Asserts that a run by a plan, with these devices, writes this image and this census.
@@ -128,16 +164,22 @@ pub(crate) fn assert_writes_both<R: Threads + Wait + Sync + Abort + AllocGlobal>
     image: &[u8],
     census: &str,
 ) -> Result<(), Fail> {
-    let workers = plan.workers.number();
     let outcome = run_over(rt, rt.alloc(), plan, file, devices)?;
-    assert!(rt; outcome.answer.is_ok(), "with {workers} workers");
-    assert_eq!(rt; outcome.image.as_slice(), image, "with {workers} workers");
-    assert_eq!(rt;
-        outcome.census.as_slice(),
-        census.as_bytes(),
-        "with {workers} workers"
-    );
+    assert_wrote_both(rt, plan.workers.number(), &outcome, image, census);
     Ok(())
+}
+
+/// Asserts that a run with so many workers wrote this image and this census.
+fn assert_wrote_both<R: Abort>(
+    rt: &R,
+    workers: u32,
+    outcome: &Outcome,
+    image: &[u8],
+    census: &str,
+) {
+    assert_eq!(rt; (workers, outcome.answer.is_ok()), (workers, true));
+    assert_bytes_by(rt, workers, &outcome.image, image);
+    assert_bytes_by(rt, workers, &outcome.census, census.as_bytes());
 }
 
 /// Asserts that a run over a file is refused with this fault, and writes nothing.
@@ -158,8 +200,28 @@ pub(crate) fn assert_refused_by<R: Threads + Wait + Sync + Abort + AllocGlobal>(
     fault: Fault,
 ) -> Result<(), Fail> {
     let outcome = run_over(rt, rt.alloc(), plan, file, &SOUND)?;
-    assert_eq!(rt; outcome.answer, Err(fault));
-    assert!(rt; outcome.image.is_empty() && outcome.census.is_empty());
+    assert_wrote_nothing(rt, &outcome, fault);
+    Ok(())
+}
+
+/// Asserts that a run was refused with this fault, and wrote nothing.
+fn assert_wrote_nothing<R: Abort>(rt: &R, outcome: &Outcome, fault: Fault) {
+    assert_eq!(rt;
+        (outcome.answer, outcome.image.len(), outcome.census.len()),
+        (Err(fault), 0, 0)
+    );
+}
+
+/// Asserts that an image is compacted to another, where words are in this order.
+fn assert_compacts_in<R: Threads + Wait + Sync + Abort + AllocGlobal>(
+    rt: &R,
+    order: Order,
+    weak: Weak,
+    image: &TestImage,
+    answer: &TestImage,
+) -> Result<(), Fail> {
+    let wanted = file_in(rt.alloc(), order, answer)?;
+    assert_writes(rt, weak, file_in(rt.alloc(), order, image)?, &wanted)?;
     Ok(())
 }
 
@@ -171,9 +233,7 @@ pub(crate) fn assert_compacts<R: Threads + Wait + Sync + Abort + AllocGlobal>(
     answer: &TestImage,
 ) -> Result<(), Fail> {
     for order in [Order::Little, Order::Big] {
-        let file = file_in(rt.alloc(), order, image)?;
-        let wanted = file_in(rt.alloc(), order, answer)?;
-        assert_writes(rt, weak, file, &wanted)?;
+        assert_compacts_in(rt, order, weak, image, answer)?;
     }
     Ok(())
 }
@@ -186,8 +246,7 @@ pub(crate) fn assert_image_refused<R: Threads + Wait + Sync + Abort + AllocGloba
     fault: Fault,
 ) -> Result<(), Fail> {
     for order in [Order::Little, Order::Big] {
-        let file = file_in(rt.alloc(), order, image)?;
-        assert_refused(rt, weak, file, fault)?;
+        assert_refused(rt, weak, file_in(rt.alloc(), order, image)?, fault)?;
     }
     Ok(())
 }

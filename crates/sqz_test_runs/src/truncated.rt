@@ -2,7 +2,7 @@
 
 use super::plans::{Case, assert_answers};
 use super::prefixes::behind;
-use super::runs::{assert_refused_by, nine_plans, plan_of};
+use super::runs::{assert_refused, assert_refused_by, nine_plans};
 use sqz_image::Fault;
 use sqz_object::{Order, put_word};
 use sqz_test_images::Chunk::Words;
@@ -57,14 +57,18 @@ fn each_length_of_a_file(rt: HostRuntime) -> Result<(), Fail> {
     Ok(())
 }
 
+/// The first so many bytes of that file behind 512 bytes.
+fn cut_behind_512<R: Abort + AllocGlobal>(rt: &R, length: usize) -> Result<Vec<u8>, Fail> {
+    let mut file = behind(rt.alloc(), 512, &class_file(rt)?)?;
+    file.truncate(length);
+    Ok(file)
+}
+
 #[test]
 fn each_length_behind_512_bytes(rt: HostRuntime) -> Result<(), Fail> {
-    let mut file = behind(rt.alloc(), 512, &class_file(&rt)?)?;
-    let plan = plan_of(Weak::Keep, true)?;
     for length in (516..752).rev() {
-        file.truncate(length);
-        let cut = Vec::from_slice(rt.alloc(), &file)?;
-        assert_refused_by(&rt, &plan, cut, fault_of_length(length - 512))?;
+        let file = cut_behind_512(&rt, length)?;
+        assert_refused(&rt, Weak::Keep, file, fault_of_length(length - 512))?;
     }
     Ok(())
 }
@@ -81,41 +85,67 @@ const EDGE_CASE: Case = Case {
     ),
 };
 
+/// Has the header of their file say that the data have so many bytes.
+fn state_size<R: Abort>(rt: &R, file: &mut [u8], size: u32) {
+    assert_eq!(rt; file.len(), 112);
+    file[8..12].copy_from_slice(&put_word(Order::Little, size));
+}
+
 /// The bytes of their file, whose header says that the data have so many bytes.
 fn file_that_says<R: Abort + AllocGlobal>(rt: &R, size: u32) -> Result<Vec<u8>, Fail> {
     let mut file = file_of(rt.alloc(), &CLASS_EDGE)?;
-    assert_eq!(rt; file.len(), 112);
-    file[8..12].copy_from_slice(&put_word(Order::Little, size));
+    state_size(rt, &mut file, size);
     Ok(file)
 }
 
+/// Asserts that runs over a file are refused with this fault, whether weak slots are kept or cleared.
+fn assert_refused_by_both<R: Threads + Wait + Sync + Abort + AllocGlobal>(
+    rt: &R,
+    file: &[u8],
+    fault: Fault,
+) -> Result<(), Fail> {
+    assert_refused_by_all(rt, Weak::Keep, file, fault)?;
+    assert_refused_by_all(rt, Weak::Clear, file, fault)
+}
+
+/// Asserts what runs over the whole file write, whether weak slots are kept or cleared.
+fn assert_edge_answers<R: Threads + Wait + Sync + Abort + AllocGlobal>(rt: &R) -> Result<(), Fail> {
+    for weak in [Weak::Keep, Weak::Clear] {
+        assert_answers(rt, weak, &EDGE_CASE)?;
+    }
+    Ok(())
+}
+
+/// Asserts that the file which says 48 is that of the image.
+fn assert_whole_says_48<R: Abort + AllocGlobal>(rt: &R) -> Result<(), Fail> {
+    let whole = file_that_says(rt, 48)?;
+    assert_eq!(rt; whole, file_of(rt.alloc(), &CLASS_EDGE)?);
+    Ok(())
+}
+
+/// Sizes that data of 48 bytes may say, and the fault of each.
+const SHORTER_SIZES: &[(u32, Fault)] = &[
+    (0, Fault::BadSpecialObjects),
+    (4, Fault::BadSpecialObjects),
+    (8, Fault::Overrun { word: 1 }),
+    (12, Fault::Overrun { word: 1 }),
+    (16, Fault::BadSpecialObjects),
+    (20, Fault::Overrun { word: 4 }),
+    (24, Fault::BadSpecialObjects),
+    (28, Fault::Overrun { word: 6 }),
+    (32, Fault::Overrun { word: 6 }),
+    (36, Fault::BadSpecialObjects),
+    (40, Fault::Overrun { word: 9 }),
+    (44, Fault::Overrun { word: 9 }),
+];
+
 #[test]
 fn data_that_say_they_are_shorter(rt: HostRuntime) -> Result<(), Fail> {
-    let not_found = Fault::BadSpecialObjects;
-    let some = [
-        (0, not_found),
-        (4, not_found),
-        (8, Fault::Overrun { word: 1 }),
-        (12, Fault::Overrun { word: 1 }),
-        (16, not_found),
-        (20, Fault::Overrun { word: 4 }),
-        (24, not_found),
-        (28, Fault::Overrun { word: 6 }),
-        (32, Fault::Overrun { word: 6 }),
-        (36, not_found),
-        (40, Fault::Overrun { word: 9 }),
-        (44, Fault::Overrun { word: 9 }),
-    ];
-    for (size, fault) in &some {
-        let file = file_that_says(&rt, *size)?;
-        for weak in [Weak::Keep, Weak::Clear] {
-            assert_refused_by_all(&rt, weak, &file, *fault)?;
-        }
+    for (size, fault) in SHORTER_SIZES {
+        assert_refused_by_both(&rt, &file_that_says(&rt, *size)?, *fault)?;
     }
-    let whole = file_that_says(&rt, 48)?;
-    assert_eq!(rt; whole, file_of(rt.alloc(), &CLASS_EDGE)?);
-    assert_answers(&rt, Weak::Keep, &EDGE_CASE)?;
-    assert_answers(&rt, Weak::Clear, &EDGE_CASE)
+    assert_whole_says_48(&rt)?;
+    assert_edge_answers(&rt)
 }
 
 /// Header words that are not all there.
@@ -136,25 +166,45 @@ const FOUR_ONES: TestImage = TestImage {
     ..EMPTY
 };
 
-/// The words that state the least size, and those that state the most: 63 words of ones are a method with fewer literals than
-/// it states, whose field 0 names nothing.
+/// Asserts that runs over an image are refused with this fault by each of nine plans, in either byte order.
+fn assert_image_refused_by_all<R: Threads + Wait + Sync + Abort + AllocGlobal>(
+    rt: &R,
+    weak: Weak,
+    image: &TestImage,
+    fault: Fault,
+) -> Result<(), Fail> {
+    for order in [Order::Little, Order::Big] {
+        assert_refused_by_all(rt, weak, &file_in(rt.alloc(), order, image)?, fault)?;
+    }
+    Ok(())
+}
+
+/// Images whose words state the least size or the most, and the fault of each where weak slots are kept and where they
+/// are cleared: 63 words of ones are a method with fewer literals than it states, whose field 0 names nothing.
+const ZEROS_AND_ONES: &[(TestImage, Fault, Fault)] = &[
+    (
+        TWO_ZEROS,
+        Fault::Overrun { word: 0 },
+        Fault::Overrun { word: 0 },
+    ),
+    (
+        THREE_ZEROS,
+        Fault::ZeroSize { word: 0 },
+        Fault::ZeroSize { word: 0 },
+    ),
+    (
+        FOUR_ONES,
+        Fault::Overrun { word: 0 },
+        Fault::Overrun { word: 0 },
+    ),
+    (ALL_ONES, Fault::BadMethod { address: 0x1000 }, Fault::NoNil),
+];
+
 #[test]
 fn words_of_zeros_and_of_ones(rt: HostRuntime) -> Result<(), Fail> {
-    let overrun = Fault::Overrun { word: 0 };
-    let zero_size = Fault::ZeroSize { word: 0 };
-    let bad_method = Fault::BadMethod { address: 0x1000 };
-    let some = [
-        (TWO_ZEROS, overrun, overrun),
-        (THREE_ZEROS, zero_size, zero_size),
-        (FOUR_ONES, overrun, overrun),
-        (ALL_ONES, bad_method, Fault::NoNil),
-    ];
-    for (image, kept, cleared) in &some {
-        for order in [Order::Little, Order::Big] {
-            let file = file_in(rt.alloc(), order, image)?;
-            assert_refused_by_all(&rt, Weak::Keep, &file, *kept)?;
-            assert_refused_by_all(&rt, Weak::Clear, &file, *cleared)?;
-        }
+    for (image, kept, cleared) in ZEROS_AND_ONES {
+        assert_image_refused_by_all(&rt, Weak::Keep, image, *kept)?;
+        assert_image_refused_by_all(&rt, Weak::Clear, image, *cleared)?;
     }
     Ok(())
 }

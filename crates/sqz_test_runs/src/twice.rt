@@ -1,14 +1,15 @@
 //! Runs over what a run has written: they write the same once more.
 
-use super::prefixes::behind;
-use super::runs::{SOUND, assert_writes, plan_of, run_over};
+use super::prefixes::{file_behind, with_tail};
+use super::runs::{Outcome, SOUND, assert_bytes, assert_writes, run_by_two, run_over};
 use sqz_image::Fault;
 use sqz_marks::Workers;
 use sqz_regions::Cut;
 use sqz_test_images::accepted::NIL_ALONE;
-use sqz_test_images::{IMAGES, file_of};
-use sqz_tool::Plan;
+use sqz_test_images::{IMAGES, TestImage, file_of};
+use sqz_tool::{Plan, Summary};
 use sqz_trace::Weak;
+use std::alloc::{AllocError, Global};
 use std::process::Abort;
 use std::sync::Wait;
 use std::test::Fail;
@@ -24,42 +25,84 @@ fn other_plan(weak: Weak) -> Result<Plan, Fault> {
     })
 }
 
+/// What a second run does, over the file that the first has written.
+fn run_again<R: Threads + Wait + Sync + AllocGlobal>(
+    rt: &R,
+    weak: Weak,
+    written: &[u8],
+) -> Result<Outcome, Fail> {
+    let plan = other_plan(weak)?;
+    let file = Vec::from_slice(rt.alloc(), written)?;
+    run_over(rt, rt.alloc(), &plan, file, &SOUND)
+}
+
+/// What a second run counts where nothing changes any more.
+fn counts_of_second(first: Summary) -> Summary {
+    Summary {
+        objects: first.kept,
+        kept: first.kept,
+        data_before: first.data_after,
+        data_after: first.data_after,
+    }
+}
+
+/// Asserts that a second run changes nothing of what the first has written.
+fn assert_settled<R: Threads + Wait + Sync + Abort + AllocGlobal>(
+    rt: &R,
+    weak: Weak,
+    written: &[u8],
+    first: Summary,
+) -> Result<(), Fail> {
+    let second = run_again(rt, weak, written)?;
+    assert_same(rt, &second, written, counts_of_second(first));
+    Ok(())
+}
+
+/// Asserts that a run wrote these bytes, and counts this.
+fn assert_same<R: Abort>(rt: &R, outcome: &Outcome, written: &[u8], counts: Summary) {
+    assert_eq!(rt; outcome.answer, Ok(counts));
+    assert_bytes(rt, &outcome.image, written);
+}
+
 /// Asserts that what a run over a file writes is compacted to itself, and tells whether the file was accepted.
 fn settles<R: Threads + Wait + Sync + Abort + AllocGlobal>(
     rt: &R,
     weak: Weak,
     file: Vec<u8>,
 ) -> Result<bool, Fail> {
-    let first = run_over(rt, rt.alloc(), &plan_of(weak, false)?, file, &SOUND)?;
+    let first = run_by_two(rt, weak, false, file)?;
     let Ok(summary) = first.answer else {
         return Ok(false);
     };
-    let written = Vec::from_slice(rt.alloc(), &first.image)?;
-    let second = run_over(rt, rt.alloc(), &other_plan(weak)?, written, &SOUND)?;
-    assert_eq!(rt; second.image, first.image);
-    let again = second.answer?;
-    assert_eq!(rt; again.objects, summary.kept);
-    assert_eq!(rt; again.kept, summary.kept);
-    assert_eq!(rt; again.data_before, summary.data_after);
-    assert_eq!(rt; again.data_after, summary.data_after);
+    assert_settled(rt, weak, &first.image, summary)?;
     Ok(true)
 }
 
-/// How many of the images are accepted by this policy and, behind so many bytes, settle.
+/// How many of these images are accepted by this policy and, behind so many bytes, settle.
+fn count_among<R: Threads + Wait + Sync + Abort + AllocGlobal>(
+    rt: &R,
+    weak: Weak,
+    bytes_before: usize,
+    images: &[TestImage],
+) -> Result<u32, Fail> {
+    let mut count: u32 = 0;
+    for image in images {
+        if settles(rt, weak, file_behind(rt.alloc(), bytes_before, image)?)? {
+            count = count.saturating_add(1);
+        }
+    }
+    Ok(count)
+}
+
+/// How many of all images are accepted by this policy and, behind so many bytes, settle.
 fn count_settled<R: Threads + Wait + Sync + Abort + AllocGlobal>(
     rt: &R,
     weak: Weak,
     bytes_before: usize,
 ) -> Result<u32, Fail> {
-    let mut count = 0;
-    for images in IMAGES {
-        for image in images {
-            let file = behind(rt.alloc(), bytes_before, &file_of(rt.alloc(), image)?)?;
-            if settles(rt, weak, file)? {
-                assert!(rt; count < 1000);
-                count += 1;
-            }
-        }
+    let mut count: u32 = 0;
+    for images in &IMAGES {
+        count = count.saturating_add(count_among(rt, weak, bytes_before, images)?);
     }
     Ok(count)
 }
@@ -73,16 +116,51 @@ fn second_run_changes_nothing(rt: HostRuntime) -> Result<(), Fail> {
     Ok(())
 }
 
+/// The file of nil.
+fn nil_file(alloc: Global) -> Result<Vec<u8>, AllocError> {
+    file_of(alloc, &NIL_ALONE)
+}
+
+/// The file of nil, and five bytes behind it.
+fn nil_with_tail(alloc: Global) -> Result<Vec<u8>, AllocError> {
+    with_tail(nil_file(alloc)?)
+}
+
+/// Asserts how long the file of nil is with five bytes behind it, and without them.
+fn assert_lengths<R: Abort + AllocGlobal>(rt: &R) -> Result<(), Fail> {
+    let with_tail = nil_with_tail(rt.alloc())?.len();
+    let without = nil_file(rt.alloc())?.len();
+    assert_eq!(rt; (with_tail, without), (81, 76));
+    Ok(())
+}
+
+/// Asserts that a run leaves out the five bytes.
+fn assert_tail_left_out<R: Threads + Wait + Sync + Abort + AllocGlobal>(
+    rt: &R,
+    weak: Weak,
+) -> Result<(), Fail> {
+    let wanted = nil_file(rt.alloc())?;
+    assert_writes(rt, weak, nil_with_tail(rt.alloc())?, &wanted)?;
+    Ok(())
+}
+
+/// Asserts that a second run changes nothing.
+fn assert_tail_settles<R: Threads + Wait + Sync + Abort + AllocGlobal>(
+    rt: &R,
+    weak: Weak,
+) -> Result<(), Fail> {
+    let settled = settles(rt, weak, nil_with_tail(rt.alloc())?)?;
+    assert!(rt; settled, "{weak:?}");
+    Ok(())
+}
+
 /// The first run leaves out five bytes that stand behind the data, and the second run changes nothing.
 #[test]
 fn bytes_after_data_are_left_out_once(rt: HostRuntime) -> Result<(), Fail> {
-    let wanted = file_of(rt.alloc(), &NIL_ALONE)?;
+    assert_lengths(&rt)?;
     for weak in [Weak::Keep, Weak::Clear] {
-        let mut file = wanted.clone()?;
-        file.extend_from_slice(&[1, 2, 3, 4, 5])?;
-        assert_eq!(rt; (file.len(), wanted.len()), (81, 76));
-        assert_writes(&rt, weak, file.clone()?, &wanted)?;
-        assert!(rt; settles(&rt, weak, file)?, "{weak:?}");
+        assert_tail_left_out(&rt, weak)?;
+        assert_tail_settles(&rt, weak)?;
     }
     Ok(())
 }

@@ -16,64 +16,83 @@ use std::sync::Wait;
 use std::test::Fail;
 use std::thread::Threads;
 
-/// Asserts that runs over images are refused with this fault, whether weak slots are kept or cleared.
+/// Asserts that runs over an image are refused with this fault, whether weak slots are kept or cleared.
 fn assert_unreadable<R: Threads + Wait + Sync + Abort + AllocGlobal>(
     rt: &R,
-    images: &[TestImage],
+    image: &TestImage,
     fault: Fault,
 ) -> Result<(), Fail> {
-    for image in images {
-        assert_image_refused(rt, Weak::Keep, image, fault)?;
-        assert_image_refused(rt, Weak::Clear, image, fault)?;
+    assert_image_refused(rt, Weak::Keep, image, fault)?;
+    assert_image_refused(rt, Weak::Clear, image, fault)
+}
+
+/// Asserts it of images with these faults.
+fn assert_all_unreadable<R: Threads + Wait + Sync + Abort + AllocGlobal>(
+    rt: &R,
+    some: &[(TestImage, Fault)],
+) -> Result<(), Fail> {
+    for (image, fault) in some {
+        assert_unreadable(rt, image, *fault)?;
     }
     Ok(())
 }
 
+/// Images of which one chunk cannot be read, and the fault of each.
+const UNREADABLE: &[(TestImage, Fault)] = &[
+    (ZERO_SIZE, Fault::ZeroSize { word: 1 }),
+    (FREE_ZERO_SIZE, Fault::ZeroSize { word: 1 }),
+    (ZERO_SIZE_OF_TWO, Fault::ZeroSize { word: 1 }),
+    (ZERO_SIZE_OF_THREE, Fault::ZeroSize { word: 1 }),
+    (MIXED_HEADER, Fault::HeaderMismatch { word: 1 }),
+    (MIXED_SECOND_HEADER, Fault::HeaderMismatch { word: 1 }),
+    (MIXED_CLASS_HEADER, Fault::HeaderMismatch { word: 1 }),
+    (HEADER_OVERRUN, Fault::Overrun { word: 1 }),
+    (LONE_SIZE_WORD, Fault::Overrun { word: 1 }),
+    (LONE_CLASS_WORD, Fault::Overrun { word: 1 }),
+    (OVERRUN, Fault::Overrun { word: 1 }),
+    (FREE_OVERRUN, Fault::Overrun { word: 1 }),
+    (OVERRUN_OF_TWO, Fault::Overrun { word: 1 }),
+    (OVERRUN_OF_THREE, Fault::Overrun { word: 1 }),
+];
+
 #[test]
 fn chunk_that_cannot_be_read(rt: HostRuntime) -> Result<(), Fail> {
-    let zero_size = [
-        ZERO_SIZE,
-        FREE_ZERO_SIZE,
-        ZERO_SIZE_OF_TWO,
-        ZERO_SIZE_OF_THREE,
-    ];
-    assert_unreadable(&rt, &zero_size, Fault::ZeroSize { word: 1 })?;
-    let mixed = [MIXED_HEADER, MIXED_SECOND_HEADER, MIXED_CLASS_HEADER];
-    assert_unreadable(&rt, &mixed, Fault::HeaderMismatch { word: 1 })?;
-    let overrun = [
-        HEADER_OVERRUN,
-        LONE_SIZE_WORD,
-        LONE_CLASS_WORD,
-        OVERRUN,
-        FREE_OVERRUN,
-        OVERRUN_OF_TWO,
-        OVERRUN_OF_THREE,
-    ];
-    assert_unreadable(&rt, &overrun, Fault::Overrun { word: 1 })
+    assert_all_unreadable(&rt, UNREADABLE)
 }
+
+/// Images with two faults, and the one that counts.
+const FIRST_FAULTS: &[(TestImage, Fault)] = &[
+    (MIXED_BEFORE_SIZE, Fault::HeaderMismatch { word: 1 }),
+    (MIXED_BEFORE_OVERRUN, Fault::HeaderMismatch { word: 1 }),
+    (HEADER_OVERRUN_BEFORE_MIXED, Fault::Overrun { word: 1 }),
+    (FIRST_UNREADABLE_CHUNK, Fault::ZeroSize { word: 4 }),
+    (UNREADABLE_BEFORE_SPECIAL, Fault::ZeroSize { word: 1 }),
+];
 
 #[test]
 fn first_fault(rt: HostRuntime) -> Result<(), Fail> {
-    let mixed = [MIXED_BEFORE_SIZE, MIXED_BEFORE_OVERRUN];
-    assert_unreadable(&rt, &mixed, Fault::HeaderMismatch { word: 1 })?;
-    let overrun = [HEADER_OVERRUN_BEFORE_MIXED];
-    assert_unreadable(&rt, &overrun, Fault::Overrun { word: 1 })?;
-    let later = [FIRST_UNREADABLE_CHUNK];
-    assert_unreadable(&rt, &later, Fault::ZeroSize { word: 4 })?;
-    let without_special = [UNREADABLE_BEFORE_SPECIAL];
-    assert_unreadable(&rt, &without_special, Fault::ZeroSize { word: 1 })
+    assert_all_unreadable(&rt, FIRST_FAULTS)
+}
+
+/// Asserts that an image is refused whose special objects array would be here.
+fn assert_not_special<R: Threads + Wait + Sync + Abort + AllocGlobal>(
+    rt: &R,
+    special: u32,
+) -> Result<(), Fail> {
+    let image = TestImage {
+        special,
+        ..FREE_CHUNK_AT_SPECIAL
+    };
+    assert_unreadable(rt, &image, Fault::BadSpecialObjects)
 }
 
 #[test]
 fn no_special_objects_array(rt: HostRuntime) -> Result<(), Fail> {
-    let fault = Fault::BadSpecialObjects;
-    assert_unreadable(&rt, &[NO_OBJECT_AT_SPECIAL, EMPTY], fault)?;
+    for image in &[NO_OBJECT_AT_SPECIAL, EMPTY] {
+        assert_unreadable(&rt, image, Fault::BadSpecialObjects)?;
+    }
     for special in [0, 0xFFC, 0x1001, 0x1004, 0x1008, 0x1014, 0x1018, 0x1030] {
-        let image = TestImage {
-            special,
-            ..FREE_CHUNK_AT_SPECIAL
-        };
-        assert_unreadable(&rt, &[image], fault)?;
+        assert_not_special(&rt, special)?;
     }
     Ok(())
 }

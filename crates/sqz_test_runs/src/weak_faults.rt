@@ -28,24 +28,18 @@ fn assert_not_cleared<R: Threads + Wait + Sync + Abort + AllocGlobal>(
     assert_compacts(rt, Weak::Keep, image, image)
 }
 
-/// The fault of a bad field 0.
-const fn bad_field(address: u32) -> Fault {
-    Fault::BadPointer {
-        address,
-        slot: Slot::Field(0),
-    }
-}
+/// Images with a bad weak object, and the address of that.
+const BAD_WEAK_OBJECTS: &[(TestImage, u32)] = &[
+    (WEAK_BAD_CLASS, 0x1020),
+    (WEAK_SMALL_CLASS, 0x1014),
+    (WEAK_NEGATIVE_FIXED, 0x1018),
+    (WEAK_TOO_MANY_FIXED, 0x1018),
+];
 
 #[test]
 fn bad_weak_objects(rt: HostRuntime) -> Result<(), Fail> {
-    let some = [
-        (WEAK_BAD_CLASS, 0x1020),
-        (WEAK_SMALL_CLASS, 0x1014),
-        (WEAK_NEGATIVE_FIXED, 0x1018),
-        (WEAK_TOO_MANY_FIXED, 0x1018),
-    ];
-    for (image, address) in some {
-        assert_not_cleared(&rt, &image, Fault::BadWeak { address })?;
+    for (image, address) in BAD_WEAK_OBJECTS {
+        assert_not_cleared(&rt, image, Fault::BadWeak { address: *address })?;
     }
     Ok(())
 }
@@ -62,27 +56,38 @@ fn nil_is_missing(rt: HostRuntime) -> Result<(), Fail> {
     assert_not_cleared(&rt, &SPECIAL_ARRAY_ALONE, Fault::NoNil)
 }
 
-/// Images that are refused under both policies: nil counts before a missing class, this before a bad weak object, that before
-/// a bad field, and a weak slot may not be bad.
+/// An object without a class.
+const NO_CLASS: Fault = Fault::NoClass { address: 0x1004 };
+
+/// A weak object with a bad field.
+const BAD_FIELD: Fault = Fault::BadPointer {
+    address: 0x1018,
+    slot: Slot::Field(0),
+};
+
+/// Images that are refused under both policies, and the faults where weak slots are cleared and where they are kept: nil
+/// counts before a missing class, this before a bad weak object, that before a bad field, and a weak slot may not be bad.
+const REFUSED_BY_BOTH: &[(TestImage, Fault, Fault)] = &[
+    (
+        WEAK_NO_NIL_BEFORE_NO_CLASS,
+        Fault::NoNil,
+        Fault::NoClass { address: 0x1000 },
+    ),
+    (WEAK_WITHOUT_CLASS, NO_CLASS, NO_CLASS),
+    (
+        WEAK_BAD_BEFORE_FIELD,
+        Fault::BadWeak { address: 0x1018 },
+        BAD_FIELD,
+    ),
+    (WEAK_ODD_SLOT, BAD_FIELD, BAD_FIELD),
+    (WEAK_SLOT_NAMES_NOTHING, BAD_FIELD, BAD_FIELD),
+];
+
 #[test]
 fn first_of_two_faults(rt: HostRuntime) -> Result<(), Fail> {
-    let no_class = Fault::NoClass { address: 0x1004 };
-    let bad_weak = Fault::BadWeak { address: 0x1018 };
-    let bad_field = bad_field(0x1018);
-    let some = [
-        (
-            WEAK_NO_NIL_BEFORE_NO_CLASS,
-            Fault::NoNil,
-            Fault::NoClass { address: 0x1000 },
-        ),
-        (WEAK_WITHOUT_CLASS, no_class, no_class),
-        (WEAK_BAD_BEFORE_FIELD, bad_weak, bad_field),
-        (WEAK_ODD_SLOT, bad_field, bad_field),
-        (WEAK_SLOT_NAMES_NOTHING, bad_field, bad_field),
-    ];
-    for (image, cleared, kept) in some {
-        assert_image_refused(&rt, Weak::Clear, &image, cleared)?;
-        assert_image_refused(&rt, Weak::Keep, &image, kept)?;
+    for (image, cleared, kept) in REFUSED_BY_BOTH {
+        assert_image_refused(&rt, Weak::Clear, image, *cleared)?;
+        assert_image_refused(&rt, Weak::Keep, image, *kept)?;
     }
     Ok(())
 }

@@ -61,16 +61,18 @@ const WEAK_CLASS_CLEARED: TestImage = TestImage {
     ..EMPTY
 };
 
+/// Images with weak objects, and what is left of each where weak slots are cleared.
+const CLEARED: &[(TestImage, TestImage)] = &[
+    (WEAK_FIELDS, WEAK_FIELDS_CLEARED),
+    (WEAK_FIXED_FIELD, FIXED_FIELD_CLEARED),
+    (WEAK_OWN_CLASS, OWN_CLASS_CLEARED),
+    (WEAK_WEAK_CLASS, WEAK_CLASS_CLEARED),
+    (WEAK_SPECIAL_WITH_CLASS_WORD, WEAK_SPECIAL_WITH_CLASS_WORD),
+];
+
 #[test]
 fn cleared_and_kept(rt: HostRuntime) -> Result<(), Fail> {
-    let some = [
-        (WEAK_FIELDS, WEAK_FIELDS_CLEARED),
-        (WEAK_FIXED_FIELD, FIXED_FIELD_CLEARED),
-        (WEAK_OWN_CLASS, OWN_CLASS_CLEARED),
-        (WEAK_WEAK_CLASS, WEAK_CLASS_CLEARED),
-        (WEAK_SPECIAL_WITH_CLASS_WORD, WEAK_SPECIAL_WITH_CLASS_WORD),
-    ];
-    for (image, cleared) in &some {
+    for (image, cleared) in CLEARED {
         assert_cleared(&rt, image, cleared)?;
     }
     Ok(())

@@ -2,6 +2,7 @@
 
 use sqz_image::{Fault, ReadSource, Sink, Source, WriteSink, read_all, write_all};
 use std::io::{Cursor, ErrorKind, Read, Write};
+use std::process::Abort;
 use std::test::Fail;
 
 /// Bytes that tell where they stand.
@@ -12,9 +13,14 @@ fn passes_a_reader_on_to_a_writer(rt: HostRuntime) -> Result<(), Fail> {
     let mut source = ReadSource::new(Cursor::new(BYTES.as_slice()));
     let file = read_all(rt.alloc(), &mut source)?;
     assert!(rt; !source.failed());
+    assert_writes(&rt, &file)
+}
+
+/// Asserts that a writer has what is written.
+fn assert_writes<R: Abort + AllocGlobal>(rt: &R, file: &[u8]) -> Result<(), Fail> {
     let mut copy = Vec::new(rt.alloc());
     let mut sink = WriteSink::new(&mut copy);
-    write_all(&mut sink, &file)?;
+    write_all(&mut sink, file)?;
     assert!(rt; !sink.failed());
     assert_eq!(rt; copy.as_slice(), BYTES.as_slice());
     Ok(())
@@ -57,22 +63,30 @@ impl Write for Stuck {
     }
 }
 
-#[test]
-fn a_failed_device_calls_nobody(rt: HostRuntime) {
+/// Asserts that a source whose reader failed does not call it again.
+fn assert_read_once<R: Abort>(rt: &R) {
     let mut reader = Broken(0);
     let mut source = ReadSource::new(&mut reader);
     assert!(rt; source.read(&mut [0; 4]).is_err());
     assert!(rt; source.read(&mut [0; 4]).is_err());
     assert!(rt; source.failed());
     assert_eq!(rt; reader.0, 1);
+}
 
+/// Asserts that a sink whose writer failed does not call it again.
+fn assert_called_once<R: Abort>(rt: &R) {
     let mut writer = Broken(0);
     let mut sink = WriteSink::new(&mut writer);
     assert!(rt; matches!(write_all(&mut sink, &[1]), Err(Fault::WriteFailed)));
     assert!(rt; sink.write(&[1]).is_err());
     assert!(rt; sink.flush().is_err());
     assert_eq!(rt; writer.0, 1);
+}
 
+#[test]
+fn a_failed_device_calls_nobody(rt: HostRuntime) {
+    assert_read_once(&rt);
+    assert_called_once(&rt);
     let mut sink = WriteSink::new(Stuck);
     assert!(rt; matches!(write_all(&mut sink, &[1]), Err(Fault::WriteFailed)));
     assert!(rt; sink.failed());
@@ -100,19 +114,28 @@ impl Write for FailsOnce {
     }
 }
 
+/// Asserts that a write that fails so is not tried again by the sink.
+fn assert_written_once<R: Abort>(rt: &R, error: ErrorKind) {
+    let mut writer = FailsOnce { writes: 0, error };
+    let mut sink = WriteSink::new(&mut writer);
+    assert!(rt; sink.write(&[1, 2]).is_err());
+    assert!(rt; sink.failed());
+    assert_eq!(rt; writer.writes, 1);
+}
+
+/// Asserts that a write that fails so is not tried again where all bytes are to be written.
+fn assert_all_written_once<R: Abort>(rt: &R, error: ErrorKind) {
+    let mut writer = FailsOnce { writes: 0, error };
+    let mut sink = WriteSink::new(&mut writer);
+    assert!(rt; matches!(write_all(&mut sink, &[1, 2]), Err(Fault::WriteFailed)));
+    assert!(rt; sink.failed());
+    assert_eq!(rt; writer.writes, 1);
+}
+
 #[test]
 fn a_failed_first_write_is_not_tried_again(rt: HostRuntime) {
     for error in [ErrorKind::Interrupted, ErrorKind::StorageFull] {
-        let mut writer = FailsOnce { writes: 0, error };
-        let mut sink = WriteSink::new(&mut writer);
-        assert!(rt; sink.write(&[1, 2]).is_err());
-        assert!(rt; sink.failed());
-        assert_eq!(rt; writer.writes, 1);
-
-        let mut writer = FailsOnce { writes: 0, error };
-        let mut sink = WriteSink::new(&mut writer);
-        assert!(rt; matches!(write_all(&mut sink, &[1, 2]), Err(Fault::WriteFailed)));
-        assert!(rt; sink.failed());
-        assert_eq!(rt; writer.writes, 1);
+        assert_written_once(&rt, error);
+        assert_all_written_once(&rt, error);
     }
 }

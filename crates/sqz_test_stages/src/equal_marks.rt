@@ -1,38 +1,72 @@
 //! The four ways to mark give equal marks.
 
+ghost use Rattle.std.specs.Prelude.{◌≡◌, length, IfOk};
+ghost use Rattle.sqz_image.specs.Objects.{object_count};
+
 use super::images::{FIXED_FIELD_BY_INDEX, FREE_AT_THE_END, THREE_WEAK_SLOTS};
 use super::marking::marked_by;
 use super::tracing::{finished, flags_of, marked};
 use sqz_image::Heap;
 use sqz_marks::Workers;
 use sqz_regions::{Cut, Regions, live_words};
-use sqz_test_images::with_weak_objects::{WEAK_FIXED_FIELD, WEAK_TOO_MANY_FIXED};
-use sqz_test_images::{IMAGES, TestImage, image_of, words_of};
+use sqz_test_images::accepted::ACCEPTED;
+use sqz_test_images::with_defects::WITH_DEFECTS;
+use sqz_test_images::with_weak_objects::{
+    WEAK_FIXED_FIELD, WEAK_TOO_MANY_FIXED, WITH_WEAK_OBJECTS,
+};
+use sqz_test_images::{TestImage, image_of, words_of};
 use sqz_trace::Weak;
-use sqz_workers::{OpenGate, mark};
+use sqz_workers::{Marked, OpenGate, mark};
 use std::process::Abort;
 use std::sync::Wait;
 use std::test::Fail;
 use std::thread::Threads;
 
-/// Which objects are marked by three workers who steal. Asserts that the words that they counted in each region are those of
-/// the marked objects there.
+/// Which objects are marked by three workers who steal.
 fn marked_by_stealing<R: Threads + Sync + Abort + AllocGlobal>(
     rt: &R,
     heap: &Heap,
     weak: Weak,
 ) -> Result<Vec<bool>, Fail> {
     let cut = Cut::every(4)?;
-    let regions = Regions::of(rt.alloc(), heap, &cut)?;
+    let marked = counted(rt, heap, weak, &Regions::of(rt.alloc(), heap, &cut)?)?;
+    Ok(flags_of(rt.alloc(), heap, &marked.marks)?)
+}
+
+/// What the marking by three workers who steal gives. Asserts that the words that they counted in each region are those of
+/// the marked objects there.
+fn counted<R: Threads + Sync + Abort + AllocGlobal>(
+    rt: &R,
+    heap: &Heap,
+    weak: Weak,
+    regions: &Regions<'_>,
+) -> Result<Marked, Fail>
+    requires { regions.now.memory ≡ heap.now }
+    ensures { IfOk result (λ marked. length marked.marks ≡ object_count heap.now) }
+{
     let workers = Workers::new(3)?;
-    let marked = mark(rt, rt.alloc(), heap, weak, &regions, workers, &OpenGate)?;
-    let sums = live_words(rt.alloc(), heap, &regions, &marked.marks)?;
+    let marked = mark(rt, rt.alloc(), heap, weak, regions, workers, &OpenGate)?;
+    assert_sums(rt, heap, regions, &marked)?;
+    Ok(marked)
+}
+
+/// Asserts that the words that workers counted in each region are those of the marked objects there.
+fn assert_sums<R: Abort + AllocGlobal>(
+    rt: &R,
+    heap: &Heap,
+    regions: &Regions<'_>,
+    marked: &Marked,
+) -> Result<(), Fail>
+    requires regions { regions.now.memory ≡ heap.now }
+    requires sized { length marked.now.marks ≡ object_count heap.now }
+{
+    let sums = live_words(rt.alloc(), heap, regions, &marked.marks)?;
     assert_eq!(rt;
         marked.live_words.as_slice(),
         sums.as_slice(),
         "words of regions"
     );
-    Ok(flags_of(rt.alloc(), heap, &marked.marks)?)
+    Ok(())
 }
 
 /// Asserts that objects are marked alike by a worklist, from the first shades on without memory, by workers under a lock, and
@@ -45,11 +79,30 @@ fn assert_equal_marks<R: Threads + Wait + Sync + Abort + AllocGlobal>(
 ) -> Result<(), Fail> {
     let plain = marked(rt.alloc(), heap, weak)?;
     let finished = finished(rt.alloc(), heap, weak)?;
+    assert_eq!(rt; finished, plain, "without memory, {weak:?}, {words:?}");
+    assert_marks_by_workers(rt, heap, weak, words, &plain)
+}
+
+/// Asserts that workers mark these objects, under a lock and by stealing.
+fn assert_marks_by_workers<R: Threads + Wait + Sync + Abort + AllocGlobal>(
+    rt: &R,
+    heap: &Heap,
+    weak: Weak,
+    words: &[u32],
+    wanted: &[bool],
+) -> Result<(), Fail> {
     let locked = marked_by(rt, heap, weak, 3, &OpenGate)?;
     let stealing = marked_by_stealing(rt, heap, weak)?;
-    assert_eq!(rt; finished, plain, "without memory, {weak:?}, {words:?}");
-    assert_eq!(rt; locked, plain, "under a lock, {weak:?}, {words:?}");
-    assert_eq!(rt; stealing, plain, "by stealing, {weak:?}, {words:?}");
+    assert_eq!(rt;
+        locked.as_slice(),
+        wanted,
+        "under a lock, {weak:?}, {words:?}"
+    );
+    assert_eq!(rt;
+        stealing.as_slice(),
+        wanted,
+        "by stealing, {weak:?}, {words:?}"
+    );
     Ok(())
 }
 
@@ -66,27 +119,35 @@ fn assert_equal_under_both<R: Threads + Wait + Sync + Abort + AllocGlobal>(
     Ok(())
 }
 
-#[test]
-fn of_all_images(rt: HostRuntime) -> Result<(), Fail> {
-    for images in IMAGES {
-        for image in images {
-            assert_equal_under_both(&rt, image)?;
-        }
+/// Asserts it of each of these images.
+fn assert_equal_for_each<R: Threads + Wait + Sync + Abort + AllocGlobal>(
+    rt: &R,
+    images: &[TestImage],
+) -> Result<(), Fail> {
+    for image in images {
+        assert_equal_under_both(rt, image)?;
     }
     Ok(())
+}
+
+#[test]
+fn of_all_images(rt: HostRuntime) -> Result<(), Fail> {
+    assert_equal_for_each(&rt, &ACCEPTED)?;
+    assert_equal_for_each(&rt, &WITH_WEAK_OBJECTS)?;
+    assert_equal_for_each(&rt, &WITH_DEFECTS)
 }
 
 /// More weak objects, and free chunks behind all objects.
 #[test]
 fn of_weak_objects_and_of_free_chunks_at_the_end(rt: HostRuntime) -> Result<(), Fail> {
-    for image in &[
-        THREE_WEAK_SLOTS,
-        WEAK_FIXED_FIELD,
-        FIXED_FIELD_BY_INDEX,
-        WEAK_TOO_MANY_FIXED,
-        FREE_AT_THE_END,
-    ] {
-        assert_equal_under_both(&rt, image)?;
-    }
-    Ok(())
+    assert_equal_for_each(
+        &rt,
+        &[
+            THREE_WEAK_SLOTS,
+            WEAK_FIXED_FIELD,
+            FIXED_FIELD_BY_INDEX,
+            WEAK_TOO_MANY_FIXED,
+            FREE_AT_THE_END,
+        ],
+    )
 }

@@ -1,6 +1,7 @@
 //! A gate that counts the turns of each worker, and holds workers until others have come.
 
 use sqz_workers::{Gate, Phase};
+use std::process::Abort;
 use std::sync::atomic::{AtomicU64, Ordering};
 use std::thread;
 
@@ -108,6 +109,11 @@ impl<'a> TurnGate<'a> {
         }
         self.missed.fetch_add(1, Ordering::SeqCst);
     }
+}
+
+/// Asserts that workers were held so often, each time until the turn was called.
+pub(crate) fn assert_held<R: Abort>(rt: &R, gate: &TurnGate<'_>, met: u64) {
+    assert_eq!(rt; (gate.met(), gate.missed()), (met, 0), "holds");
 }
 
 impl Gate for TurnGate<'_> {

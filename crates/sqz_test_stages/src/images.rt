@@ -5,7 +5,8 @@ ghost use Rattle.std.specs.Prelude.{◌<◌};
 use sqz_image::{Image, read_image};
 use sqz_object::Order;
 use sqz_test_images::Chunk::{Array, Classed, Free, Long, LongArray, Short, Words};
-use sqz_test_images::{EMPTY, NIL, ODD, TestImage, put_header, put_words};
+use sqz_test_images::accepted::DEAD_CYCLE;
+use sqz_test_images::{EMPTY, NIL, ODD, TestImage, image_of, put_header, put_words};
 use std::alloc::Global;
 use std::test::Fail;
 
@@ -148,6 +149,11 @@ pub(crate) const FAN: TestImage = TestImage {
     special: 0x1044,
     ..EMPTY
 };
+
+/// The image of the dead cycle.
+pub(crate) fn dead_cycle_image(alloc: Global) -> Result<Image, Fail> {
+    Ok(image_of(alloc, &DEAD_CYCLE)?)
+}
 
 /// An image of nil, of so many objects that each name the next one, and of the special objects array, which names the first.
 pub(crate) fn chain_image(alloc: Global, count: u32) -> Result<Image, Fail>

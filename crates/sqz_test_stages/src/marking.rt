@@ -1,11 +1,10 @@
 //! Marking under a lock: what is marked, and who takes turns, as a gate sees it.
 
-use super::gates::{Hold, MEETING, TurnGate, turn_of};
+use super::gates::{Hold, MEETING, TurnGate, assert_held, turn_of};
+use super::images::dead_cycle_image;
 use super::tracing::{DEAD_CYCLE_MARKS, flags_of};
 use sqz_image::Heap;
 use sqz_marks::Workers;
-use sqz_test_images::accepted::DEAD_CYCLE;
-use sqz_test_images::image_of;
 use sqz_trace::Weak;
 use sqz_workers::{Gate, OpenGate, Phase, mark_locked};
 use std::process::Abort;
@@ -31,7 +30,7 @@ fn assert_marks<R: Threads + Wait + Sync + Abort + AllocGlobal, G: Gate>(
     workers: u32,
     gate: &G,
 ) -> Result<(), Fail> {
-    let image = image_of(rt.alloc(), &DEAD_CYCLE)?;
+    let image = dead_cycle_image(rt.alloc())?;
     let flags = marked_by(rt, image.heap(), Weak::Keep, workers, gate)?;
     assert_eq!(rt;
         flags.as_slice(),
@@ -62,7 +61,25 @@ fn worker_leaves_after_64_empty_turns(rt: HostRuntime) -> Result<(), Fail> {
 fn two_workers_mark_at_one_time(rt: HostRuntime) -> Result<(), Fail> {
     let gate = TurnGate::new(Phase::Mark, &MEETING);
     assert_marks(&rt, 2, &gate)?;
-    assert_eq!(rt; (gate.met(), gate.missed()), (2, 0));
+    assert_held(&rt, &gate, 2);
+    Ok(())
+}
+
+/// Asserts that one of two workers marks while the other one is held at its first turn until it has taken its last one.
+fn assert_marks_alone<R: Threads + Wait + Sync + Abort + AllocGlobal>(
+    rt: &R,
+    held: u32,
+    other: u32,
+) -> Result<(), Fail> {
+    let holds = [Hold {
+        at: turn_of(held, 0),
+        until: turn_of(other, 67),
+    }];
+    let gate = TurnGate::new(Phase::Mark, &holds);
+    assert_marks(rt, 2, &gate)?;
+    assert_held(rt, &gate, 1);
+    let turns = (gate.turns(held), gate.turns(other), gate.out_of_order());
+    assert_eq!(rt; turns, (64, 68, 0), "worker {held} is held");
     Ok(())
 }
 
@@ -70,20 +87,6 @@ fn two_workers_mark_at_one_time(rt: HostRuntime) -> Result<(), Fail> {
 /// is held had not begun to work.
 #[test]
 fn each_worker_marks_while_the_other_is_held(rt: HostRuntime) -> Result<(), Fail> {
-    for (held, other) in [(0, 1), (1, 0)] {
-        let holds = [Hold {
-            at: turn_of(held, 0),
-            until: turn_of(other, 67),
-        }];
-        let gate = TurnGate::new(Phase::Mark, &holds);
-        assert_marks(&rt, 2, &gate)?;
-        assert_eq!(rt;
-            (gate.met(), gate.missed()),
-            (1, 0),
-            "worker {held} is held"
-        );
-        assert_eq!(rt; (gate.turns(held), gate.turns(other)), (64, 68));
-        assert_eq!(rt; gate.out_of_order(), 0);
-    }
-    Ok(())
+    assert_marks_alone(&rt, 0, 1)?;
+    assert_marks_alone(&rt, 1, 0)
 }

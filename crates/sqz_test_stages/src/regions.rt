@@ -3,12 +3,13 @@
 ghost use Rattle.std.specs.Prelude.{◌≡◌, length, IfOk};
 ghost use Rattle.sqz_image.specs.Objects.{object_count};
 
-use super::images::{FREE_AT_THE_END, LONG_HEADER};
+use super::images::{FREE_AT_THE_END, LONG_HEADER, dead_cycle_image};
 use sqz_image::{Heap, Image};
 use sqz_regions::{Cut, Forward, Regions, bases, live_words};
-use sqz_test_images::accepted::{DEAD_CYCLE, SPECIAL_ARRAY_ALONE};
+use sqz_test_images::accepted::SPECIAL_ARRAY_ALONE;
 use sqz_test_images::image_of;
-use sqz_trace::{Weak, mark_plain};
+use sqz_trace::{Marks, Weak, mark_plain};
+use std::alloc::Global;
 use std::process::Abort;
 use std::test::Fail;
 use std::thread::Threads;
@@ -22,6 +23,19 @@ const DEAD_CYCLE_PLACES: [Option<u32>; 6] = [
     None,
     Some(0x1014),
 ];
+
+/// How many live words the dead cycle's image has in each region of one word.
+const WORD_SUMS: &[u32] = &[1, 2, 0, 0, 0, 2, 0, 0, 0, 3, 0, 0];
+
+/// The first address of the live words of each of them.
+const WORD_BASES: &[u64] = &[
+    0x1000, 0x1004, 0x100C, 0x100C, 0x100C, 0x100C, 0x1014, 0x1014, 0x1014, 0x1014, 0x1020, 0x1020,
+];
+
+/// A cut at these words.
+pub(crate) fn cut_at(alloc: Global, points: &[u32]) -> Result<Cut, Fail> {
+    Ok(Cut::at(points.to_vec(alloc)?)?)
+}
 
 /// Where the reachable objects of an image go.
 #[derive(Drop)]
@@ -44,9 +58,23 @@ pub(crate) fn places_of<R: Threads + Sync + AllocGlobal>(
     ensures { IfOk result (λ placed. length placed.forward ≡ object_count heap.now) }
 {
     let marks = mark_plain(rt.alloc(), heap, weak)?;
-    let sums = live_words(rt.alloc(), heap, regions, &marks)?;
+    placed_by(rt, heap, regions, &marks)
+}
+
+/// The places of the marked objects.
+fn placed_by<R: Threads + Sync + AllocGlobal>(
+    rt: &R,
+    heap: &Heap,
+    regions: &Regions<'_>,
+    marks: &Marks,
+) -> Result<Placed, Fail>
+    requires regions { regions.now.memory ≡ heap.now }
+    requires sized { length marks.now ≡ object_count heap.now }
+    ensures { IfOk result (λ placed. length placed.forward ≡ object_count heap.now) }
+{
+    let sums = live_words(rt.alloc(), heap, regions, marks)?;
     let bases = bases(rt.alloc(), heap.base(), &sums)?;
-    let forward = Forward::build(rt, rt.alloc(), heap, regions, &marks, &bases)?;
+    let forward = Forward::build(rt, rt.alloc(), heap, regions, marks, &bases)?;
     Ok(Placed {
         sums,
         bases,
@@ -68,17 +96,21 @@ fn assert_places<R: Threads + Sync + Abort + AllocGlobal>(
     let regions = Regions::of(rt.alloc(), heap, cut)?;
     assert_eq!(rt; regions.count() as usize, sums.len());
     let placed = places_of(rt, heap, Weak::Keep, &regions)?;
-    assert_eq!(rt; placed.sums.as_slice(), sums);
-    assert_eq!(rt; placed.bases.as_slice(), bases);
+    assert_placed(rt, heap, &placed, places);
+    let found = (placed.sums.as_slice(), placed.bases.as_slice());
+    assert_eq!(rt; found, (sums, bases));
+    Ok(())
+}
+
+/// Asserts which places the objects of a heap have.
+fn assert_placed<R: Abort>(rt: &R, heap: &Heap, placed: &Placed, places: &[Option<u32>])
+    requires { length placed.now.forward ≡ object_count heap.now }
+{
     assert_eq!(rt; places.len(), heap.len() as usize);
     for (object, place) in places.iter().enumerate() {
-        assert_eq!(rt;
-            placed.forward.place(object as u32),
-            *place,
-            "object {object}"
-        );
+        let found = placed.forward.place(object as u32);
+        assert_eq!(rt; found, *place, "object {object}");
     }
-    Ok(())
 }
 
 /// The same, cut at these words.
@@ -90,22 +122,18 @@ fn assert_places_at<R: Threads + Sync + Abort + AllocGlobal>(
     bases: &[u64],
     places: &[Option<u32>],
 ) -> Result<(), Fail> {
-    let cut = Cut::at(points.to_vec(rt.alloc())?)?;
+    let cut = cut_at(rt.alloc(), points)?;
     assert_places(rt, image, &cut, sums, bases, places)
 }
 
 #[test]
 fn dead_cycle(rt: HostRuntime) -> Result<(), Fail> {
-    let image = image_of(rt.alloc(), &DEAD_CYCLE)?;
+    let image = dead_cycle_image(rt.alloc())?;
     let places = DEAD_CYCLE_PLACES.as_slice();
     let bases = [0x1000, 0x1004, 0x100C];
     assert_places_at(&rt, &image, &[1, 3], &[1, 2, 5], &bases, places)?;
-    let sums = [1, 2, 0, 0, 0, 2, 0, 0, 0, 3, 0, 0];
-    let bases = [
-        0x1000, 0x1004, 0x100C, 0x100C, 0x100C, 0x100C, 0x1014, 0x1014, 0x1014, 0x1014, 0x1020,
-        0x1020,
-    ];
-    assert_places(&rt, &image, &Cut::every(1)?, &sums, &bases, places)
+    let cut = Cut::every(1)?;
+    assert_places(&rt, &image, &cut, WORD_SUMS, WORD_BASES, places)
 }
 
 /// The third object has six words, of which three are header words.

@@ -5,14 +5,14 @@ ghost use Rattle.sqz_image.specs.Objects.{object_count};
 
 use super::images::{
     CLASS_WORDS, CLASS_WORDS_ANSWER, THREE_WEAK_SLOTS, THREE_WEAK_SLOTS_CLEARED,
-    THREE_WEAK_SLOTS_KEPT,
+    THREE_WEAK_SLOTS_KEPT, dead_cycle_image,
 };
-use super::regions::places_of;
+use super::regions::{cut_at, places_of};
 use sqz_image::{Heap, Image};
 use sqz_marks::Workers;
 use sqz_regions::{Cut, Forward, Regions};
 use sqz_slide::{Pieces, moved_word, slide};
-use sqz_test_images::accepted::{DEAD_ARRAY, DEAD_CYCLE, NIL_ALONE};
+use sqz_test_images::accepted::{DEAD_ARRAY, NIL_ALONE};
 use sqz_test_images::answers::DEAD_CYCLE_ANSWER;
 use sqz_test_images::{TestImage, image_of, words_of};
 use sqz_trace::Weak;
@@ -34,16 +34,8 @@ pub(crate) fn slid_by<R: Threads + Sync + AllocGlobal, G: Gate>(
     let workers = Workers::new(workers)?;
     let regions = Regions::of(rt.alloc(), heap, cut)?;
     let placed = places_of(rt, heap, weak, &regions)?;
-    Ok(slide(
-        rt,
-        rt.alloc(),
-        heap,
-        weak,
-        &regions,
-        &placed.forward,
-        workers,
-        gate,
-    )?)
+    let forward = &placed.forward;
+    Ok(slide(rt, rt.alloc(), heap, weak, &regions, forward, workers, gate)?)
 }
 
 /// The pieces of an image that is cut at these words.
@@ -55,7 +47,7 @@ pub(crate) fn slid<R: Threads + Sync + AllocGlobal, G: Gate>(
     workers: u32,
     gate: &G,
 ) -> Result<Pieces, Fail> {
-    let cut = Cut::at(points.to_vec(rt.alloc())?)?;
+    let cut = cut_at(rt.alloc(), points)?;
     slid_by(rt, image.heap(), weak, &cut, workers, gate)
 }
 
@@ -68,6 +60,25 @@ fn joined(alloc: Global, pieces: &[Vec<u32>]) -> Result<Vec<u32>, AllocError> {
     Ok(words)
 }
 
+/// Asserts that pieces have so many words each.
+fn assert_sizes<R: Abort>(rt: &R, pieces: &[Vec<u32>], sizes: &[usize]) {
+    assert_eq!(rt; pieces.len(), sizes.len());
+    for (piece, size) in pieces.iter().zip(sizes) {
+        assert_eq!(rt; piece.len(), *size);
+    }
+}
+
+/// Asserts that words are those of an image.
+fn assert_words<R: Abort + AllocGlobal>(
+    rt: &R,
+    words: &[u32],
+    wanted: &TestImage,
+) -> Result<(), Fail> {
+    let wanted = words_of(rt.alloc(), wanted)?;
+    assert_eq!(rt; words, wanted.as_slice());
+    Ok(())
+}
+
 /// Asserts that pieces have so many words each, and together those of an image.
 pub(crate) fn assert_pieces<R: Abort + AllocGlobal>(
     rt: &R,
@@ -76,13 +87,8 @@ pub(crate) fn assert_pieces<R: Abort + AllocGlobal>(
     wanted: &TestImage,
 ) -> Result<(), Fail> {
     let pieces = pieces.as_slice();
-    assert_eq!(rt; pieces.len(), sizes.len());
-    for (piece, size) in pieces.iter().zip(sizes) {
-        assert_eq!(rt; piece.len(), *size);
-    }
-    let words = joined(rt.alloc(), pieces)?;
-    assert_eq!(rt; words, words_of(rt.alloc(), wanted)?);
-    Ok(())
+    assert_sizes(rt, pieces, sizes);
+    assert_words(rt, &joined(rt.alloc(), pieces)?, wanted)
 }
 
 /// The words of an object after the move, one by one, put behind others.
@@ -102,30 +108,51 @@ fn put_moved_words(
     Ok(())
 }
 
-/// The words of the reachable objects after the move, one by one.
-fn moved_words<R: Threads + Sync + AllocGlobal>(
-    rt: &R,
+/// The words of the objects that have a place, after the move, one by one.
+fn placed_words(
+    alloc: Global,
     heap: &Heap,
     weak: Weak,
-    cut: &Cut,
-) -> Result<Vec<u32>, Fail> {
-    let regions = Regions::of(rt.alloc(), heap, cut)?;
-    let placed = places_of(rt, heap, weak, &regions)?;
-    let mut words = Vec::new(rt.alloc());
+    forward: &Forward,
+) -> Result<Vec<u32>, AllocError>
+    requires { length forward.now ≡ object_count heap.now }
+{
+    let mut words = Vec::new(alloc);
     for object in 0..heap.len() {
-        if placed.forward.place(object).is_some() {
-            put_moved_words(&mut words, heap, weak, &placed.forward, object)?;
+        if forward.place(object).is_some() {
+            put_moved_words(&mut words, heap, weak, forward, object)?;
         }
     }
     Ok(words)
 }
 
+/// The words of the reachable objects after the move, one by one.
+fn moved_words<R: Threads + Sync + AllocGlobal>(
+    rt: &R,
+    heap: &Heap,
+    weak: Weak,
+) -> Result<Vec<u32>, Fail> {
+    let cut = Cut::every(1)?;
+    let regions = Regions::of(rt.alloc(), heap, &cut)?;
+    let placed = places_of(rt, heap, weak, &regions)?;
+    Ok(placed_words(rt.alloc(), heap, weak, &placed.forward)?)
+}
+
+/// Asserts what pieces so many workers make of the dead cycle's image.
+fn assert_three_pieces<R: Threads + Sync + Abort + AllocGlobal>(
+    rt: &R,
+    image: &Image,
+    workers: u32,
+) -> Result<(), Fail> {
+    let pieces = slid(rt, image, Weak::Keep, &[1, 3], workers, &OpenGate)?;
+    assert_pieces(rt, &pieces, &[1, 2, 5], &DEAD_CYCLE_ANSWER)
+}
+
 #[test]
 fn dead_cycle_in_three_pieces(rt: HostRuntime) -> Result<(), Fail> {
-    let image = image_of(rt.alloc(), &DEAD_CYCLE)?;
+    let image = dead_cycle_image(rt.alloc())?;
     for workers in [1, 2, 64] {
-        let pieces = slid(&rt, &image, Weak::Keep, &[1, 3], workers, &OpenGate)?;
-        assert_pieces(&rt, &pieces, &[1, 2, 5], &DEAD_CYCLE_ANSWER)?;
+        assert_three_pieces(&rt, &image, workers)?;
     }
     Ok(())
 }
@@ -135,6 +162,19 @@ fn region_of_dead_objects_alone(rt: HostRuntime) -> Result<(), Fail> {
     let image = image_of(rt.alloc(), &DEAD_ARRAY)?;
     let pieces = slid(&rt, &image, Weak::Keep, &[1, 4], 4, &OpenGate)?;
     assert_pieces(&rt, &pieces, &[1, 0, 2], &NIL_ALONE)
+}
+
+/// Asserts that the words of an image after the move are those of another, in two pieces of so many words.
+fn assert_two_pieces<R: Threads + Sync + Abort + AllocGlobal>(
+    rt: &R,
+    image: &Image,
+    weak: Weak,
+    point: u32,
+    sizes: &[usize],
+    wanted: &TestImage,
+) -> Result<(), Fail> {
+    let pieces = slid(rt, image, weak, &[point], 2, &OpenGate)?;
+    assert_pieces(rt, &pieces, sizes, wanted)
 }
 
 /// Asserts that the words of an image after the move are those of another, in two pieces of so many words and one by one.
@@ -147,11 +187,9 @@ fn assert_moves<R: Threads + Sync + Abort + AllocGlobal>(
     wanted: &TestImage,
 ) -> Result<(), Fail> {
     let image = image_of(rt.alloc(), image)?;
-    let pieces = slid(rt, &image, weak, &[point], 2, &OpenGate)?;
-    assert_pieces(rt, &pieces, sizes, wanted)?;
-    let one_by_one = moved_words(rt, image.heap(), weak, &Cut::every(1)?)?;
-    assert_eq!(rt; one_by_one, words_of(rt.alloc(), wanted)?);
-    Ok(())
+    assert_two_pieces(rt, &image, weak, point, sizes, wanted)?;
+    let one_by_one = moved_words(rt, image.heap(), weak)?;
+    assert_words(rt, &one_by_one, wanted)
 }
 
 #[test]

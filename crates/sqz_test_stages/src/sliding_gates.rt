@@ -1,26 +1,40 @@
 //! Sliding, as a gate sees it: who takes turns, and when.
 
-use super::gates::{Hold, MEETING, TurnGate, turn_of};
+use super::gates::{Hold, MEETING, TurnGate, assert_held, turn_of};
+use super::images::dead_cycle_image;
 use super::sliding::{assert_pieces, slid};
-use sqz_test_images::accepted::DEAD_CYCLE;
 use sqz_test_images::answers::DEAD_CYCLE_ANSWER;
-use sqz_test_images::image_of;
 use sqz_trace::Weak;
 use sqz_workers::Phase;
 use std::process::Abort;
 use std::test::Fail;
 use std::thread::Threads;
 
+/// Asserts how many turns each of two workers took, in their order.
+pub(crate) fn assert_turns<R: Abort>(rt: &R, gate: &TurnGate<'_>, first: u64, second: u64) {
+    let turns = (gate.turns(0), gate.turns(1), gate.out_of_order());
+    assert_eq!(rt; turns, (first, second, 0));
+}
+
+/// Asserts what pieces two workers make, who pass a gate, of an image that is cut at these words.
+fn assert_slides_to<R: Threads + Sync + Abort + AllocGlobal>(
+    rt: &R,
+    gate: &TurnGate<'_>,
+    points: &[u32],
+    sizes: &[usize],
+) -> Result<(), Fail> {
+    let image = dead_cycle_image(rt.alloc())?;
+    let pieces = slid(rt, &image, Weak::Keep, points, 2, gate)?;
+    assert_pieces(rt, &pieces, sizes, &DEAD_CYCLE_ANSWER)
+}
+
 /// Asserts that two workers pass a gate, of which the first has the first region and the second the two others.
 fn assert_slides<R: Threads + Sync + Abort + AllocGlobal>(
     rt: &R,
     gate: &TurnGate<'_>,
 ) -> Result<(), Fail> {
-    let image = image_of(rt.alloc(), &DEAD_CYCLE)?;
-    let pieces = slid(rt, &image, Weak::Keep, &[1, 3], 2, gate)?;
-    assert_pieces(rt, &pieces, &[1, 2, 5], &DEAD_CYCLE_ANSWER)?;
-    assert_eq!(rt; (gate.turns(0), gate.turns(1)), (1, 2));
-    assert_eq!(rt; gate.out_of_order(), 0);
+    assert_slides_to(rt, gate, &[1, 3], &[1, 2, 5])?;
+    assert_turns(rt, gate, 1, 2);
     Ok(())
 }
 
@@ -28,7 +42,7 @@ fn assert_slides<R: Threads + Sync + Abort + AllocGlobal>(
 fn two_workers_slide_at_one_time(rt: HostRuntime) -> Result<(), Fail> {
     let gate = TurnGate::new(Phase::Slide, &MEETING);
     assert_slides(&rt, &gate)?;
-    assert_eq!(rt; (gate.met(), gate.missed()), (2, 0));
+    assert_held(&rt, &gate, 2);
     Ok(())
 }
 
@@ -40,17 +54,14 @@ fn worker_slides_while_the_other_is_held(rt: HostRuntime) -> Result<(), Fail> {
     }];
     let gate = TurnGate::new(Phase::Slide, &holds);
     assert_slides(&rt, &gate)?;
-    assert_eq!(rt; (gate.met(), gate.missed()), (1, 0));
+    assert_held(&rt, &gate, 1);
     Ok(())
 }
 
 #[test]
 fn worker_without_regions_passes_once(rt: HostRuntime) -> Result<(), Fail> {
     let gate = TurnGate::new(Phase::Slide, &[]);
-    let image = image_of(rt.alloc(), &DEAD_CYCLE)?;
-    let pieces = slid(&rt, &image, Weak::Keep, &[], 2, &gate)?;
-    assert_pieces(&rt, &pieces, &[8], &DEAD_CYCLE_ANSWER)?;
-    assert_eq!(rt; (gate.turns(0), gate.turns(1)), (1, 1));
-    assert_eq!(rt; gate.out_of_order(), 0);
+    assert_slides_to(&rt, &gate, &[], &[8])?;
+    assert_turns(&rt, &gate, 1, 1);
     Ok(())
 }

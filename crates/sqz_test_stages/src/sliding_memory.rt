@@ -1,7 +1,8 @@
 //! Sliding takes memory behind the gate alone, as the size of the process tells.
 
-use super::gates::{Hold, TurnGate, turn_of};
+use super::gates::{Hold, TurnGate, assert_held, turn_of};
 use super::sliding::{slid, slid_by};
+use super::sliding_gates::assert_turns;
 use sqz_image::{Image, read_image};
 use sqz_object::Order;
 use sqz_regions::Cut;
@@ -11,6 +12,7 @@ use sqz_workers::{Gate, Phase};
 use std::alloc::Global;
 use std::fs::File;
 use std::io::Read;
+use std::process::Abort;
 use std::rt::Files;
 use std::sync::atomic::{AtomicU64, Ordering};
 use std::test::Fail;
@@ -66,6 +68,16 @@ impl<R: Files + Sync> Gate for SizeGate<'_, R> {
     }
 }
 
+/// Asserts that the process had a size before, and by how many pages at least it was larger behind it.
+fn assert_grows<R: Abort>(rt: &R, before: &AtomicU64, behind: &AtomicU64, least: u64) {
+    let before = before.load(Ordering::SeqCst);
+    let more = behind.load(Ordering::SeqCst).saturating_sub(before);
+    assert!(rt;
+        before > 0 && more >= least,
+        "{before} pages, and {more} more"
+    );
+}
+
 /// The room for the list of pieces, 60 MiB, and the first piece, 40 MiB, are taken behind the first turn and before the
 /// second.
 #[test]
@@ -77,17 +89,15 @@ fn first_turn_is_before_all_memory(rt: HostRuntime) -> Result<(), Fail> {
     };
     slid_by(&rt, image.heap(), Weak::Keep, &Cut::every(4)?, 1, &gate)?;
     let [first, second] = &gate.sizes;
-    let first = first.load(Ordering::SeqCst);
-    let more = second.load(Ordering::SeqCst).saturating_sub(first);
-    assert!(rt;
-        first > 0 && more >= (95 << 20) / 4096,
-        "{first} pages, and {more} more"
-    );
+    assert_grows(&rt, first, second, (95 << 20) / 4096);
     Ok(())
 }
 
 /// How many bytes each of two large objects has. So many that are asked for at once are never a part of what was freed.
 const PIECE: u32 = 33 << 20;
+
+/// How many pages those are.
+const PIECE_PAGES: u64 = (PIECE / 4096) as u64;
 
 /// A large object's header, of three words.
 const LARGE: [u32; 3] = [PIECE + 4, 0x1000, 0x800];
@@ -155,21 +165,10 @@ fn each_turn_is_before_the_memory_of_its_piece(rt: HostRuntime) -> Result<(), Fa
     let special = 2 * second - 3;
     let points = [1, 2, 3, second, special, special + 1];
     slid(&rt, &image, Weak::Keep, &points, 2, &gate)?;
-    assert_eq!(rt; (gate.turns.turns(0), gate.turns.turns(1)), (3, 4));
-    assert_eq!(rt; (gate.turns.met(), gate.turns.missed()), (2, 0));
+    assert_turns(&rt, &gate.turns, 3, 4);
+    assert_held(&rt, &gate.turns, 2);
     let [first, second, third] = &gate.sizes;
-    let first = first.load(Ordering::SeqCst);
-    let second = second.load(Ordering::SeqCst);
-    let third = third.load(Ordering::SeqCst);
-    let piece = u64::from(PIECE) / 4096;
-    assert!(rt; first > 0);
-    assert!(rt;
-        second.saturating_sub(first) >= piece,
-        "{first} pages, then {second}"
-    );
-    assert!(rt;
-        third.saturating_sub(second) >= piece,
-        "{second} pages, then {third}"
-    );
+    assert_grows(&rt, first, second, PIECE_PAGES);
+    assert_grows(&rt, second, third, PIECE_PAGES);
     Ok(())
 }

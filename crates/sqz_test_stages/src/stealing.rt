@@ -1,14 +1,15 @@
 //! Marking by workers who steal: what is marked, who won it, and who takes turns, as a gate sees it.
 
-ghost use Rattle.std.specs.Prelude.{◌≤◌, length};
+ghost use Rattle.std.specs.Prelude.{◌≡◌, ◌≤◌, length, IfOk};
+ghost use Rattle.sqz_image.specs.Objects.{object_count};
 
-use super::gates::{Hold, MEETING, Turn, TurnGate, turn_of};
-use super::images::{FAN, chain_image};
-use super::tracing::{DEAD_CYCLE_MARKS, flags_of};
+use super::gates::{Hold, MEETING, Turn, TurnGate, assert_held, turn_of};
+use super::images::{FAN, chain_image, dead_cycle_image};
+use super::regions::cut_at;
+use super::tracing::{DEAD_CYCLE_MARKS, assert_all, flags_of};
 use sqz_image::Image;
 use sqz_marks::Workers;
 use sqz_regions::{Cut, Regions};
-use sqz_test_images::accepted::DEAD_CYCLE;
 use sqz_test_images::image_of;
 use sqz_trace::Weak;
 use sqz_workers::{Gate, Marked, OpenGate, Phase, mark};
@@ -17,20 +18,28 @@ use std::process::Abort;
 use std::test::Fail;
 use std::thread::Threads;
 
-/// Which objects of an image are marked by so many workers, who pass a gate, and what else the marking gives.
-pub(crate) fn marked_by<R: Threads + Sync + AllocGlobal, G: Gate>(
+/// What the marking of an image gives by so many workers, who pass a gate.
+fn marked_by<R: Threads + Sync + AllocGlobal, G: Gate>(
     rt: &R,
     image: &Image,
     cut: &Cut,
     workers: u32,
     gate: &G,
-) -> Result<(Vec<bool>, Marked), Fail> {
+) -> Result<Marked, Fail>
+    ensures { IfOk result (λ marked. length marked.marks ≡ object_count image.now.memory) }
+{
     let heap = image.heap();
     let workers = Workers::new(workers)?;
     let regions = Regions::of(rt.alloc(), heap, cut)?;
     let marked = mark(rt, rt.alloc(), heap, Weak::Keep, &regions, workers, gate)?;
-    let flags = flags_of(rt.alloc(), heap, &marked.marks)?;
-    Ok((flags, marked))
+    Ok(marked)
+}
+
+/// Which objects of an image are marked.
+fn flags_in(alloc: Global, image: &Image, marked: &Marked) -> Result<Vec<bool>, AllocError>
+    requires { length marked.now.marks ≡ object_count image.now.memory }
+{
+    flags_of(alloc, image.heap(), &marked.marks)
 }
 
 /// What the marking of an image of six objects gives, of which it asserts that the four reachable ones are marked.
@@ -40,14 +49,19 @@ fn marked_dead_cycle<R: Threads + Sync + Abort + AllocGlobal, G: Gate>(
     workers: u32,
     gate: &G,
 ) -> Result<Marked, Fail> {
-    let image = image_of(rt.alloc(), &DEAD_CYCLE)?;
-    let (flags, marked) = marked_by(rt, &image, cut, workers, gate)?;
+    let image = dead_cycle_image(rt.alloc())?;
+    let marked = marked_by(rt, &image, cut, workers, gate)?;
+    assert_dead_cycle(rt, workers, &flags_in(rt.alloc(), &image, &marked)?);
+    Ok(marked)
+}
+
+/// Asserts that the four reachable objects of the dead cycle's image are marked.
+fn assert_dead_cycle<R: Abort>(rt: &R, workers: u32, flags: &[bool]) {
     assert_eq!(rt;
-        flags.as_slice(),
+        flags,
         DEAD_CYCLE_MARKS.as_slice(),
         "with {workers} workers"
     );
-    Ok(marked)
 }
 
 /// How many objects were won, by the workers and outside of their turns.
@@ -59,6 +73,21 @@ fn won(marked: &Marked) -> u64 {
     won
 }
 
+/// Asserts of what the marking of that image gives the live words, that there is a count for each worker, and that four
+/// objects were won.
+fn assert_counts<R: Abort>(rt: &R, workers: u32, live_words: &[u32], marked: &Marked) {
+    let found = (
+        marked.live_words.as_slice(),
+        marked.claims.len(),
+        won(marked),
+    );
+    assert_eq!(rt;
+        found,
+        (live_words, workers as usize, 4),
+        "with {workers} workers"
+    );
+}
+
 /// Asserts what any number of workers give under a cut whose regions have these live words.
 fn assert_marked<R: Threads + Sync + Abort + AllocGlobal>(
     rt: &R,
@@ -67,15 +96,19 @@ fn assert_marked<R: Threads + Sync + Abort + AllocGlobal>(
 ) -> Result<(), Fail> {
     for workers in [1, 2, 64] {
         let marked = marked_dead_cycle(rt, cut, workers, &OpenGate)?;
-        assert_eq!(rt;
-            marked.live_words.as_slice(),
-            live_words,
-            "with {workers} workers"
-        );
-        assert_eq!(rt; marked.claims.len(), workers as usize);
-        assert_eq!(rt; won(&marked), 4, "with {workers} workers");
+        assert_counts(rt, workers, live_words, &marked);
     }
     Ok(())
+}
+
+/// Asserts that workers won so many objects each, and that the special objects array alone was won outside of their turns.
+pub(crate) fn assert_won<R: Abort>(rt: &R, marked: &Marked, claims: &[u32]) {
+    let won = (marked.claims.as_slice(), marked.finished);
+    assert_eq!(rt;
+        won,
+        (claims, 1),
+        "what each worker won, and what was won at the end"
+    );
 }
 
 /// Asserts that workers pass a gate, and win so many objects each.
@@ -87,8 +120,7 @@ fn assert_claims<R: Threads + Sync + Abort + AllocGlobal>(
     requires { length claims.now ≤ 64 }
 {
     let marked = marked_dead_cycle(rt, &Cut::every(1)?, claims.len() as u32, gate)?;
-    assert_eq!(rt; marked.claims.as_slice(), claims, "what each worker won");
-    assert_eq!(rt; marked.finished, 1, "the special objects array alone");
+    assert_won(rt, &marked, claims);
     assert_eq!(rt; gate.out_of_order(), 0, "turns out of order");
     Ok(())
 }
@@ -98,8 +130,7 @@ fn live_words_of_each_region(rt: HostRuntime) -> Result<(), Fail> {
     let of_one_word = [1, 2, 0, 0, 0, 2, 0, 0, 0, 3, 0, 0];
     assert_marked(&rt, &Cut::every(1)?, &of_one_word)?;
     assert_marked(&rt, &Cut::every(65536)?, &[8])?;
-    let cut = Cut::at([1, 3].to_vec(rt.alloc())?)?;
-    assert_marked(&rt, &cut, &[1, 2, 5])
+    assert_marked(&rt, &cut_at(rt.alloc(), &[1, 3])?, &[1, 2, 5])
 }
 
 /// A turn takes each of the four objects, and then 64 find none.
@@ -121,7 +152,7 @@ fn worker_marks_all_while_the_first_is_held(rt: HostRuntime) -> Result<(), Fail>
     }];
     let gate = TurnGate::new(Phase::Mark, &holds);
     assert_claims(&rt, &gate, &[0, 3])?;
-    assert_eq!(rt; (gate.met(), gate.missed()), (1, 0), "holds");
+    assert_held(&rt, &gate, 1);
     assert_eq!(rt; (gate.turns(0), gate.turns(1)), (64, 68), "turns");
     Ok(())
 }
@@ -130,8 +161,17 @@ fn worker_marks_all_while_the_first_is_held(rt: HostRuntime) -> Result<(), Fail>
 fn two_workers_mark_at_one_time(rt: HostRuntime) -> Result<(), Fail> {
     let gate = TurnGate::new(Phase::Mark, &MEETING);
     marked_dead_cycle(&rt, &Cut::every(1)?, 2, &gate)?;
-    assert_eq!(rt; (gate.met(), gate.missed()), (2, 0), "holds");
+    assert_held(&rt, &gate, 2);
     Ok(())
+}
+
+/// What the marking of the fan gives by two workers, who pass a gate.
+fn marked_fan<R: Threads + Sync + AllocGlobal>(
+    rt: &R,
+    gate: &TurnGate<'_>,
+) -> Result<Marked, Fail> {
+    let image = image_of(rt.alloc(), &FAN)?;
+    marked_by(rt, &image, &Cut::every(1)?, 2, gate)
 }
 
 /// Asserts how many objects of the fan each of two workers won, where the first stops at this turn until the other has won
@@ -139,7 +179,7 @@ fn two_workers_mark_at_one_time(rt: HostRuntime) -> Result<(), Fail> {
 fn assert_fan<R: Threads + Sync + Abort + AllocGlobal>(
     rt: &R,
     stop: u64,
-    claims: [u32; 2],
+    claims: &[u32],
 ) -> Result<(), Fail> {
     let holds = [
         Hold {
@@ -152,14 +192,9 @@ fn assert_fan<R: Threads + Sync + Abort + AllocGlobal>(
         },
     ];
     let gate = TurnGate::new(Phase::Mark, &holds);
-    let image = image_of(rt.alloc(), &FAN)?;
-    let (_, marked) = marked_by(rt, &image, &Cut::every(1)?, 2, &gate)?;
-    assert_eq!(rt; (gate.met(), gate.missed()), (2, 0), "holds");
-    assert_eq!(rt;
-        marked.claims.as_slice(),
-        claims.as_slice(),
-        "what each worker won"
-    );
+    let marked = marked_fan(rt, &gate)?;
+    assert_held(rt, &gate, 2);
+    assert_eq!(rt; marked.claims.as_slice(), claims, "what each worker won");
     Ok(())
 }
 
@@ -167,8 +202,8 @@ fn assert_fan<R: Threads + Sync + Abort + AllocGlobal>(
 /// object, then the one that names two, and then the one that names four.
 #[test]
 fn worker_takes_first_what_it_won_first(rt: HostRuntime) -> Result<(), Fail> {
-    for (stop, claims) in [(1, [3, 7]), (2, [4, 6]), (3, [6, 4]), (4, [10, 0])] {
-        assert_fan(&rt, stop, claims)?;
+    for (stop, claims) in &[(1, [3, 7]), (2, [4, 6]), (3, [6, 4]), (4, [10, 0])] {
+        assert_fan(&rt, *stop, claims)?;
     }
     Ok(())
 }
@@ -199,28 +234,53 @@ fn chain_holds(alloc: Global, last: u32) -> Result<Vec<Hold>, AllocError>
     Ok(holds)
 }
 
+/// What the marking of a chain of objects gives, of which it asserts that all are marked.
+pub(crate) fn marked_chain<R: Threads + Sync + Abort + AllocGlobal>(
+    rt: &R,
+    count: u32,
+    cut: &Cut,
+    workers: u32,
+    gate: &TurnGate<'_>,
+) -> Result<Marked, Fail>
+    requires { count ≤ 6000 }
+{
+    let image = chain_image(rt.alloc(), count)?;
+    let marked = marked_by(rt, &image, cut, workers, gate)?;
+    let flags = flags_in(rt.alloc(), &image, &marked)?;
+    assert_all(rt, &flags, count as usize + 2);
+    Ok(marked)
+}
+
+/// How many objects each worker of a chain won, of which the last has this number.
+fn chain_claims(alloc: Global, last: u32) -> Result<Vec<u32>, AllocError>
+    requires { last ≤ 7 }
+{
+    let mut claims = vec![in alloc; 2]?;
+    claims.resize(last as usize + 1, 1)?;
+    Ok(claims)
+}
+
+/// Asserts what the workers of a chain win, who pass a gate.
+fn assert_chain_by<R: Threads + Sync + Abort + AllocGlobal>(
+    rt: &R,
+    last: u32,
+    gate: &TurnGate<'_>,
+) -> Result<(), Fail>
+    requires { last ≤ 7 }
+{
+    let marked = marked_chain(rt, last + 1, &Cut::every(1)?, last + 1, gate)?;
+    assert_won(rt, &marked, &chain_claims(rt.alloc(), last)?);
+    Ok(())
+}
+
 /// Asserts that in a chain of objects each worker steals one from the worker before it, and wins the next.
 fn assert_chain<R: Threads + Sync + Abort + AllocGlobal>(rt: &R, last: u32) -> Result<(), Fail>
     requires { last ≤ 7 }
 {
     let holds = chain_holds(rt.alloc(), last)?;
     let gate = TurnGate::new(Phase::Mark, &holds);
-    let image = chain_image(rt.alloc(), last + 1)?;
-    let (flags, marked) = marked_by(rt, &image, &Cut::every(1)?, last + 1, &gate)?;
-    assert!(rt; flags.iter().all(|flag| *flag), "all objects are marked");
-    assert_eq!(rt;
-        (gate.met(), gate.missed()),
-        (2 * u64::from(last), 0),
-        "holds"
-    );
-    let mut wanted = vec![in rt.alloc(); 2]?;
-    wanted.resize(last as usize + 1, 1)?;
-    assert_eq!(rt;
-        marked.claims.as_slice(),
-        wanted.as_slice(),
-        "what each worker won"
-    );
-    assert_eq!(rt; marked.finished, 1, "the special objects array alone");
+    assert_chain_by(rt, last, &gate)?;
+    assert_held(rt, &gate, 2 * u64::from(last));
     Ok(())
 }
 

@@ -3,9 +3,9 @@
 ghost use Rattle.std.specs.Prelude.{◌≡◌, length};
 ghost use Rattle.sqz_image.specs.Objects.{object_count};
 
-use super::images::{CONTEXT_AND_METHOD, FIXED_FIELD_BY_INDEX};
+use super::images::{CONTEXT_AND_METHOD, FIXED_FIELD_BY_INDEX, dead_cycle_image};
 use sqz_image::{Fault, Heap, Image, Slot};
-use sqz_test_images::accepted::{CLASS_EDGE, DEAD_CYCLE, SPECIAL_ARRAY_ALONE};
+use sqz_test_images::accepted::{CLASS_EDGE, SPECIAL_ARRAY_ALONE};
 use sqz_test_images::image_of;
 use sqz_test_images::with_defects::LOWER_OF_TWO;
 use sqz_test_images::with_weak_objects::{WEAK_FIXED_FIELD, WEAK_SPECIAL, WEAK_TOO_MANY_FIXED};
@@ -32,6 +32,12 @@ pub(crate) fn flags_of(alloc: Global, heap: &Heap, marks: &Marks) -> Result<Vec<
     Ok(flags)
 }
 
+/// Asserts that so many objects are marked, which are all.
+pub(crate) fn assert_all<R: Abort>(rt: &R, flags: &[bool], count: usize) {
+    assert_eq!(rt; flags.len(), count);
+    assert!(rt; flags.iter().all(|flag| *flag), "all objects are marked");
+}
+
 /// Which objects are marked without a lock.
 pub(crate) fn marked(alloc: Global, heap: &Heap, weak: Weak) -> Result<Vec<bool>, Fail> {
     let marks = mark_plain(alloc, heap, weak)?;
@@ -52,6 +58,17 @@ fn lowest_defect<R: Threads + Sync + AllocGlobal>(
 ) -> Result<Option<Fault>, Fail> {
     let marks = mark_plain(rt.alloc(), image.heap(), weak)?;
     Ok(first_defect(rt, image.heap(), weak, &marks))
+}
+
+/// Asserts which defect the lowest reachable object has that has one.
+fn assert_lowest<R: Threads + Sync + Abort + AllocGlobal>(
+    rt: &R,
+    image: &Image,
+    weak: Weak,
+    wanted: Option<Fault>,
+) -> Result<(), Fail> {
+    assert_eq!(rt; lowest_defect(rt, image, weak)?, wanted);
+    Ok(())
 }
 
 /// Asserts that objects have these defects.
@@ -79,17 +96,13 @@ fn assert_names<R: Abort>(rt: &R, image: &Image, object: u32, slot: Slot, named:
 fn assert_strong<R: Abort>(rt: &R, image: &Image, object: u32, count: u32, cleared: u32) {
     let heap = image.heap();
     assert!(rt; object < heap.len());
-    assert_eq!(rt; traced(heap, object), count, "object {object}");
-    assert_eq!(rt;
-        strong(heap, Weak::Keep, object),
-        count,
-        "object {object}, kept"
-    );
-    assert_eq!(rt;
+    let kept = strong(heap, Weak::Keep, object);
+    let found = (
+        traced(heap, object),
+        kept,
         strong(heap, Weak::Clear, object),
-        cleared,
-        "object {object}, cleared"
     );
+    assert_eq!(rt; found, (count, count, cleared), "object {object}");
 }
 
 /// Asserts whether nil is missing where weak slots are cleared. Where they are kept it is not asked for.
@@ -99,16 +112,23 @@ fn assert_lacks_nil<R: Abort>(rt: &R, image: &Image, wanted: bool) {
     assert_eq!(rt; lacks_nil(heap, Weak::Clear), wanted);
 }
 
+/// Asserts which objects are marked without a lock, and which where all is left to the end.
+fn assert_marks_without_workers<R: Abort + AllocGlobal>(
+    rt: &R,
+    heap: &Heap,
+    wanted: &[bool],
+) -> Result<(), Fail> {
+    let plain = marked(rt.alloc(), heap, Weak::Keep)?;
+    let finished = finished(rt.alloc(), heap, Weak::Keep)?;
+    assert_eq!(rt; (plain.as_slice(), finished.as_slice()), (wanted, wanted));
+    Ok(())
+}
+
 #[test]
 fn marks_of_a_dead_cycle(rt: HostRuntime) -> Result<(), Fail> {
-    let image = image_of(rt.alloc(), &DEAD_CYCLE)?;
-    let wanted = DEAD_CYCLE_MARKS.as_slice();
-    let plain = marked(rt.alloc(), image.heap(), Weak::Keep)?;
-    assert_eq!(rt; plain.as_slice(), wanted);
-    let finished = finished(rt.alloc(), image.heap(), Weak::Keep)?;
-    assert_eq!(rt; finished.as_slice(), wanted);
-    assert_eq!(rt; lowest_defect(&rt, &image, Weak::Keep)?, None);
-    Ok(())
+    let image = dead_cycle_image(rt.alloc())?;
+    assert_marks_without_workers(&rt, image.heap(), &DEAD_CYCLE_MARKS)?;
+    assert_lowest(&rt, &image, Weak::Keep, None)
 }
 
 #[test]
@@ -138,13 +158,15 @@ fn traced_fields(rt: HostRuntime) -> Result<(), Fail> {
 
 #[test]
 fn strong_fields_of_weak_objects(rt: HostRuntime) -> Result<(), Fail> {
-    let by_class_word = image_of(rt.alloc(), &WEAK_FIXED_FIELD)?;
-    assert_strong(&rt, &by_class_word, 4, 2, 1);
-    assert_strong(&rt, &by_class_word, 5, 2, 2);
-    let by_index = image_of(rt.alloc(), &FIXED_FIELD_BY_INDEX)?;
-    assert_strong(&rt, &by_index, 4, 2, 1);
-    let bad = image_of(rt.alloc(), &WEAK_TOO_MANY_FIXED)?;
-    assert_strong(&rt, &bad, 2, 1, 0);
+    for (image, object, count, cleared) in &[
+        (WEAK_FIXED_FIELD, 4, 2, 1),
+        (WEAK_FIXED_FIELD, 5, 2, 2),
+        (FIXED_FIELD_BY_INDEX, 4, 2, 1),
+        (WEAK_TOO_MANY_FIXED, 2, 1, 0),
+    ] {
+        let image = image_of(rt.alloc(), image)?;
+        assert_strong(&rt, &image, *object, *count, *cleared);
+    }
     Ok(())
 }
 
@@ -159,7 +181,7 @@ fn defects_of_two_objects(rt: HostRuntime) -> Result<(), Fail> {
     let defects = [None, Some(bad_pointer), Some(no_class)];
     for weak in [Weak::Keep, Weak::Clear] {
         assert_defects(&rt, &image, weak, &defects);
-        assert_eq!(rt; lowest_defect(&rt, &image, weak)?, Some(bad_pointer));
+        assert_lowest(&rt, &image, weak, Some(bad_pointer))?;
     }
     Ok(())
 }
@@ -168,21 +190,21 @@ fn defects_of_two_objects(rt: HostRuntime) -> Result<(), Fail> {
 fn bad_weak_object(rt: HostRuntime) -> Result<(), Fail> {
     let image = image_of(rt.alloc(), &WEAK_TOO_MANY_FIXED)?;
     let bad_weak = Some(Fault::BadWeak { address: 0x1018 });
-    assert_defects(&rt, &image, Weak::Keep, &[None; 4]);
-    assert_defects(&rt, &image, Weak::Clear, &[None, None, bad_weak, None]);
-    assert_eq!(rt; lowest_defect(&rt, &image, Weak::Keep)?, None);
-    assert_eq!(rt; lowest_defect(&rt, &image, Weak::Clear)?, bad_weak);
+    for (weak, wanted) in &[(Weak::Keep, None), (Weak::Clear, bad_weak)] {
+        assert_defects(&rt, &image, *weak, &[None, None, *wanted, None]);
+        assert_lowest(&rt, &image, *weak, *wanted)?;
+    }
     Ok(())
 }
 
 #[test]
 fn images_without_nil(rt: HostRuntime) -> Result<(), Fail> {
-    for (image, wanted) in [
+    for (image, wanted) in &[
         (SPECIAL_ARRAY_ALONE, true),
         (WEAK_SPECIAL, true),
         (WEAK_TOO_MANY_FIXED, false),
     ] {
-        assert_lacks_nil(&rt, &image_of(rt.alloc(), &image)?, wanted);
+        assert_lacks_nil(&rt, &image_of(rt.alloc(), image)?, *wanted);
     }
     Ok(())
 }

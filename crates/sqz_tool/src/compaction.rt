@@ -1,12 +1,14 @@
 //! What is written of an image: its live objects in their new places.
 
-ghost use Rattle.std.specs.Prelude.{◌≡◌, ◌⊎◌, ◌^◌, ◌<◌, true, length, sum, IfOk, IfErr};
+ghost use Rattle.std.specs.Prelude.{◌≡◌, ◌⊎◌, ◌+◌, ◌*◌, ◌^◌, ◌<◌, ◌≤◌, true, false, length, sum, None, IfOk, IfErr};
 ghost use Rattle.std.specs.List.{AllByRecursion};
 ghost use Rattle.sqz_object.specs.Chunk.{IsChunk};
 ghost use Rattle.sqz_image.specs.declared.fault.Fault.TheVariants.{OutOfMemory};
 ghost use Rattle.sqz_image.specs.Objects.{object_count};
 ghost use Rattle.sqz_trace.specs.Reachability.{IsReachability};
-ghost use Rattle.sqz_regions.specs.Bases.{ArePlacesOf};
+ghost use Rattle.sqz_trace.specs.Defects.{first_defect, lacks_nil};
+ghost use Rattle.sqz_regions.specs.Places.{live_words};
+ghost use Rattle.sqz_regions.specs.Bases.{AreSums, ArePlacesOf};
 ghost use Rattle.sqz_tool.specs.Headline.{IsCompaction, IsReport, LacksNilIn, HasDefectIn};
 
 use crate::plan::Plan;
@@ -17,7 +19,7 @@ use sqz_image::{Fault, Heap, Image};
 use sqz_regions::{Forward, Regions, bases};
 use sqz_slide::{Pieces, slide};
 use sqz_trace::{Marks, Weak, first_defect, lacks_nil};
-use sqz_workers::{Gate, mark};
+use sqz_workers::{Gate, Marked, mark};
 use std::alloc::Global;
 use std::thread::Threads;
 
@@ -48,37 +50,73 @@ pub(crate) fn compaction_of<T: Threads + Sync, G: Gate>(
         ⊎ LacksNilIn plan.now.weak image.now fault ⊎ HasDefectIn plan.now.weak image.now fault) }
 {
     let heap = image.heap();
-    let weak = plan.weak;
-    heap_bounds(heap);
-    if lacks_nil(heap, weak) {
+    if lacks_nil(heap, plan.weak) {
         return Err(Fault::NoNil);
     }
     let regions = Regions::of(alloc, heap, &plan.cut)?;
-    let marked = mark(rt, alloc, heap, weak, &regions, plan.workers, gate)?;
-    let marks = marked.marks;
-    if let Some(fault) = first_defect(rt, heap, weak, &marks) {
+    let marked = sound_marks(rt, alloc, plan, image, &regions, gate)?;
+    moved(rt, alloc, plan, image, &regions, &marked, gate)
+}
+
+/// What marking gives. Refused with the defect of the lowest reachable object that has one, else for want of memory alone.
+fn sound_marks<T: Threads + Sync, G: Gate>(
+    rt: &T,
+    alloc: Global,
+    plan: &Plan,
+    image: &Image,
+    regions: &Regions<'_>,
+    gate: &G,
+) -> Result<Marked, Fault>
+    requires regions { regions.now.memory ≡ image.now.memory }
+    requires has_nil { lacks_nil image.now.memory plan.now.weak ≡ false }
+    ensures reachable { IfOk result (λ marked. IsReachability image.now.memory plan.now.weak marked.marks) }
+    ensures sound { IfOk result (λ marked. first_defect image.now.memory plan.now.weak marked.marks ≡ None) }
+    ensures sums { IfOk result (λ marked. AreSums regions.now marked.marks marked.live_words.items) }
+    ensures whole { IfOk result (λ marked. sum marked.live_words.items ≡ live_words image.now.memory marked.marks) }
+    ensures room { IfOk result (λ marked. image.now.memory.base + 4 * sum marked.live_words.items ≤ 2 ^ 32) }
+    ensures refused { IfErr result (λ fault. (fault ≡ OutOfMemory) ⊎ HasDefectIn plan.now.weak image.now fault) }
+{
+    let heap = image.heap();
+    let marked = mark(rt, alloc, heap, plan.weak, regions, plan.workers, gate)?;
+    if let Some(fault) = first_defect(rt, heap, plan.weak, &marked.marks) {
         return Err(fault);
     }
-    let sums = marked.live_words;
-    let bases = bases(alloc, heap.base(), &sums)?;
-    let forward = Forward::build(rt, alloc, heap, &regions, &marks, &bases)?;
-    let pieces = slide(
-        rt,
-        alloc,
-        heap,
-        weak,
-        &regions,
-        &forward,
-        plan.workers,
-        gate,
-    )?;
-    let census = census_text(rt, alloc, plan.census, heap, weak, &marks, &forward)?;
+    Ok(marked)
+}
+
+/// The compaction of an image of which this is what marking gives. Refused for want of memory alone.
+fn moved<T: Threads + Sync, G: Gate>(
+    rt: &T,
+    alloc: Global,
+    plan: &Plan,
+    image: &Image,
+    regions: &Regions<'_>,
+    marked: &Marked,
+    gate: &G,
+) -> Result<Compaction, Fault>
+    requires chunks { AllByRecursion IsChunk image.now.memory.chunks }
+    requires regions { regions.now.memory ≡ image.now.memory }
+    requires has_nil { lacks_nil image.now.memory plan.now.weak ≡ false }
+    requires reachable { IsReachability image.now.memory plan.now.weak marked.now.marks }
+    requires sound { first_defect image.now.memory plan.now.weak marked.now.marks ≡ None }
+    requires sums { AreSums regions.now marked.now.marks marked.now.live_words.items }
+    requires whole { sum marked.now.live_words.items ≡ live_words image.now.memory marked.now.marks }
+    requires room { image.now.memory.base + 4 * sum marked.now.live_words.items ≤ 2 ^ 32 }
+    ensures compaction { IfOk result (λ c. IsCompaction plan.now.weak plan.now.census image.now c.special c.pieces c.summary c.census.items) }
+    ensures refused { IfErr result (λ fault. fault ≡ OutOfMemory) }
+{
+    let heap = image.heap();
+    let weak = plan.weak;
+    heap_bounds(heap);
+    let forward = places_of(rt, alloc, heap, regions, marked)?;
+    let pieces = slide(rt, alloc, heap, weak, regions, &forward, plan.workers, gate)?;
+    let census = census_text(rt, alloc, plan.census, heap, weak, &marked.marks, &forward)?;
     let special = forward.place(heap.special()).unwrap();
     let summary = Summary {
         objects: heap.len(),
-        kept: marks.count(),
+        kept: marked.marks.count(),
         data_before: image.header(2),
-        data_after: 4 * total(&sums),
+        data_after: 4 * total(&marked.live_words),
     };
     Ok(Compaction {
         special,
@@ -86,6 +124,25 @@ pub(crate) fn compaction_of<T: Threads + Sync, G: Gate>(
         summary,
         census,
     })
+}
+
+/// The places of the marked objects. Refused for want of memory alone.
+fn places_of(
+    rt: &(impl Threads + Sync),
+    alloc: Global,
+    heap: &Heap,
+    regions: &Regions<'_>,
+    marked: &Marked,
+) -> Result<Forward, Fault>
+    requires regions { regions.now.memory ≡ heap.now }
+    requires sized { length marked.now.marks ≡ object_count heap.now }
+    requires sums { AreSums regions.now marked.now.marks marked.now.live_words.items }
+    requires room { heap.now.base + 4 * sum marked.now.live_words.items ≤ 2 ^ 32 }
+    ensures places { IfOk result (λ forward. ArePlacesOf heap.now marked.now.marks forward) }
+    ensures refused { IfErr result (λ fault. fault ≡ OutOfMemory) }
+{
+    let bases = bases(alloc, heap.base(), &marked.live_words)?;
+    Forward::build(rt, alloc, heap, regions, &marked.marks, &bases)
 }
 
 /// The text of the census, where it is wanted.

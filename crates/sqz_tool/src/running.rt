@@ -1,13 +1,16 @@
 //! A run: an image from a source, compacted, to a sink, and its census to another.
 
-ghost use Rattle.std.specs.Prelude.{IfOk, IfErr};
+ghost use Rattle.std.specs.Prelude.{◌≡◌, ◌⊎◌, ◌<◌, ◌^◌, true, false, length, IfOk, IfErr, OnOk};
+ghost use Rattle.std.specs.List.{concat};
+ghost use Rattle.sqz_image.specs.File.{file_with};
+ghost use Rattle.sqz_image.specs.Devices.{WritesWhole, WriteStops};
 ghost use Rattle.sqz_tool.specs.Headline.{Compacts, Refuses, sinks};
 
-use crate::compaction::compaction_of;
+use crate::compaction::{Compaction, compaction_of};
 use crate::plan::Plan;
 use crate::summary::Summary;
 use sqz_image::laws::byte_bounds;
-use sqz_image::{Fault, Sink, Source, read_all, read_image, write_all, write_image};
+use sqz_image::{Fault, Image, Sink, Source, read_all, read_image, write_all, write_image};
 use sqz_workers::Gate;
 use std::alloc::Global;
 use std::thread::Threads;
@@ -41,10 +44,35 @@ pub fn run<T: Threads + Sync, R: Source, W: Sink, C: Sink, G: Gate>(
     byte_bounds(&bytes);
     drop(bytes);
     let compaction = compaction_of(rt, alloc, plan, &image, gate)?;
+    write_compaction(plan.census, &image, &compaction, sink, report)?;
+    Ok(compaction.summary)
+}
+
+/// Writes the compaction of an image, and behind it the text of its census where that is wanted. Refused with `WriteFailed`
+/// alone.
+fn write_compaction<W: Sink, C: Sink>(
+    census: bool,
+    image: &Image,
+    compaction: &Compaction,
+    sink: &mut W,
+    report: &mut C,
+) -> Result<(), Fault>
+    requires few { length (concat compaction.now.pieces) < 2 ^ 30 }
+    ensures image { OnOk result (WritesWhole (W.state sink.old) (W.state sink.new)
+        (file_with image.now.memory.order image.now.prefix image.now.header compaction.now.special compaction.now.pieces)) }
+    ensures census { OnOk result (((census ≡ true) × WritesWhole (C.state report.old) (C.state report.new) compaction.now.census.items)
+        ⊎ ((census ≡ false) × (C.state report.new ≡ C.state report.old))) }
+    ensures stopped { IfErr result (λ fault. (WriteStops (W.state sink.old) (W.state sink.new)
+        (file_with image.now.memory.order image.now.prefix image.now.header compaction.now.special compaction.now.pieces) fault
+        × (C.state report.new ≡ C.state report.old))
+        ⊎ (WritesWhole (W.state sink.old) (W.state sink.new)
+        (file_with image.now.memory.order image.now.prefix image.now.header compaction.now.special compaction.now.pieces)
+        × (census ≡ true) × WriteStops (C.state report.old) (C.state report.new) compaction.now.census.items fault)) }
+{
     let pieces = compaction.pieces.as_slice();
-    write_image(&image, compaction.special, pieces, sink)?;
-    if plan.census {
+    write_image(image, compaction.special, pieces, sink)?;
+    if census {
         write_all(report, &compaction.census)?;
     }
-    Ok(compaction.summary)
+    Ok(())
 }

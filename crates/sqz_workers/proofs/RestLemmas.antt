@@ -1,5 +1,5 @@
 -- A pass that goes over the objects again while it finds a grey one comes to an end, and leaves none grey. Serves `rest::mark_rest`,
--- `rest::mark_greys`, `rest::mark_from` and `stealing::mark`.
+-- `rest::mark_greys`, `rest::mark_from`, `stealing::mark` and `stealing::marked_of`.
 use Rattle.std.proofs.Common.{◌≡◌, ◌≢◌, ℕ, zero, suc, ◌<◌, ◌≤◌, if◌then◌else◌, cond, eqb, ltb, Bool, List, length}
 use Rattle.std.proofs.Common.{refl, sym, ap, subst, ◌∙◌, arith, inl, inr, eq-eqb, ne_eqb}
 use Rattle.std.proofs.lemmas.Bool.{cases_eq, cases_lt, lt-ltb}

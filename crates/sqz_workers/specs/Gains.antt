@@ -1,8 +1,11 @@
 -- What a pass gains as its worker marks.
-use Rattle.std.specs.Prelude.{◌≡◌, ℕ, ◌+◌, ◌<◌, ◌≤◌, length}
+use Rattle.std.specs.Prelude.{◌≡◌, ℕ, ◌+◌, ◌<◌, ◌≤◌, List, length, sum}
+use Rattle.sqz_image.specs.Objects.{Memory, object_count}
+use Rattle.sqz_trace.specs.declared.shades.Shade.{Shade}
+use Rattle.sqz_trace.specs.declared.weak.Weak.{Weak}
 use Rattle.sqz_marks.specs.declared.view.View.{View}
 use Rattle.sqz_marks.specs.Core.{times, HasWon, HasBlackened}
-use Rattle.sqz_marks.specs.Table.{HeldPass, KeepsSeen}
+use Rattle.sqz_marks.specs.Table.{HeldPass, KeepsSeen, AreClosed}
 
 -- what a pass knew to be black it still knows to be black
 abbrev pub KeepsBlackened : View → View → Type 0
@@ -49,3 +52,10 @@ pub record HasBlackenedMore (count : ℕ) (old new : View) : Type 0 where
 pub record IsPassedBy (object : ℕ) (old new : View) : Type 0 where
   pub won : new.won ≡ old.won
   pub settled : IsSettled new object
+
+-- a closed table shows what a pass knew, which had settled each object, and had won as many objects as workers did, or more
+pub record HasEnded (memory : Memory) (weak : Weak) (claims : List ℕ) (shades : List Shade) : Type 0 where
+  pub view : View
+  pub closed : AreClosed memory weak view shades
+  pub settled : (object : ℕ) → object < object_count memory → IsSettled view object
+  pub won : sum claims ≤ length view.won

@@ -3,15 +3,17 @@
 ghost use Rattle.std.specs.Prelude.{◌≡◌, ◌+◌, ◌*◌, ◌^◌, ◌≤◌, length, sum, count_by, IfOk, IfErr};
 ghost use Rattle.sqz_image.specs.declared.fault.Fault.TheVariants.{OutOfMemory};
 ghost use Rattle.sqz_trace.specs.Reachability.{IsReachability};
+ghost use Rattle.sqz_trace.specs.Shades.{marks_of};
 ghost use Rattle.sqz_regions.specs.Bases.{AreSums};
 ghost use Rattle.sqz_regions.specs.Places.{live_words};
+ghost use Rattle.sqz_workers.specs.Gains.{HasEnded};
 
 use crate::gate::Gate;
 use crate::rest::mark_rest;
 use crate::shared_work::SharedWork;
 use crossbeam_deque::{Stealer, Worker};
 use sqz_image::{Fault, Heap};
-use sqz_marks::{MarkTable, Workers};
+use sqz_marks::{Closed, MarkTable, Workers};
 use sqz_regions::Regions;
 use sqz_trace::{Marks, Weak, finish};
 use std::alloc::{AllocError, Global};
@@ -70,8 +72,26 @@ pub fn mark<R: Threads + Sync, G: Gate>(
     let Ok(closed) = table.close(alloc, pass) else {
         return Err(Fault::OutOfMemory);
     };
+    Ok(marked_of(alloc, heap, weak, closed, &claims)?)
+}
+
+/// What marking gives that left a closed table, on which each worker won so many objects.
+fn marked_of(
+    alloc: Global,
+    heap: &Heap,
+    weak: Weak,
+    closed: Closed,
+    claims: &[u64],
+) -> Result<Marked, AllocError>
+    requires { HasEnded heap.now weak claims.now closed.shades.items }
+    ensures reachable { IfOk result (λ marked. IsReachability heap.now weak marked.marks) }
+    ensures same { IfOk result (λ marked. marks_of closed.shades.items ≡ marked.marks) }
+    ensures words { IfOk result (λ marked. marked.live_words.items ≡ closed.live_words.items) }
+    ensures claims { IfOk result (λ marked. marked.claims.items ≡ claims.now) }
+    ensures all { IfOk result (λ marked. sum claims.now + marked.finished ≡ count_by (λ mark. mark) marked.marks) }
+{
     let marks = finish(heap, weak, closed.shades);
-    let (claims, finished) = counted(alloc, &claims, marks.count())?;
+    let (claims, finished) = counted(alloc, claims, marks.count())?;
     Ok(Marked {
         marks,
         live_words: closed.live_words,

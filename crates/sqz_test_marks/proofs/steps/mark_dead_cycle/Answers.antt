@@ -1,7 +1,7 @@
 use Rattle.sqz_test_marks.proofs.PassLemmas.{HasCountedAll-first}
 use Rattle.sqz_test_marks.proofs.steps.mark_dead_cycle.Goals as goal
 
-pub close_again-requires-clause-counted : goal.close_again-requires-clause-counted
-close_again-requires-clause-counted g c =
+pub closed_after-requires-clause-counted : goal.closed_after-requires-clause-counted
+closed_after-requires-clause-counted g c =
     let first = HasCountedAll-first _ c.in_ok-table.ensures.pass.1 in
-    c.in_ok-assert_each_blackens.ensures.counts (c.mark_named.ensures.counts (c.in_ok-mark_special.ensures.counts first))
+    c.mark_named.ensures.counts (c.in_ok-mark_special.ensures.counts first)

@@ -1,9 +1,8 @@
-use Rattle.std.proofs.Common.{refl}
+use Rattle.std.proofs.Common.{refl, inl, inr}
 use Rattle.std.proofs.lemmas.Result.{err_from_is_err_and}
 use Rattle.sqz_tool.proofs.RunLemmas.{refuses_file, refuses_image, refuses_writing, refuses_report, compacts_alone}
 use Rattle.sqz_tool.proofs.RunLemmas.{compacts_and_reports}
 use Rattle.sqz_tool.proofs.running.run.Goals as goal
-use Rattle.sqz_tool.proofs.running.run.Goals.{then-plan+in_ok-write_all, else-plan}
 
 pub returns-in_err-image-clause-refuses : goal.returns-in_err-image-clause-refuses
 returns-in_err-image-clause-refuses g c =
@@ -18,34 +17,29 @@ returns-in_err-compaction-clause-refuses g c =
     rw (p.1, p.2) (refuses_image _ _ _ _ _ _ _ c.in_ok-bytes.bytes.items c.in_ok-image.image refl
     c.in_ok-bytes.ensures.whole holds c.in_err-compaction.ensures.refused)
 
-pub returns-in_err-write_all-clause-refuses : goal.returns-in_err-write_all-clause-refuses
-returns-in_err-write_all-clause-refuses g c =
-    let p = err_from_is_err_and c.from_residual-in_err-write_all.result c.from_residual-in_err-write_all.ensures.1 in
+pub returns-in_err-write_compaction-clause-refuses : goal.returns-in_err-write_compaction-clause-refuses
+returns-in_err-write_compaction-clause-refuses g c =
+    let p = err_from_is_err_and c.from_residual-in_err-write_compaction.result c.from_residual-in_err-write_compaction.ensures.1 in
     let holds = rw c.deref.ensures.value at c.in_ok-image.ensures.image in
-    let written = rw c.as_slice-pieces.ensures at c.in_ok-write_image.ensures.whole in
-    let stops = rw c.deref-then-plan.ensures.value at c.in_err-write_all.ensures.stopped in
-    rw (p.1, p.2) (refuses_report _ _ _ _ _ _ c.in_ok-bytes.bytes.items c.in_ok-image.image _ _ _ _ c.in_ok-bytes.ensures.whole holds
-    c.in_ok-compaction.ensures.compaction written _ c.if-plan.true stops)
-
-pub returns-in_err-write_image-clause-refuses : goal.returns-in_err-write_image-clause-refuses
-returns-in_err-write_image-clause-refuses g c =
-    let p = err_from_is_err_and c.from_residual-in_err-write_image.result c.from_residual-in_err-write_image.ensures.1 in
-    let holds = rw c.deref.ensures.value at c.in_ok-image.ensures.image in
-    let stops = rw c.as_slice-pieces.ensures at c.in_err-write_image.ensures.stopped in
-    rw (p.1, p.2) (refuses_writing _ _ _ _ _ _ c.in_ok-bytes.bytes.items c.in_ok-image.image _ _ _ _ c.in_ok-bytes.ensures.whole holds
-    c.in_ok-compaction.ensures.compaction _ refl stops)
+    rw (p.1, p.2) (elim c.in_err-write_compaction.ensures.stopped [
+      | inl (stops, untouched) ↦
+          refuses_writing _ _ _ _ _ _ c.in_ok-bytes.bytes.items c.in_ok-image.image _ _ _ _ c.in_ok-bytes.ensures.whole holds
+          c.in_ok-compaction.ensures.compaction _ untouched stops
+      | inr (written, asked, stops) ↦
+          refuses_report _ _ _ _ _ _ c.in_ok-bytes.bytes.items c.in_ok-image.image _ _ _ _ c.in_ok-bytes.ensures.whole holds
+          c.in_ok-compaction.ensures.compaction written _ asked stops
+    ])
 
 pub returns-clause-compacts : goal.returns-clause-compacts
 returns-clause-compacts g c =
     let holds = rw c.deref.ensures.value at c.in_ok-image.ensures.image in
-    let written = rw c.as_slice-pieces.ensures at c.in_ok-write_image.ensures.whole in
+    let written = c.in_ok-write_compaction.ensures.image in
     let are = rw c.deref-2.ensures.value at c.byte_bounds.ensures in
-    elim c.if-plan.branch [
-      | then-plan+in_ok-write_all w ↦
-          let whole = rw w.deref-then-plan.ensures.value at w.in_ok-write_all.ensures.whole in
-          rw w.report-is (compacts_and_reports _ _ _ _ _ _ c.in_ok-bytes.bytes.items c.in_ok-image.image _ _ _ _
-          c.in_ok-bytes.ensures.whole holds c.in_ok-compaction.ensures.compaction written are w.if-plan.true whole)
-      | else-plan w ↦
-          rw w.report-is (compacts_alone _ _ _ _ _ _ c.in_ok-bytes.bytes.items c.in_ok-image.image _ _ _ _
-          c.in_ok-bytes.ensures.whole holds c.in_ok-compaction.ensures.compaction written are w.if-plan.false refl)
+    elim c.in_ok-write_compaction.ensures.census [
+      | inl (asked, whole) ↦
+          compacts_and_reports _ _ _ _ _ _ c.in_ok-bytes.bytes.items c.in_ok-image.image _ _ _ _
+          c.in_ok-bytes.ensures.whole holds c.in_ok-compaction.ensures.compaction written are asked whole
+      | inr (unasked, untouched) ↦
+          compacts_alone _ _ _ _ _ _ c.in_ok-bytes.bytes.items c.in_ok-image.image _ _ _ _
+          c.in_ok-bytes.ensures.whole holds c.in_ok-compaction.ensures.compaction written are unasked untouched
     ]
