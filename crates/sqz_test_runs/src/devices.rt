@@ -55,7 +55,7 @@ const SAMPLES: &[Sample] = &[
     },
 ];
 
-/// The samples.
+/// The samples. A function that names the constant itself holds all of it, and each such costs its check anew.
 fn samples() -> &'static [Sample] {
     SAMPLES
 }

@@ -9,12 +9,8 @@ use super::tracing::{finished, flags_of, marked};
 use sqz_image::Heap;
 use sqz_marks::Workers;
 use sqz_regions::{Cut, Regions, live_words};
-use sqz_test_images::accepted::ACCEPTED;
-use sqz_test_images::with_defects::WITH_DEFECTS;
-use sqz_test_images::with_weak_objects::{
-    WEAK_FIXED_FIELD, WEAK_TOO_MANY_FIXED, WITH_WEAK_OBJECTS,
-};
-use sqz_test_images::{TestImage, image_of, words_of};
+use sqz_test_images::with_weak_objects::{WEAK_FIXED_FIELD, WEAK_TOO_MANY_FIXED};
+use sqz_test_images::{IMAGES, TestImage, image_of, words_of};
 use sqz_trace::Weak;
 use sqz_workers::{Marked, OpenGate, mark};
 use std::process::Abort;
@@ -132,9 +128,10 @@ fn assert_equal_for_each<R: Threads + Wait + Sync + Abort + AllocGlobal>(
 
 #[test]
 fn of_all_images(rt: HostRuntime) -> Result<(), Fail> {
-    assert_equal_for_each(&rt, &ACCEPTED)?;
-    assert_equal_for_each(&rt, &WITH_WEAK_OBJECTS)?;
-    assert_equal_for_each(&rt, &WITH_DEFECTS)
+    for images in &IMAGES {
+        assert_equal_for_each(&rt, images)?;
+    }
+    Ok(())
 }
 
 /// More weak objects, and free chunks behind all objects.
