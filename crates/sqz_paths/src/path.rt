@@ -23,6 +23,7 @@ pub struct Step {
 /// A path from the special objects array. The path to that array itself has no step.
 #[derive(Debug, Drop)]
 pub struct Path {
+    /// In their order: the first goes by a slot of the special objects array.
     pub steps: Vec<Step>,
 }
 
