@@ -1,3 +1,1 @@
-mod ArgumentLemmas
-mod CommandLineLemmas
 mod FaultLineLemmas

@@ -1,4 +1,3 @@
-pub mod CommandLine
 pub mod Exits
 pub mod OutputFiles
 pub mod Lines

@@ -5,10 +5,8 @@ ghost use Rattle.sqz_image.specs.Objects.{object_count};
 
 use crate::addresses::address_in;
 use crate::arguments::{Arguments, Question};
-use crate::files::file_text;
-use crate::members::members_text;
-use crate::objects::object_text;
 use crate::refusal::Refusal;
+use sqz_facts::{file_text, members_text, object_text};
 use sqz_image::{Fault, Heap, Image, ReadSource, read_all, read_image};
 use sqz_trace::{Weak, named_by};
 use std::alloc::Global;

@@ -6,7 +6,7 @@ mod stages;
 mod stopwatch;
 
 use anyhow::Result;
-use sqz_command::{Arguments, read_arguments};
+use sqz_arguments::{Arguments, read_arguments};
 use sqz_marks::Workers;
 use sqz_regions::Cut;
 use sqz_trace::Weak;

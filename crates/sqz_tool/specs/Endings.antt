@@ -5,7 +5,7 @@ use Rattle.sqz_image.specs.declared.fault.Fault.{Fault}
 use Rattle.sqz_image.specs.declared.fault.Fault.TheVariants.{OutOfMemory, ReadFailed, WriteFailed, BadWorkers, BadCut}
 use Rattle.sqz_image.specs.Devices.{SinkState}
 use Rattle.sqz_tool.specs.declared.summary.Summary.{Summary}
-use Rattle.sqz_command.specs.CommandLine.{command_line}
+use Rattle.sqz_arguments.specs.CommandLine.{command_line}
 use Rattle.sqz_command.specs.Exits.{exit_of}
 use Rattle.sqz_tool.specs.FileRuns.{Views, CompactsFiles, RefusesFiles}
 use Rattle.sqz_command.specs.Lines.{PrintsFault}

@@ -10,7 +10,7 @@ ghost use Rattle.sqz_tool.specs.Correspondence.{HasMovedObjects};
 ghost use Rattle.sqz_tool.specs.Verdict.{IsAccepted, IsRefused};
 ghost use Rattle.sqz_tool.specs.Settled.{IsSettled};
 
-pub use sqz_command::laws::worked_options;
+pub use sqz_arguments::laws::worked_options;
 
 /// A file is accepted with one image and one set of live objects at most, so it has one compaction.
 pub fn one_answer()

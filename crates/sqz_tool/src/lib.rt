@@ -15,5 +15,6 @@ pub use compact_files::compact;
 pub use entry_point::program;
 pub use plan::Plan;
 pub use running::run;
-pub use sqz_command::{Arguments, refuse, refuse_words};
+pub use sqz_arguments::Arguments;
+pub use sqz_command::{refuse, refuse_words};
 pub use summary::Summary;

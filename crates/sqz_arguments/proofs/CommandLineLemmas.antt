@@ -23,10 +23,10 @@ use Rattle.clap.proofs.CallerLemmas.{required_in_chain}
 use Rattle.clap.proofs.CallerReads.{signed_reads}
 use Rattle.clap.proofs.WalkLemmas.{first_value-rows, one_text-rows}
 use Rattle.clap.proofs.OnLiterals.{clap_on_literals}
-use Rattle.sqz_command.specs.CommandLine.{GivesAll, HasNumber, IsFlag, IsFlagText, IsNumber, IsRequired}
-use Rattle.sqz_command.specs.CommandLine.{command_line, number_parser}
+use Rattle.sqz_arguments.specs.CommandLine.{GivesAll, HasNumber, IsFlag, IsFlagText, IsNumber, IsRequired}
+use Rattle.sqz_arguments.specs.CommandLine.{command_line, number_parser}
 use Rattle.clap.specs.declared.builder.value_parser.ValueParser.TheVariants as vp
-use Rattle.sqz_command.proofs.ArgumentLemmas.{default_in_chain, distinct_by_names, read_in_chain}
+use Rattle.sqz_arguments.proofs.ArgumentLemmas.{default_in_chain, distinct_by_names, read_in_chain}
 
 -- the matches of the command line can be computed
 pub command_line_simple : is_simple command_line ≡ true

@@ -1,6 +1,6 @@
 use Rattle.std.proofs.Common.{refl}
 use Rattle.clap.proofs.OnLiterals.{clap_on_literals}
-use Rattle.sqz_command.proofs.laws.worked_options.Goals as goal
+use Rattle.sqz_arguments.proofs.laws.worked_options.Goals as goal
 
 pub returns-clause-defaults : goal.returns-clause-defaults
 unfolding clap_on_literals

@@ -3,9 +3,9 @@ use Rattle.std.proofs.lemmas.Result.{IfOk-weaker}
 use Rattle.clap.specs.Words.{AddsArg}
 use Rattle.clap.specs.Simple.{app_of_fields}
 use Rattle.clap.specs.declared.builder.command.Command.{Command}
-use Rattle.sqz_command.proofs.CommandLineLemmas.{IsMade, all_given, shape_is}
-use Rattle.sqz_command.proofs.arguments.command.Goals as goal
-use Rattle.sqz_command.proofs.arguments.command.Goals.{After-arg-6}
+use Rattle.sqz_arguments.proofs.CommandLineLemmas.{IsMade, all_given, shape_is}
+use Rattle.sqz_arguments.proofs.arguments.command.Goals as goal
+use Rattle.sqz_arguments.proofs.arguments.command.Goals.{After-arg-6}
 
 -- a command to which the last argument was added is made of the first one
 is_made : (c : After-arg-6) (made : Command) → AddsArg c.in_ok-arg-5.field-0 c.flag-2.result made

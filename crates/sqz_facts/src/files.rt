@@ -1,7 +1,8 @@
 //! What a file holds.
 
-ghost use Rattle.std.specs.Prelude.{◌≡◌, length};
+ghost use Rattle.std.specs.Prelude.{◌≡◌, length, IfErr};
 ghost use Rattle.sqz_image.specs.Objects.{object_count};
+ghost use Rattle.sqz_image.specs.declared.fault.Fault.TheVariants.{OutOfMemory};
 
 use crate::facts::Facts;
 use crate::free_chunks::free_chunks;
@@ -15,14 +16,17 @@ use std::thread::Threads;
 const HEADER: usize = 64;
 
 /// The facts of a file: its byte order, where its image begins, the base and the data, the special objects array, the objects, the
-/// free chunks, the live objects and their bytes, and the first fault for which it would not be compacted.
-pub(crate) fn file_text(
+/// free chunks, the live objects and their bytes, and the first fault for which it would not be compacted. `bytes` are those of the
+/// file. Fails with `OutOfMemory` alone.
+pub fn file_text(
     rt: &(impl Threads + Sync),
     alloc: Global,
     bytes: &[u8],
     image: &Image,
     weak: Weak,
-) -> Result<Vec<u8>, Fault> {
+) -> Result<Vec<u8>, Fault>
+    ensures refused { IfErr result (λ fault. fault ≡ OutOfMemory) }
+{
     let mut facts = Facts::new(alloc);
     add_header(&mut facts, image)?;
     add_data(rt, alloc, &mut facts, bytes, image, weak)?;
@@ -48,7 +52,9 @@ fn add_data(
     bytes: &[u8],
     image: &Image,
     weak: Weak,
-) -> Result<(), Fault> {
+) -> Result<(), Fault>
+    ensures { IfErr result (λ fault. fault ≡ OutOfMemory) }
+{
     let heap = image.heap();
     let begins = image.prefix().len().saturating_add(HEADER);
     let data = bytes.get(begins..).unwrap_or(&[]);

@@ -3,7 +3,7 @@
 ghost use Rattle.std.specs.Prelude.{◌≡◌, ◌↔◌, IfOk, IsTrue, Some, codes, map, string_bytes};
 ghost use Rattle.clap.specs.Words.{FailsBy, IsParsedFrom, app_of, fault_of, first_of, matches_of, one_of};
 ghost use Rattle.clap.specs.declared.parser.matches.ArgMatches.{ArgMatches};
-ghost use Rattle.sqz_command.specs.CommandLine.{GivesAll, IsFlag, IsNumber, IsRequired, ReadsNumber, command_line};
+ghost use Rattle.sqz_arguments.specs.CommandLine.{GivesAll, IsFlag, IsNumber, IsRequired, ReadsNumber, command_line};
 
 use clap::{Arg, ArgAction, Command, Error, value_parser};
 use std::alloc::{AllocError, Global};

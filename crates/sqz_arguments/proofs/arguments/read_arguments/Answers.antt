@@ -2,8 +2,8 @@ use Rattle.std.proofs.Common.{◌≡◌, ◌∙◌, ap, rules, sym}
 use Rattle.std.specs.Prelude.{Err, Ok, codes, option_map}
 use Rattle.std.proofs.lemmas.Option.{same_Some}
 use Rattle.clap.specs.declared.parser.matches.ArgMatches.{ArgMatches}
-use Rattle.sqz_command.proofs.CommandLineLemmas.{first_is, flag_is, number_read, one_is, refusals_are}
-use Rattle.sqz_command.proofs.arguments.read_arguments.Goals as goal
+use Rattle.sqz_arguments.proofs.CommandLineLemmas.{first_is, flag_is, number_read, one_is, refusals_are}
+use Rattle.sqz_arguments.proofs.arguments.read_arguments.Goals as goal
 
 pub unwrap-requires-3 : goal.unwrap-requires-3
 unwrap-requires-3 c =

@@ -1,7 +1,8 @@
 //! What an object is.
 
-ghost use Rattle.std.specs.Prelude.{◌<◌};
+ghost use Rattle.std.specs.Prelude.{◌≡◌, ◌<◌, IfErr};
 ghost use Rattle.sqz_image.specs.Objects.{object_count};
+ghost use Rattle.sqz_image.specs.declared.fault.Fault.TheVariants.{OutOfMemory};
 
 use crate::byte_text::{has_bytes, text_of};
 use crate::classes::{name_of_class, named_class};
@@ -13,14 +14,10 @@ use sqz_object::base_of;
 use sqz_trace::{Weak, class_of};
 use std::alloc::{AllocError, Global};
 
-/// The facts of an object, what its slots hold, its bytes as text where it has such, and a path to it.
-pub(crate) fn object_text(
-    alloc: Global,
-    heap: &Heap,
-    weak: Weak,
-    object: u32,
-) -> Result<Vec<u8>, Fault>
-    requires { object < object_count heap.now }
+/// The facts of an object, what its slots hold, its bytes as text where it has such, and a path to it. Fails with `OutOfMemory` alone.
+pub fn object_text(alloc: Global, heap: &Heap, weak: Weak, object: u32) -> Result<Vec<u8>, Fault>
+    requires inside { object < object_count heap.now }
+    ensures refused { IfErr result (λ fault. fault ≡ OutOfMemory) }
 {
     let mut facts = Facts::new(alloc);
     add_header(alloc, &mut facts, heap, weak, object)?;

@@ -1,7 +1,8 @@
 //! Why an object is there: a path to it.
 
-ghost use Rattle.std.specs.Prelude.{◌<◌};
+ghost use Rattle.std.specs.Prelude.{◌≡◌, ◌<◌, IfErr};
 ghost use Rattle.sqz_image.specs.Objects.{object_count};
+ghost use Rattle.sqz_image.specs.declared.fault.Fault.TheVariants.{OutOfMemory};
 ghost use Rattle.sqz_paths.specs.Paths.{IsShortestPath};
 
 use crate::classes::label_of;
@@ -19,7 +20,8 @@ pub(crate) fn add_path(
     weak: Weak,
     object: u32,
 ) -> Result<(), Fault>
-    requires { object < object_count heap.now }
+    requires inside { object < object_count heap.now }
+    ensures refused { IfErr result (λ fault. fault ≡ OutOfMemory) }
 {
     match path_to(alloc, heap, weak, object)? {
         Some(path) => add_steps(alloc, facts, heap, weak, object, &path)?,

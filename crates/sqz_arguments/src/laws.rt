@@ -2,7 +2,7 @@
 
 ghost use Rattle.std.specs.Prelude.{◌≡◌, [], ◌∷◌, Some, codes};
 ghost use Rattle.clap.specs.Words.{matches_of, one_of};
-ghost use Rattle.sqz_command.specs.CommandLine.{command_line};
+ghost use Rattle.sqz_arguments.specs.CommandLine.{command_line};
 
 /// What is read for the options of two command lines, one with two paths alone, and one with each option before them.
 pub fn worked_options()

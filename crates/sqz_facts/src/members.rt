@@ -1,7 +1,8 @@
 //! The live objects of a class.
 
-ghost use Rattle.std.specs.Prelude.{◌<◌};
+ghost use Rattle.std.specs.Prelude.{◌≡◌, ◌<◌, IfErr};
 ghost use Rattle.sqz_image.specs.Objects.{object_count};
+ghost use Rattle.sqz_image.specs.declared.fault.Fault.TheVariants.{OutOfMemory};
 
 use crate::classes::named_class;
 use sqz_image::{Fault, Heap};
@@ -10,14 +11,10 @@ use sqz_trace::{Weak, mark_plain};
 use std::alloc::{AllocError, Global};
 
 /// A line for each live object of a class, most bytes first: its bytes, right-aligned in 12 places, and its address; and a last line
-/// with the sum, and what is listed.
-pub(crate) fn members_text(
-    alloc: Global,
-    heap: &Heap,
-    weak: Weak,
-    class: u32,
-) -> Result<Vec<u8>, Fault>
-    requires { class < object_count heap.now }
+/// with the sum, and what is listed. Fails with `OutOfMemory` alone.
+pub fn members_text(alloc: Global, heap: &Heap, weak: Weak, class: u32) -> Result<Vec<u8>, Fault>
+    requires inside { class < object_count heap.now }
+    ensures refused { IfErr result (λ fault. fault ≡ OutOfMemory) }
 {
     let marks = mark_plain(alloc, heap, weak)?;
     let members = members_of(alloc, heap, weak, &marks, class)?;

@@ -1,0 +1,2 @@
+mod ArgumentLemmas
+mod CommandLineLemmas
