@@ -114,17 +114,8 @@ impl Write for FailsOnce {
     }
 }
 
-/// Asserts that a write that fails so is not tried again by the sink.
-fn assert_written_once<R: Abort>(rt: &R, error: ErrorKind) {
-    let mut writer = FailsOnce { writes: 0, error };
-    let mut sink = WriteSink::new(&mut writer);
-    assert!(rt; sink.write(&[1, 2]).is_err());
-    assert!(rt; sink.failed());
-    assert_eq!(rt; writer.writes, 1);
-}
-
 /// Asserts that a write that fails so is not tried again where all bytes are to be written.
-fn assert_all_written_once<R: Abort>(rt: &R, error: ErrorKind) {
+fn assert_written_once<R: Abort>(rt: &R, error: ErrorKind) {
     let mut writer = FailsOnce { writes: 0, error };
     let mut sink = WriteSink::new(&mut writer);
     assert!(rt; matches!(write_all(&mut sink, &[1, 2]), Err(Fault::WriteFailed)));
@@ -136,6 +127,5 @@ fn assert_all_written_once<R: Abort>(rt: &R, error: ErrorKind) {
 fn a_failed_first_write_is_not_tried_again(rt: HostRuntime) {
     for error in [ErrorKind::Interrupted, ErrorKind::StorageFull] {
         assert_written_once(&rt, error);
-        assert_all_written_once(&rt, error);
     }
 }

@@ -1,7 +1,7 @@
 -- A pass that goes over the objects again while it finds a grey one comes to an end, and leaves none grey. Serves `rest::mark_rest`,
 -- `rest::mark_greys`, `rest::mark_from`, `stealing::mark` and `stealing::marked_of`.
 use Rattle.std.proofs.Common.{◌≡◌, ◌≢◌, ℕ, zero, suc, ◌<◌, ◌≤◌, if◌then◌else◌, cond, eqb, ltb, Bool, List, length}
-use Rattle.std.proofs.Common.{refl, sym, ap, subst, ◌∙◌, arith, inl, inr, eq-eqb, ne_eqb}
+use Rattle.std.proofs.Common.{sum, refl, sym, ap, subst, ◌∙◌, arith, inl, inr, eq-eqb, ne_eqb}
 use Rattle.std.proofs.lemmas.Bool.{cases_eq, cases_lt, lt-ltb}
 use Rattle.std.proofs.lemmas.List.{get_or_past}
 use Rattle.std.proofs.lemmas.Option.{same_Some}
@@ -20,7 +20,7 @@ use Rattle.sqz_marks.specs.declared.view.View.{View}
 use Rattle.sqz_marks.specs.Core.{times, HasWon, HasBlackened, looked}
 use Rattle.sqz_marks.specs.Table.{HeldPass, AreClosed, knowing}
 use Rattle.sqz_marks.proofs.TimesLemmas.{times-same, zero-if_never}
-use Rattle.sqz_workers.specs.Gains.{KeepsBlackened, IsSettled, HasBlackenedMore, IsPassedBy}
+use Rattle.sqz_workers.specs.Gains.{KeepsBlackened, IsSettled, HasBlackenedMore, IsPassedBy, HasGained, HasGainedSome, HasEnded}
 
 -- 1 for none
 abbrev one_if_none : ℕ → ℕ
@@ -115,6 +115,18 @@ pub AreClosed-of : (view : View) (shades : List Shade) {from to : Memory} {old n
     → AreClosed from old view shades → AreClosed to new view shades
 AreClosed-of view shades {from} {to} {old} {new} memory weak closed =
     subst (λ (w : Weak). AreClosed to w view shades) weak (subst (λ (m : Memory). AreClosed m old view shades) memory closed)
+
+-- what is known once the workers have marked, and then what they left grey, and the table is closed
+pub HasEnded-by : (memory : Memory) (weak : Weak) (first shared last : HeldPass) (won claims : List ℕ) (shades : List Shade)
+    → AreClosed memory weak last.view shades → ((object : ℕ) → object < object_count memory → IsSettled last.view object)
+    → HasGained first shared (sum won) → HasGainedSome shared last → claims ≡ won → HasEnded memory weak claims shades
+HasEnded-by memory weak first shared last won claims shades closed settled all rest same =
+    record {
+      view = last.view;
+      closed = closed;
+      settled = settled;
+      won = omega (arith, rest.gained.won, all.won, ap sum same);
+    }
 
 -- so the marked objects are the reachable ones
 pub marks_of-settled : (memory : Memory) (weak : Weak) (view : View) (shades : List Shade) (marks : List Bool)

@@ -1,4 +1,5 @@
-use Rattle.std.proofs.Common.{◌≡◌, ◌+◌, ◌-◌, ◌^◌, arith}
+use Rattle.std.proofs.Common.{◌≡◌, ◌+◌, ◌-◌, ◌^◌, arith, rules}
+use Rattle.std.proofs.lemmas.Grind.{common_steps}
 use Rattle.std.proofs.lemmas.Result.{err_from_is_err_and}
 use Rattle.sqz_image.proofs.ReadingLoop.{ReadStops-memory, ReadStops-limit}
 use Rattle.sqz_image.proofs.read_whole.read_all.Goals as goal
@@ -13,3 +14,9 @@ pub returns-clause-stopped : goal.returns-clause-stopped
 returns-clause-stopped g c =
     let last : c.loop.counter - 1 + 1 ≡ 2 ^ 32 = omega arith in
     ReadStops-limit _ _ _ _ _ _ c.loop.invariant.has_read _ c.read-2.ensures.read last
+
+pub returns-in_default-clause-stopped : goal.returns-in_default-clause-stopped
+returns-in_default-clause-stopped g c = search rules
+
+pub loop-preserved : goal.loop-preserved
+loop-preserved g c = grind (arith, common_steps)

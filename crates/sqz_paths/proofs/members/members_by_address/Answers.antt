@@ -1,4 +1,4 @@
-use Rattle.std.proofs.Common.{◌<◌, ◌∙◌, sym, ap, true≢false, arith}
+use Rattle.std.proofs.Common.{◌<◌, ◌∙◌, sym, ap, true≢false, arith, rules}
 use Rattle.sqz_image.specs.Objects.{object_count}
 use Rattle.sqz_trace.specs.Strong.{class_of}
 use Rattle.sqz_paths.proofs.MemberLemmas.{IsOfClass-yes, IsOfClass-no, AreMembersBelow-more_yes, AreMembersBelow-more_no}
@@ -35,3 +35,6 @@ loop-object-preserved c =
             | else-has-via-else-has v ↦ true≢false (sym is.marked ∙ sym c.has.ensures ∙ v.if-has.false)
           ]))
     ]
+
+pub returns : goal.returns
+returns c = search rules

@@ -1,4 +1,4 @@
-use Rattle.std.proofs.Common.{◌≡◌, ◌<◌, ◌+◌, ◌++◌, is_some, ℕ, List, ap, sym, ◌∙◌, arith, append_assoc}
+use Rattle.std.proofs.Common.{◌≡◌, ◌<◌, ◌+◌, ◌++◌, is_some, ℕ, List, ap, sym, ◌∙◌, arith, append_assoc, rules}
 use Rattle.sqz_image.specs.Objects.{object_count}
 use Rattle.sqz_regions.proofs.RegionLemmas.{objects_before-rises, objects_before-le}
 use Rattle.sqz_slide.specs.Moved.{moved}
@@ -55,3 +55,6 @@ returns c marks places =
     moved_in-between regions c.args.weak marks c.args.heap.now region c.objects-from.result.0 c.objects-from.result.1
     c.loop-index.words.items c.requires.regions ends.first ends.end
     (c.loop-index.invariant marks places ∙ ap (moved_below c.args.heap.now c.args.weak marks) end)
+
+pub loop-index-init : goal.loop-index-init
+loop-index-init c = search rules

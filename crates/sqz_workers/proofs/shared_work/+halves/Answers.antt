@@ -21,3 +21,9 @@ SharedWork::mark_by_halves-returns g t c =
       same_pass = refl;
       same_claims = refl;
     }
+
+pub SharedWork::mark_both-returns-clause-team : goal.SharedWork::mark_both-returns-clause-team
+SharedWork::mark_both-returns-clause-team g t c = search rules
+
+pub SharedWork::mark_both-returns-clause-other : goal.SharedWork::mark_both-returns-clause-other
+SharedWork::mark_both-returns-clause-other g t c = search rules

@@ -4,7 +4,7 @@ use Rattle.sqz_regions.specs.Regions.{Regioning}
 use Rattle.sqz_marks.specs.declared.view.View.{View}
 use Rattle.sqz_marks.specs.Table.{HasCountedAll}
 use Rattle.sqz_workers.proofs.GainLemmas.{HasCountedAll-gained}
-use Rattle.sqz_workers.proofs.RestLemmas.{AreClosed-of}
+use Rattle.sqz_workers.proofs.RestLemmas.{AreClosed-of, HasEnded-by}
 use Rattle.sqz_workers.proofs.stealing.mark.Goals as goal
 
 pub close-requires-clause-counted : goal.close-requires-clause-counted
@@ -16,13 +16,10 @@ close-requires-clause-counted g c =
 
 pub marked_of-requires : goal.marked_of-requires
 marked_of-requires g c =
-    let pass = c.mark_rest.new.pass in let claims = c.mark_all.new.claims in let vec = c.in_ok-claims.claims in
-    let table = c.in_ok-table.ensures.table in let memory = ap (λ (h : Regioning). h.memory) table.0 ∙ c.requires in
-    let sized : length claims ≡ length vec.items = c.mark_all.ensures.sized ∙ ap length c.deref_mut-2.ensures.value in
-    let same : c.deref-2.result.now ≡ claims = c.deref-2.ensures.value ∙ whole_slice vec.len claims vec.items sized vec.ok.0 in
-    record {
-      view = pass.view;
-      closed = AreClosed-of pass.view c.in-Ok.closed.shades.items memory table.1 c.in-Ok.ensures.closed;
-      settled = c.mark_rest.ensures.settled;
-      won = omega (arith, c.mark_rest.ensures.gained.gained.won, c.mark_all.ensures.gained.won, ap sum same);
-    }
+    let vec = c.in_ok-claims.claims in let table = c.in_ok-table.ensures.table in
+    let memory = ap (λ (h : Regioning). h.memory) table.0 ∙ c.requires in
+    let sized : length c.mark_all.new.claims ≡ length vec.items = c.mark_all.ensures.sized ∙ ap length c.deref_mut-2.ensures.value in
+    let same = c.deref-2.ensures.value ∙ whole_slice vec.len c.mark_all.new.claims vec.items sized vec.ok.0 in
+    HasEnded-by _ _ c.in_ok-table.pass c.mark_all.new.pass c.mark_rest.new.pass c.mark_all.new.claims _ _
+    (AreClosed-of c.mark_rest.new.pass.view c.in-Ok.closed.shades.items memory table.1 c.in-Ok.ensures.closed)
+    c.mark_rest.ensures.settled c.mark_all.ensures.gained c.mark_rest.ensures.gained same

@@ -1,4 +1,5 @@
-use Rattle.std.proofs.Common.{◌≡◌, Some, sym, ap, subst, ◌∙◌}
+use Rattle.std.proofs.Common.{◌≡◌, Some, sym, ap, subst, ◌∙◌, rules, arith}
+use Rattle.std.proofs.lemmas.Grind.{common_steps}
 use Rattle.sqz_image.specs.Objects.{Memory}
 use Rattle.sqz_trace.specs.Edges.{strong_named}
 use Rattle.sqz_marks.specs.Table.{SharedMarks}
@@ -14,3 +15,9 @@ fetch_max-requires c =
     pass.seat.table_id pass.seat.id pass.seat.me c.pass.view_is c.args.parent.now c.args.slot c.in-Some.object c.requires.seen
     (subst (λ (memory : Memory). strong_named memory c.args.parent.now c.args.slot ≡ Some c.in-Some.object) same
     (sym c.target.ensures.named ∙ c.in-Some.is))
+
+pub returns-clause-claim : goal.returns-clause-claim
+returns-clause-claim c = search rules
+
+pub returns-clause-new : goal.returns-clause-new
+returns-clause-new c = grind (arith, common_steps)

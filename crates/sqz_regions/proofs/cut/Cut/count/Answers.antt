@@ -1,4 +1,4 @@
-use Rattle.std.proofs.Common.{arith}
+use Rattle.std.proofs.Common.{arith, rules}
 use Rattle.sqz_regions.specs.Cuts.{IsCutList}
 use Rattle.sqz_regions.proofs.CutLemmas.{few_points}
 use Rattle.sqz_regions.proofs.cut.Cut.count.Goals as goal
@@ -17,3 +17,6 @@ pub returns-in-At-clause-few : goal.returns-in-At-clause-few
 returns-in-At-clause-few c =
     let list : IsCutList c.in-At.points.items = rw c.in-At.is at c.self.invariant in
     omega (arith, few_points _ list)
+
+pub returns-in-Every-clause-count : goal.returns-in-Every-clause-count
+returns-in-Every-clause-count c = search rules
