@@ -1,3 +1,4 @@
 pub mod Worked
 pub mod DeadCycle
 pub mod MovedCycle
+pub mod ClassEdge

@@ -7,6 +7,7 @@ mod defects;
 mod marking;
 mod moved_objects;
 mod prefixes;
+mod questions;
 mod unreadable;
 mod weak_slots;
 mod words;
