@@ -1,11 +1,14 @@
 #!/usr/bin/env python3
 """Times each stage of a run over a made image, and `cp` beside it. Prints a table in Markdown.
 
-Usage: bench/stages.py [--part PART] [--mib N] [--runs N] [--workers N ...]
+Usage: bench/stages.py [--part PART] [--mib N] [--runs N] [--workers N ...] [--beside PROGRAM]
 
 The image is one of bench/compare.py: `mixed` (the default), `fitted`, `1 MiB` or `anywhere`. The numbers are milliseconds, each the median
 of so many times three runs; the program of `crates/sqz_stage_times` makes three at a time, and `rt run -- --help` there builds it.
-Plain marking, which a run does not do, stands there to compare with. Copies by `cp` are made in turns with the runs."""
+Plain marking, which a run does not do, stands there to compare with. Copies by `cp` are made in turns with the runs.
+
+With `--beside` the program of another checkout that times stages makes runs over the same image, in turns with this one, and has a line
+below each of this one's. In odd turns this program goes first, in even ones the other, so that noise of the machine falls on both."""
 
 import argparse
 import os
@@ -21,9 +24,9 @@ PROGRAM = os.path.join(compare.ROOT, "crates", "sqz_stage_times", "out", "sqz_st
 NOT_OF_A_RUN = "plain"
 
 
-def timed(workers, image, out):
+def timed(program, workers, image, out):
     """The names of the stages, and the milliseconds of each in three runs."""
-    words = [PROGRAM, "--workers", str(workers), image, out]
+    words = [program, "--workers", str(workers), image, out]
     lines = subprocess.run(words, capture_output=True, text=True, check=True).stdout.splitlines()
     return lines[0].split(), [[float(word) for word in line.split()] for line in lines[1:]]
 
@@ -37,17 +40,22 @@ def copied(image, out):
     return 1000 * (time.monotonic() - begun)
 
 
-def measured(image, out, workers, count):
-    """The names of the stages, the median of each, and the medians of a whole run and of a copy."""
-    runs, copies = [], []
-    for _ in range(count):
-        copies += [copied(image, out) for _ in range(3)]
-        names, three = timed(workers, image, out)
-        runs += three
+def medians(names, runs):
+    """The median of each stage, and that of a whole run."""
     each = [statistics.median(column) for column in zip(*runs)]
     left_out = names.index(NOT_OF_A_RUN)
-    whole = statistics.median(sum(run) - run[left_out] for run in runs)
-    return names, each, whole, statistics.median(copies)
+    return [*each, statistics.median(sum(run) - run[left_out] for run in runs)]
+
+
+def measured(programs, image, out, workers, count):
+    """The names of the stages, for each program the medians of the stages and of a whole run, and the median of a copy."""
+    runs, copies = {program: [] for program in programs}, []
+    for turn in range(count):
+        copies += [copied(image, out) for _ in range(3)]
+        for program in programs if turn % 2 == 0 else reversed(programs):
+            names, three = timed(program, workers, image, out)
+            runs[program] += three
+    return names, [medians(names, runs[program]) for program in programs], statistics.median(copies)
 
 
 def main():
@@ -56,16 +64,19 @@ def main():
     parser.add_argument("--mib", type=int, default=64)
     parser.add_argument("--runs", type=int, default=3)
     parser.add_argument("--workers", type=int, nargs="+", default=[1, 2, 4])
+    parser.add_argument("--beside", metavar="PROGRAM")
     options = parser.parse_args()
+    programs = [PROGRAM, options.beside] if options.beside else [PROGRAM]
     with tempfile.TemporaryDirectory() as folder:
         image, out = (os.path.join(folder, name) for name in ("in.image", "out.image"))
         compare.make_image(image, options.mib * compare.MIB, compare.PARTS[options.part])
         for number, workers in enumerate(options.workers):
-            names, each, whole, copy = measured(image, out, workers, options.runs)
+            names, rows, copy = measured(programs, image, out, workers, options.runs)
             if number == 0:
                 print("| workers | " + " | ".join(names) + " | whole run | `cp` |")
                 print("|---|" + "---:|" * (len(names) + 2))
-            print(f"| {workers} | " + " | ".join(f"{value:.0f}" for value in [*each, whole, copy]) + " |", flush=True)
+            for row, label in zip(rows, (f"{workers}", f"{workers}, the other")):
+                print(f"| {label} | " + " | ".join(f"{value:.0f}" for value in [*row, copy]) + " |", flush=True)
 
 
 if __name__ == "__main__":
