@@ -49,11 +49,14 @@ def medians(names, runs):
 
 def measured(programs, image, out, workers, count):
     """The names of the stages, for each program the medians of the stages and of a whole run, and the median of a copy."""
-    runs, copies = {program: [] for program in programs}, []
+    names, runs, copies = None, {program: [] for program in programs}, []
     for turn in range(count):
         copies += [copied(image, out) for _ in range(3)]
         for program in programs if turn % 2 == 0 else reversed(programs):
-            names, three = timed(program, workers, image, out)
+            stages, three = timed(program, workers, image, out)
+            if names not in (None, stages):
+                sys.exit(f"{program} times other stages: {' '.join(stages)}")
+            names = stages
             runs[program] += three
     return names, [medians(names, runs[program]) for program in programs], statistics.median(copies)
 
