@@ -1,6 +1,6 @@
 -- A loop of reads: what it has read so far, and how it ends.
 -- Serves `read_whole::read_all`.
-use Rattle.std.proofs.Common.{◌≡◌, ℕ, ◌+◌, ◌<◌, arith, List, ◌++◌, take, Ok, Err, Result, sym, ap, ◌∙◌, refl, inl, inr}
+use Rattle.std.proofs.Common.{◌≡◌, Bool, ℕ, ◌+◌, ◌<◌, arith, List, ◌++◌, take, Ok, Err, Result, sym, ap, ◌∙◌, refl, inl, inr}
 use Rattle.std.proofs.Common.{subst}
 use Rattle.std.specs.Io.KnownBytes.{Consumes}
 use Rattle.std.proofs.KnownBytes.{Consumes-trans, Consumes-kept}
@@ -17,18 +17,18 @@ pub record HasRead (old now : SourceState) (file : List ℕ) (turns : ℕ) : Typ
   pub failed : now.failed ≡ old.failed
   pub counted : now.reads ≡ count_after old.reads turns
 
-module _ (old now new : SourceState) (file piece : List ℕ) (turns : ℕ) (so_far : HasRead old now file turns) where
+module _ (gives_all : Bool) (old now new : SourceState) (file piece : List ℕ) (turns : ℕ) (so_far : HasRead old now file turns) where
   counted_more : new.reads ≡ one_more now.reads → new.reads ≡ count_after old.reads (turns + 1)
   counted_more e = e ∙ ap one_more so_far.counted ∙ one_more-count_after old.reads turns
 
   -- a read failed
-  pub ReadStops-failed : (fault : DeviceFault) → IsRead now new piece (Err fault) → ReadStops old new ReadFailed
+  pub ReadStops-failed : (fault : DeviceFault) → IsRead gives_all now new piece (Err fault) → ReadStops old new ReadFailed
   ReadStops-failed fault read =
       ((file, Consumes-kept old.left now.left new.left file so_far.bytes read.1), inr (refl, inl read.0))
 
   -- the last turn was taken
   pub ReadStops-limit : (result : Result ℕ DeviceFault)
-      → IsRead now new piece result → turns + 1 ≡ turn_limit → ReadStops old new ReadFailed
+      → IsRead gives_all now new piece result → turns + 1 ≡ turn_limit → ReadStops old new ReadFailed
   ReadStops-limit (Ok count) read all =
       let at_limit = counted_more read.5 ∙ ap (count_after old.reads) all in (
         (file ++ take count piece, Consumes-trans old.left now.left new.left file (take count piece) so_far.bytes read.3),
@@ -37,7 +37,7 @@ module _ (old now new : SourceState) (file piece : List ℕ) (turns : ℕ) (so_f
   ReadStops-limit (Err fault) read all = ReadStops-failed fault read
 
   -- there is no memory for what was read
-  pub ReadStops-memory : (count : ℕ) → IsRead now new piece (Ok count) → 0 < count → turns + 1 < turn_limit → ReadStops old new OutOfMemory
+  pub ReadStops-memory : (count : ℕ) → IsRead gives_all now new piece (Ok count) → 0 < count → turns + 1 < turn_limit → ReadStops old new OutOfMemory
   ReadStops-memory count read some left =
       let no_end : new.empty_reads ≡ now.empty_reads = read.6 ∙ rw (ne_eqb count 0 (λ e. omega arith)) refl in
       let counted : new.reads ≡ count_after old.reads (turns + 1) = counted_more read.5 in (

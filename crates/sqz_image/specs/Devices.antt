@@ -30,15 +30,15 @@ pub record SinkState : Type 0 where
 abbrev pub one_more : ℕ → ℕ
 one_more count = min (count + 1) (2 ^ 64 - 1)
 
--- one read into a piece, which then holds what was read at its front; a source that tells its bytes gives none for a
--- piece that is not empty only where it has none left
-abbrev pub IsRead : SourceState → SourceState → List ℕ → Result ℕ DeviceFault → Type 0
-IsRead old new piece (Ok count) =
+-- one read into a piece, which then holds what was read at its front; a source that promises to give all its bytes
+-- gives none for a piece that is not empty only if it has none left
+abbrev pub IsRead : Bool → SourceState → SourceState → List ℕ → Result ℕ DeviceFault → Type 0
+IsRead gives_all old new piece (Ok count) =
     (old.failed ≡ false) × (new.failed ≡ false) × (count ≤ length piece)
-    × Consumes old.left new.left (take count piece) × (count ≡ 0 → 0 < length piece → IsAtEnd new.left)
+    × Consumes old.left new.left (take count piece) × (gives_all ≡ true → count ≡ 0 → 0 < length piece → IsAtEnd new.left)
     × (new.reads ≡ one_more old.reads)
     × (new.empty_reads ≡ (if count == 0 && nat_lt 0 (length piece) then one_more old.empty_reads else old.empty_reads))
-IsRead old new piece (Err fault) =
+IsRead gives_all old new piece (Err fault) =
     (new.failed ≡ true) × Keeps old.left new.left × (new.reads ≡ one_more old.reads) × (new.empty_reads ≡ old.empty_reads)
 
 -- one write of a piece: some of it from its front on went out
@@ -66,11 +66,12 @@ turn_limit = 2 ^ 32
 abbrev pub MeetsLimit : ℕ → ℕ → Type 0
 MeetsLimit old new = (old + turn_limit ≤ new) ⊎ (new ≡ 2 ^ 64 - 1)
 
--- the source gave these bytes, and after them none; where it tells its bytes, it has none left
-pub record ReadsWhole (old new : SourceState) (file : List ℕ) : Type 0 where
+-- the source gave these bytes, up to the first read that gave none; if it promises to give all its bytes, it has none
+-- left
+pub record ReadsWhole (gives_all : Bool) (old new : SourceState) (file : List ℕ) : Type 0 where
   pub bytes : Consumes old.left new.left file
   pub end : new.empty_reads ≡ one_more old.empty_reads
-  pub at_end : IsAtEnd new.left
+  pub at_end : gives_all ≡ true → IsAtEnd new.left
   pub started_sound : old.failed ≡ false
   pub sound : new.failed ≡ false
   pub below_limit : new.reads < old.reads + turn_limit

@@ -1,6 +1,6 @@
 //! Where bytes come from and go to.
 
-ghost use Rattle.std.specs.Prelude.{◌≡◌};
+ghost use Rattle.std.specs.Prelude.{◌≡◌, Bool};
 ghost use Rattle.sqz_image.specs.Devices.{SourceState, SinkState, IsRead, IsWrite, IsFlush};
 
 /// A device failed. What it did before stands.
@@ -12,13 +12,14 @@ pub trait Source {
     /// What contracts see of a source.
     ghost state: { Self → SourceState };
 
-    /// Reads bytes into the front of `into`, and answers how many. None are read only where the source
-    /// has none left, or `into` is empty. Once the source has failed it refuses each later call.
-    ///
-    /// Whoever writes a source owes this: one that tells what a file has left may not stop before its
-    /// end, as one over `take` would. One that does not tell its bytes is held to it by no proof.
+    /// Whether the source promises to give all its bytes: a read into a piece that is not empty gives none
+    /// only if none are left. A source that does not tell its bytes promises nothing by this.
+    ghost gives_all: { Bool };
+
+    /// Reads bytes into the front of `into`, and returns how many. Once the source has failed it refuses
+    /// each later call.
     fn read(&mut self, into: &mut [u8]) -> Result<usize, DeviceFault>
-        ensures read { IsRead (state self.old) (state self.new) into.new result };
+        ensures read { IsRead gives_all (state self.old) (state self.new) into.new result };
 
     /// Whether a call failed.
     fn failed(&self) -> bool

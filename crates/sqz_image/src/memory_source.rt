@@ -54,9 +54,11 @@ impl Source for MemorySource {
       failed = s.failed;
     } };
 
+    ghost gives_all = { true };
+
     #[tactic(auto, using(crate::proofs::Parts::drop_parts))]
     fn read(&mut self, into: &mut [u8]) -> Result<usize, DeviceFault>
-        ensures read { IsRead (⟦<MemorySource as Source>⟧.state self.old)
+        ensures read { IsRead true (⟦<MemorySource as Source>⟧.state self.old)
             (⟦<MemorySource as Source>⟧.state self.new) into.new result }
         ensures bounded { IfOk result (λ count. count ≤ piece_size self.old) }
         ensures fails { let state = ⟦<MemorySource as Source>⟧.state self.old in

@@ -1,6 +1,6 @@
 //! A source over any reader.
 
-ghost use Rattle.std.specs.Prelude.{◌≡◌, false};
+ghost use Rattle.std.specs.Prelude.{◌≡◌, false, true};
 ghost use Rattle.sqz_image.specs.Devices.{SourceState};
 
 use crate::device::{DeviceFault, Source};
@@ -32,6 +32,8 @@ impl<R: Read> ReadSource<R> {
 
 impl<R: Read> Source for ReadSource<R> {
     ghost state = { λ s. record { left = R.remaining s.inner; reads = s.reads; empty_reads = s.empty_reads; failed = s.failed } };
+
+    ghost gives_all = { true };
 
     fn read(&mut self, into: &mut [u8]) -> Result<usize, DeviceFault> {
         self.reads = self.reads.saturating_add(1);

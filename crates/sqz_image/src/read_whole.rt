@@ -17,13 +17,13 @@ const PIECE: usize = 1 << 16;
 /// How many bytes of room are added at least.
 const LEAST_ROOM: usize = 1 << 20;
 
-/// The bytes that the source has left, all of them. The last read of a call that succeeds is one that
-/// gave no byte, and a source gives none only where it has none left: whoever wrote it owes that.
+/// The bytes that the source gives up to the first read that gives none. If the source promises to give all
+/// its bytes, it then has none left.
 ///
-/// Fails with `OutOfMemory`, or with `ReadFailed` where a read fails, and where 2^32 reads did not
-/// come to the end. Bytes that were read are then lost.
+/// Fails with `OutOfMemory`, or with `ReadFailed` if a read fails or 2^32 reads do not come to the end. The
+/// bytes that were read are then lost.
 pub fn read_all<R: Source>(alloc: Global, source: &mut R) -> Result<Vec<u8>, Fault>
-    ensures whole { IfOk result (λ file. ReadsWhole (R.state source.old) (R.state source.new) file.items) }
+    ensures whole { IfOk result (λ file. ReadsWhole R.gives_all (R.state source.old) (R.state source.new) file.items) }
     ensures stopped { IfErr result (λ fault. ReadStops (R.state source.old) (R.state source.new) fault) }
 {
     let mut file = Vec::new(alloc);

@@ -1,5 +1,5 @@
 -- The compacted memory is a copy of the live objects: its slots name the copies of what the objects' slots named.
--- Serves `CorrespondenceLemmas` and `SettledLemmas` of `sqz_tool`.
+-- Serves `CorrespondenceLemmas` and `FixedPointLemmas` of `sqz_tool`.
 use Rattle.std.proofs.Common.{◌≡◌, ℕ, ◌%◌, Bool, true, false, cond, eqb, List, [], length, Option, Some, None, refl}
 use Rattle.std.proofs.Common.{sym, ap, subst, ◌∙◌}
 use Rattle.std.proofs.Common.{arith, inl, inr}

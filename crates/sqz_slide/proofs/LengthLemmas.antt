@@ -1,6 +1,6 @@
 -- An object keeps its length when it moves, so that the live objects have as many words after as before.
 -- Serves `CompactedLemmas`, `MovedShapeLemmas` and `WordLemmas`; `CompactionLemmas`, `CorrespondenceLemmas` and
--- `SettledLemmas` of `sqz_tool`; `stages::print_moving` of `sqz_stage_times`.
+-- `FixedPointLemmas` of `sqz_tool`; `stages::print_moving` of `sqz_stage_times`.
 use Rattle.std.proofs.Common.{◌≡◌, ℕ, ◌+◌, ◌<◌, Bool, true, false, List, [], ◌∷◌, map, length, take, drop, refl, arith}
 use Rattle.std.specs.List.{concat, AllByRecursion}
 use Rattle.std.proofs.lemmas.List.{length-append, length-map, length-drop, length-take}

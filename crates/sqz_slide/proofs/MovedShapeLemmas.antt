@@ -1,5 +1,5 @@
 -- An object after the move: it has the shape that it had, is a chunk again, and its slots hold new addresses.
--- Serves `CompactedLemmas`, `CopiedLemmas` and `WordLemmas`; `SettledLemmas` of `sqz_tool`.
+-- Serves `CompactedLemmas`, `CopiedLemmas` and `WordLemmas`; `FixedPointLemmas` of `sqz_tool`.
 use Rattle.std.proofs.Common.{◌≡◌, ◌⊎◌, ℕ, zero, suc, ◌+◌, ◌-◌, ◌*◌, ◌%◌, ◌^◌, ◌<◌, ◌≤◌, Bool, true, false, cond, ltb}
 use Rattle.std.proofs.Common.{List, [], ◌∷◌, ◌++◌, map, length, get_or, take, drop, slice_index, Option, Some, None}
 use Rattle.std.proofs.Common.{refl, sym, ap, subst, ◌∙◌, arith, inl, inr}

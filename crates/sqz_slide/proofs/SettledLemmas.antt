@@ -1,6 +1,6 @@
 -- A memory of objects alone, all of which are marked, is its own compaction: each object has its place already, and no word
 -- changes.
--- Serves `SettledLemmas` of `sqz_tool`.
+-- Serves `FixedPointLemmas` of `sqz_tool`.
 use Rattle.std.proofs.Common.{◌≡◌, ℕ, zero, suc, ◌+◌, ◌*◌, ◌/◌, ◌%◌, ◌<◌, Bool, true, false, cond, eqb, List, [], ◌∷◌, ◌++◌}
 use Rattle.std.proofs.Common.{map, length, take, drop, Option, Some, None, refl, sym, ap, ◌∙◌, arith}
 use Rattle.std.specs.Prelude.{replicate, unwrap_or}

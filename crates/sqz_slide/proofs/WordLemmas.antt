@@ -1,5 +1,5 @@
 -- The words of the compacted memory are words of 32 bits.
--- Serves `SettledLemmas` of `sqz_tool`.
+-- Serves `FixedPointLemmas` of `sqz_tool`.
 use Rattle.std.proofs.Common.{◌≡◌, ℕ, zero, suc, ◌+◌, ◌*◌, ◌%◌, ◌^◌, ◌<◌, ◌≤◌, Bool, List, [], ◌∷◌, ◌++◌, length, map, take, drop}
 use Rattle.std.proofs.Common.{slice_index, subst, arith, inl, inr}
 use Rattle.std.specs.List.{concat, AllByRecursion}

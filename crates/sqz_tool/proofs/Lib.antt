@@ -2,5 +2,5 @@ pub mod CompactionLemmas
 pub mod RunLemmas
 pub mod Uniqueness
 mod EndingLemmas
-pub mod SettledLemmas
+pub mod FixedPointLemmas
 pub mod CorrespondenceLemmas

@@ -19,7 +19,7 @@ use Rattle.sqz_tool.specs.Verdict.{IsAccepted, IsRefused}
 use Rattle.sqz_command.specs.Exits.{exit_of}
 use Rattle.sqz_tool.specs.Headline.{IsCompaction, LacksNilIn, HasDefectIn, Sinks, sinks, Reports, Compacts, RefusesFile}
 use Rattle.sqz_tool.specs.Headline.{StopsAtImage, StopsAtCensus, Refuses}
-use Rattle.sqz_tool.proofs.SettledLemmas.{IsSettled-accepted}
+use Rattle.sqz_tool.proofs.FixedPointLemmas.{IsFixedPoint-accepted}
 use Rattle.clap.specs.Words.{Text}
 use Rattle.sqz_tool.specs.FileRuns.{Views, RunsFiles}
 use Rattle.sqz_command.specs.OutputFiles.{new_output}
@@ -50,54 +50,54 @@ none_between : (number : ℕ) → 15 ≤ number → number ≤ 19 → IsOfImage 
 none_between number low high (inl le) = absurd (omega arith)
 none_between number low high (inr ge) = absurd (omega arith)
 
-module _ (weak : Weak) (census : Bool) (from to : SourceState) (old new : Sinks) where
+module _ (gives_all : Bool) (weak : Weak) (census : Bool) (from to : SourceState) (old new : Sinks) where
   -- those of a file are none of memory or of a device
-  file_refuses : (fault : Fault) → IsOfImage (number_of_fault fault) → RefusesFile weak fault from to old new
-      → Refuses weak census from to old new fault
+  file_refuses : (fault : Fault) → IsOfImage (number_of_fault fault) → RefusesFile gives_all weak fault from to old new
+      → Refuses gives_all weak census from to old new fault
   file_refuses OutOfMemory of r = absurd (none_between 15 (omega arith) (omega arith) of)
   file_refuses ReadFailed of r = absurd (none_between 16 (omega arith) (omega arith) of)
   file_refuses WriteFailed of r = absurd (none_between 17 (omega arith) (omega arith) of)
   file_refuses _ of r = r
 
   -- no refusal of a run is one of the command line's words
-  pub Refuses-exit : (fault : Fault) → Refuses weak census from to old new fault → exit_of fault ≢ 2
+  pub Refuses-exit : (fault : Fault) → Refuses gives_all weak census from to old new fault → exit_of fault ≢ 2
   Refuses-exit BadWorkers r = absurd (none_between 18 (omega arith) (omega arith) (IsRefused-number weak r.file BadWorkers r.refused))
   Refuses-exit BadCut r = absurd (none_between 19 (omega arith) (omega arith) (IsRefused-number weak r.file BadCut r.refused))
   Refuses-exit _ r = λ e. absurd (omega (arith, e))
 
   module _ (fault : Fault) where
     -- the source stopped before the end, or memory was refused
-    pub refuses_reading : new ≡ old → ReadStops from to fault → Refuses weak census from to old new fault
+    pub refuses_reading : new ≡ old → ReadStops from to fault → Refuses gives_all weak census from to old new fault
     refuses_reading untouched ((front, taken), inl (memory, unfinished)) =
-        subst (Refuses weak census from to old new) (sym memory)
+        subst (Refuses gives_all weak census from to old new) (sym memory)
         (record { front = front; taken = taken; cause = inl unfinished; untouched = untouched })
     refuses_reading untouched (read, inr (named, cause)) =
-        subst (Refuses weak census from to old new) (sym named)
+        subst (Refuses gives_all weak census from to old new) (sym named)
         (record { stops = (read, inr (refl, cause)); untouched = untouched })
 
     module _ (file : List ℕ) where
       -- memory was refused once a file with a sound header was read
-      refuses_memory : new ≡ old → ReadsWhole from to file → fault ≡ OutOfMemory → file_fault file ≡ None
-          → Refuses weak census from to old new fault
+      refuses_memory : new ≡ old → ReadsWhole gives_all from to file → fault ≡ OutOfMemory → file_fault file ≡ None
+          → Refuses gives_all weak census from to old new fault
       refuses_memory untouched read memory sound =
-          subst (Refuses weak census from to old new) (sym memory)
+          subst (Refuses gives_all weak census from to old new) (sym memory)
           (record { front = file; taken = read.bytes; cause = inr (read, sound); untouched = untouched })
 
       -- the file is refused
-      refuses_for : new ≡ old → ReadsWhole from to file → IsRefused weak file fault → Refuses weak census from to old new fault
+      refuses_for : new ≡ old → ReadsWhole gives_all from to file → IsRefused weak file fault → Refuses gives_all weak census from to old new fault
       refuses_for untouched read refused =
           file_refuses fault (IsRefused-number weak file fault refused)
           (record { file = file; read = read; refused = refused; untouched = untouched })
 
       -- no image was read of the file
-      pub refuses_file : new ≡ old → ReadsWhole from to file
-          → ((fault ≡ OutOfMemory) × (file_fault file ≡ None)) ⊎ IsUnreadable file fault → Refuses weak census from to old new fault
+      pub refuses_file : new ≡ old → ReadsWhole gives_all from to file
+          → ((fault ≡ OutOfMemory) × (file_fault file ≡ None)) ⊎ IsUnreadable file fault → Refuses gives_all weak census from to old new fault
       refuses_file untouched read (inl (memory, sound)) = refuses_memory untouched read memory sound
       refuses_file untouched read (inr unreadable) = refuses_for untouched read (inl unreadable)
 
       -- the image that was read was not compacted
-      pub refuses_image : (image : SavedImage) → new ≡ old → ReadsWhole from to file → Holds file image
-          → (fault ≡ OutOfMemory) ⊎ LacksNilIn weak image fault ⊎ HasDefectIn weak image fault → Refuses weak census from to old new fault
+      pub refuses_image : (image : SavedImage) → new ≡ old → ReadsWhole gives_all from to file → Holds file image
+          → (fault ≡ OutOfMemory) ⊎ LacksNilIn weak image fault ⊎ HasDefectIn weak image fault → Refuses gives_all weak census from to old new fault
       refuses_image image untouched read holds (inl memory) = refuses_memory untouched read memory holds.parts.sound
       refuses_image image untouched read holds (inr (inl lacks)) =
           refuses_for untouched read
@@ -115,8 +115,8 @@ module _ (weak : Weak) (census : Bool) (from to : SourceState) (old new : Sinks)
 
 -- ---- an image that was compacted
 
-module _ (weak : Weak) (census : Bool) (from to : SourceState) (old new : Sinks) (file : List ℕ) (image : SavedImage) (special : ℕ)
-    (pieces : List (List ℕ)) (summary : Summary) (text : List ℕ) (read : ReadsWhole from to file) (holds : Holds file image)
+module _ (gives_all : Bool) (weak : Weak) (census : Bool) (from to : SourceState) (old new : Sinks) (file : List ℕ) (image : SavedImage) (special : ℕ)
+    (pieces : List (List ℕ)) (summary : Summary) (text : List ℕ) (read : ReadsWhole gives_all from to file) (holds : Holds file image)
     (is : IsCompaction weak census image special pieces summary text) where
   accepted : IsAccepted weak file image is.marks
   accepted = record { holds = holds; has_nil = is.has_nil; reachable = is.reachable; sound = is.sound }
@@ -132,14 +132,14 @@ module _ (weak : Weak) (census : Bool) (from to : SourceState) (old new : Sinks)
   -- where a sink stopped the run is refused for that
   refuses_stopped : (fault : Fault) → fault ≡ WriteFailed
       → StopsAtImage compacted_bytes old new ⊎ ((census ≡ true) × StopsAtCensus weak image.memory is.marks compacted_bytes old new)
-      → Refuses weak census from to old new fault
+      → Refuses gives_all weak census from to old new fault
   refuses_stopped fault named stops =
-      subst (Refuses weak census from to old new) (sym named)
+      subst (Refuses gives_all weak census from to old new) (sym named)
       (record { file = file; read = read; image = image; marks = is.marks; accepted = accepted; stops = stops })
 
   -- and not wholly written
   pub refuses_writing : (fault : Fault) → new.census ≡ old.census → WriteStops old.image new.image bytes fault
-      → Refuses weak census from to old new fault
+      → Refuses gives_all weak census from to old new fault
   refuses_writing fault untouched stops =
       let moved = subst (λ (b : List ℕ). WriteStops old.image new.image b fault) is.bytes stops in
       let named = subst (WriteStops old.image new.image compacted_bytes) stops.named moved in
@@ -151,7 +151,7 @@ module _ (weak : Weak) (census : Bool) (from to : SourceState) (old new : Sinks)
 
     -- written, but the census is not
     pub refuses_report : (fault : Fault) → census ≡ true → WriteStops old.census new.census text fault
-        → Refuses weak census from to old new fault
+        → Refuses gives_all weak census from to old new fault
     refuses_report fault asked stops =
         let named = subst (WriteStops old.census new.census text) stops.named stops in
         refuses_stopped fault stops.named
@@ -159,7 +159,7 @@ module _ (weak : Weak) (census : Bool) (from to : SourceState) (old new : Sinks)
 
     module _ (are_bytes : AreBytes file) where
       -- and written, with what there is to report
-      compacts : Reports weak census image.memory is.marks old.census new.census → Compacts weak census from to old new summary
+      compacts : Reports weak census image.memory is.marks old.census new.census → Compacts gives_all weak census from to old new summary
       compacts reported =
           record {
             file = file;
@@ -170,17 +170,17 @@ module _ (weak : Weak) (census : Bool) (from to : SourceState) (old new : Sinks)
             written = moved_written;
             reported = reported;
             counted = is.counted;
-            settled = IsSettled-accepted weak file image is.marks are_bytes accepted;
+            fixed_point = IsFixedPoint-accepted weak file image is.marks are_bytes accepted;
           }
 
       -- no census is asked for
-      pub compacts_alone : census ≡ false → new.census ≡ old.census → Compacts weak census from to old new summary
+      pub compacts_alone : census ≡ false → new.census ≡ old.census → Compacts gives_all weak census from to old new summary
       compacts_alone unasked untouched =
           compacts (subst (λ (c : Bool). Reports weak c image.memory is.marks old.census new.census) (sym unasked) untouched)
 
       -- one is, and its text was written
       pub compacts_and_reports : census ≡ true → WritesWhole old.census new.census text
-          → Compacts weak census from to old new summary
+          → Compacts gives_all weak census from to old new summary
       compacts_and_reports asked whole =
           compacts (subst (λ (c : Bool). Reports weak c image.memory is.marks old.census new.census) (sym asked)
           (text, is.reported asked, whole))

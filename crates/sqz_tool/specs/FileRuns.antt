@@ -1,5 +1,5 @@
 -- Runs from one file to another, of which contracts see no bytes unless the files tell them.
-use Rattle.std.specs.Prelude.{◌≡◌, ◌⊎◌, ℕ, Bool, List, Option}
+use Rattle.std.specs.Prelude.{◌≡◌, ◌⊎◌, ℕ, Bool, true, List, Option}
 use Rattle.clap.specs.Words.{Text}
 use Rattle.sqz_image.specs.declared.fault.Fault.{Fault}
 use Rattle.sqz_image.specs.declared.fault.Fault.TheVariants.{ReadFailed}
@@ -31,12 +31,12 @@ pub record RunsFiles {F S : Type 0} (views : Views F S) (path : Text) (old new :
 -- it was a run that succeeded
 abbrev pub CompactsFiles : {F S : Type 0} → Views F S → Text → Weak → Bool → SinkState → SinkState → Summary → Type 0
 CompactsFiles views path weak census old new summary =
-    RunsFiles views path old new (λ from to before after. Compacts weak census from to before after summary)
+    RunsFiles views path old new (λ from to before after. Compacts true weak census from to before after summary)
 
 -- or a run that was refused
 abbrev pub RefusesFiles : {F S : Type 0} → Views F S → Text → Weak → Bool → SinkState → SinkState → Fault → Type 0
 RefusesFiles views path weak census old new fault =
-    RunsFiles views path old new (λ from to before after. Refuses weak census from to before after fault)
+    RunsFiles views path old new (λ from to before after. Refuses true weak census from to before after fault)
 
 -- the image was not opened, so that nothing was done
 pub record IsUnopened (old new : SinkState) (fault : Fault) : Type 0 where

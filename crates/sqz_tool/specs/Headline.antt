@@ -18,7 +18,7 @@ use Rattle.sqz_census.specs.Text.{census_text}
 use Rattle.sqz_tool.specs.declared.summary.Summary.{Summary}
 use Rattle.sqz_tool.specs.Compacted.{compacted}
 use Rattle.sqz_tool.specs.Verdict.{IsAccepted, IsRefused}
-use Rattle.sqz_tool.specs.Settled.{IsSettled}
+use Rattle.sqz_tool.specs.FixedPoint.{IsFixedPoint}
 
 -- what a run did, in numbers
 abbrev pub summary_of : SavedImage → List Bool → Summary
@@ -74,32 +74,34 @@ abbrev pub Reports : Weak → Bool → Memory → List Bool → SinkState → Si
 Reports weak true memory marks old new = (text : List ℕ) × IsReport memory weak marks text × WritesWhole old new text
 Reports weak false memory marks old new = new ≡ old
 
--- the source gave a file that is accepted, the sink of the image took its compaction and nothing else, these are the
--- numbers, and the compaction is accepted itself, with all its objects reachable, and is its own compaction
-pub record Compacts (weak : Weak) (census : Bool) (from to : SourceState) (old new : Sinks) (summary : Summary) : Type 0 where
+-- the source gave a file that is accepted, the sink of the image took its compaction and nothing else, and these are
+-- the numbers; the written file holds exactly the compacted image, which is accepted, has no unreachable object, and is
+-- its own compaction
+pub record Compacts (gives_all : Bool) (weak : Weak) (census : Bool) (from to : SourceState) (old new : Sinks)
+    (summary : Summary) : Type 0 where
   pub file : List ℕ
-  pub read : ReadsWhole from to file
+  pub read : ReadsWhole gives_all from to file
   pub image : SavedImage
   pub marks : List Bool
   pub accepted : IsAccepted weak file image marks
   pub written : WritesWhole old.image new.image (file_bytes (compacted image weak marks))
   pub reported : Reports weak census image.memory marks old.census new.census
   pub counted : summary ≡ summary_of image marks
-  pub settled : IsSettled weak (file_bytes (compacted image weak marks))
+  pub fixed_point : IsFixedPoint weak (compacted image weak marks)
 
 -- the source gave a file that is refused for this reason, and the sinks are as they were
-pub record RefusesFile (weak : Weak) (fault : Fault) (from to : SourceState) (old new : Sinks) : Type 0 where
+pub record RefusesFile (gives_all : Bool) (weak : Weak) (fault : Fault) (from to : SourceState) (old new : Sinks) : Type 0 where
   pub file : List ℕ
-  pub read : ReadsWhole from to file
+  pub read : ReadsWhole gives_all from to file
   pub refused : IsRefused weak file fault
   pub untouched : new ≡ old
 
 -- memory was refused while the source was read, which has not failed and was not yet at its end, or once it had
 -- given a file with a sound header; bytes from the front of what was left may be gone, and the sinks are as they were
-pub record IsOutOfMemory (from to : SourceState) (old new : Sinks) : Type 0 where
+pub record IsOutOfMemory (gives_all : Bool) (from to : SourceState) (old new : Sinks) : Type 0 where
   pub front : List ℕ
   pub taken : Consumes from.left to.left front
-  pub cause : IsUnfinished from to ⊎ (ReadsWhole from to front × (file_fault front ≡ None))
+  pub cause : IsUnfinished from to ⊎ (ReadsWhole gives_all from to front × (file_fault front ≡ None))
   pub untouched : new ≡ old
 
 -- the source stopped before the end, and the sinks are as they were
@@ -121,9 +123,9 @@ pub record StopsAtCensus (weak : Weak) (memory : Memory) (marks : List Bool) (by
 
 -- the source gave a file that is accepted, and its compaction, or the census where one is asked for, was not wholly
 -- written
-pub record StopsWriting (weak : Weak) (census : Bool) (from to : SourceState) (old new : Sinks) : Type 0 where
+pub record StopsWriting (gives_all : Bool) (weak : Weak) (census : Bool) (from to : SourceState) (old new : Sinks) : Type 0 where
   pub file : List ℕ
-  pub read : ReadsWhole from to file
+  pub read : ReadsWhole gives_all from to file
   pub image : SavedImage
   pub marks : List Bool
   pub accepted : IsAccepted weak file image marks
@@ -131,8 +133,8 @@ pub record StopsWriting (weak : Weak) (census : Bool) (from to : SourceState) (o
       ⊎ ((census ≡ true) × StopsAtCensus weak image.memory marks (file_bytes (compacted image weak marks)) old new)
 
 -- what was done where the run was refused, by the refusal: all others are the first that applies to the file
-abbrev pub Refuses : Weak → Bool → SourceState → SourceState → Sinks → Sinks → Fault → Type 0
-Refuses weak census from to old new OutOfMemory = IsOutOfMemory from to old new
-Refuses weak census from to old new ReadFailed = StopsReading from to old new
-Refuses weak census from to old new WriteFailed = StopsWriting weak census from to old new
-Refuses weak census from to old new fault = RefusesFile weak fault from to old new
+abbrev pub Refuses : Bool → Weak → Bool → SourceState → SourceState → Sinks → Sinks → Fault → Type 0
+Refuses gives_all weak census from to old new OutOfMemory = IsOutOfMemory gives_all from to old new
+Refuses gives_all weak census from to old new ReadFailed = StopsReading from to old new
+Refuses gives_all weak census from to old new WriteFailed = StopsWriting gives_all weak census from to old new
+Refuses gives_all weak census from to old new fault = RefusesFile gives_all weak fault from to old new

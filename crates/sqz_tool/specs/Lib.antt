@@ -1,7 +1,7 @@
 pub mod Compacted
 pub mod Verdict
 pub mod Correspondence
-pub mod Settled
+pub mod FixedPoint
 pub mod Headline
 pub mod FileRuns
 pub mod Plans

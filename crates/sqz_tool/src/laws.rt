@@ -4,11 +4,12 @@ ghost use Rattle.std.specs.Prelude.{◌≡◌, ℕ, List, Bool};
 ghost use Rattle.sqz_image.specs.declared.fault.Fault.{Fault};
 ghost use Rattle.sqz_image.specs.File.{AreBytes};
 ghost use Rattle.sqz_image.specs.Objects.{SavedImage, file_bytes};
+ghost use Rattle.sqz_image.specs.Refusals.{Holds};
 ghost use Rattle.sqz_trace.specs.declared.weak.Weak.{Weak};
 ghost use Rattle.sqz_tool.specs.Compacted.{compacted};
 ghost use Rattle.sqz_tool.specs.Correspondence.{HasMovedObjects};
 ghost use Rattle.sqz_tool.specs.Verdict.{IsAccepted, IsRefused};
-ghost use Rattle.sqz_tool.specs.Settled.{IsSettled};
+ghost use Rattle.sqz_tool.specs.FixedPoint.{IsFixedPoint};
 
 pub use sqz_arguments::laws::worked_options;
 
@@ -25,16 +26,18 @@ pub fn one_refusal()
         → IsRefused weak file fault → IsAccepted weak file image marks → ⊥ }
 {}
 
-/// The compaction of a file of bytes is accepted, all its objects are reachable, and compacting it again gives the same
-/// bytes.
+/// The compaction of an accepted file holds exactly the compacted image, is accepted, and has no unreachable object;
+/// compacting it again gives the same bytes.
 pub fn compacts_once()
     ensures { (weak : Weak) (file : List ℕ) (image : SavedImage) (marks : List Bool) → AreBytes file
-        → IsAccepted weak file image marks → IsSettled weak (file_bytes (compacted image weak marks)) }
+        → IsAccepted weak file image marks → IsFixedPoint weak (compacted image weak marks) }
 {}
 
-/// The objects of a compacted image are the live objects of the image, in their order: each at its place, with its words after the
-/// move, and with the same edges.
+/// The bytes of a compaction hold exactly the compacted image. Its objects are the live objects of the image, in their
+/// order: each at its place (its new address), with its words after the move, and with the same edges.
 pub fn keeps_objects()
-    ensures { (weak : Weak) (file : List ℕ) (image : SavedImage) (marks : List Bool) → IsAccepted weak file image marks
+    ensures held { (weak : Weak) (file : List ℕ) (image : SavedImage) (marks : List Bool) → AreBytes file
+        → IsAccepted weak file image marks → Holds (file_bytes (compacted image weak marks)) (compacted image weak marks) }
+    ensures moved { (weak : Weak) (file : List ℕ) (image : SavedImage) (marks : List Bool) → IsAccepted weak file image marks
         → HasMovedObjects image.memory weak marks (compacted image weak marks).memory }
 {}

@@ -1,6 +1,6 @@
 //! What a command line names, made ready for a run.
 
-ghost use Rattle.std.specs.Prelude.{◌≡◌, ◌⊎◌, IfOk, IfErr};
+ghost use Rattle.std.specs.Prelude.{◌≡◌, ◌⊎◌, true, IfOk, IfErr};
 ghost use Rattle.sqz_image.specs.declared.fault.Fault.TheVariants.{ReadFailed, BadWorkers, BadCut};
 ghost use Rattle.sqz_image.specs.Devices.{new_source};
 ghost use Rattle.sqz_regions.specs.Regions.{Every};
@@ -70,11 +70,11 @@ impl<'a, T: Files + Threads + Sync> Opened<'a, T> {
         out: &mut C,
         gate: &G,
     ) -> Result<Summary, Fault>
-        ensures compacts { IfOk result (λ summary. Compacts self.old.plan.weak self.old.plan.census
+        ensures compacts { IfOk result (λ summary. Compacts true self.old.plan.weak self.old.plan.census
             (⟦<ReadSource<T::File> as Source>⟧.state self.old.source) (⟦<ReadSource<T::File> as Source>⟧.state self.new.source)
             (sinks (⟦<OutputFile<'a, T> as Sink>⟧.state self.old.sink) (C.state out.old))
             (sinks (⟦<OutputFile<'a, T> as Sink>⟧.state self.new.sink) (C.state out.new)) summary) }
-        ensures refuses { IfErr result (λ fault. Refuses self.old.plan.weak self.old.plan.census
+        ensures refuses { IfErr result (λ fault. Refuses true self.old.plan.weak self.old.plan.census
             (⟦<ReadSource<T::File> as Source>⟧.state self.old.source) (⟦<ReadSource<T::File> as Source>⟧.state self.new.source)
             (sinks (⟦<OutputFile<'a, T> as Sink>⟧.state self.old.sink) (C.state out.old))
             (sinks (⟦<OutputFile<'a, T> as Sink>⟧.state self.new.sink) (C.state out.new)) fault) }

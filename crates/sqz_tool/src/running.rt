@@ -34,9 +34,9 @@ pub fn run<T: Threads + Sync, R: Source, W: Sink, C: Sink, G: Gate>(
     report: &mut C,
     gate: &G,
 ) -> Result<Summary, Fault>
-    ensures compacts { IfOk result (λ summary. Compacts plan.now.weak plan.now.census (R.state source.old) (R.state source.new)
+    ensures compacts { IfOk result (λ summary. Compacts R.gives_all plan.now.weak plan.now.census (R.state source.old) (R.state source.new)
         (sinks (W.state sink.old) (C.state report.old)) (sinks (W.state sink.new) (C.state report.new)) summary) }
-    ensures refuses { IfErr result (λ fault. Refuses plan.now.weak plan.now.census (R.state source.old) (R.state source.new)
+    ensures refuses { IfErr result (λ fault. Refuses R.gives_all plan.now.weak plan.now.census (R.state source.old) (R.state source.new)
         (sinks (W.state sink.old) (C.state report.old)) (sinks (W.state sink.new) (C.state report.new)) fault) }
 {
     let bytes = read_all(alloc, source)?;

@@ -7,13 +7,13 @@ use Rattle.sqz_image.proofs.read_whole.read_all.Goals as goal
 pub returns-in_err-append-clause-stopped : goal.returns-in_err-append-clause-stopped
 returns-in_err-append-clause-stopped g c =
     let p = err_from_is_err_and c.from_residual.result c.from_residual.ensures.1 in
-    rw (p.1, p.2, c.in_err-append.ensures.stopped) (ReadStops-memory _ _ _ _ _ _ c.loop.invariant.has_read
+    rw (p.1, p.2, c.in_err-append.ensures.stopped) (ReadStops-memory _ _ _ _ _ _ _ c.loop.invariant.has_read
     c.in-Ok.count c.in-Ok.ensures.read (omega (arith, c.if-count-eq0.false)) (omega arith))
 
 pub returns-clause-stopped : goal.returns-clause-stopped
 returns-clause-stopped g c =
     let last : c.loop.counter - 1 + 1 ≡ 2 ^ 32 = omega arith in
-    ReadStops-limit _ _ _ _ _ _ c.loop.invariant.has_read _ c.read-2.ensures.read last
+    ReadStops-limit _ _ _ _ _ _ _ c.loop.invariant.has_read _ c.read-2.ensures.read last
 
 pub returns-in_default-clause-stopped : goal.returns-in_default-clause-stopped
 returns-in_default-clause-stopped g c = search rules

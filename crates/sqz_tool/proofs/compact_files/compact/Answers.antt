@@ -1,4 +1,4 @@
-use Rattle.std.proofs.Common.{ap, inr}
+use Rattle.std.proofs.Common.{true, ap, inr}
 use Rattle.std.proofs.lemmas.Result.{IfErr-weaker, IfOk-weaker}
 use Rattle.sqz_command.specs.Exits.{exit_of}
 use Rattle.sqz_tool.specs.Headline.{Compacts, Refuses}
@@ -8,14 +8,14 @@ use Rattle.sqz_tool.proofs.compact_files.compact.Goals as goal
 pub returns-clause-workers : goal.returns-clause-workers
 returns-clause-workers g c =
     IfErr-weaker c.run.result _ _ (λ fault refused. (
-      (λ e. absurd (Refuses-exit _ _ _ _ _ _ fault refused (ap exit_of e))),
+      (λ e. absurd (Refuses-exit _ _ _ _ _ _ _ fault refused (ap exit_of e))),
       (λ none. absurd (none c.in_ok-opened.ensures.taken.0)),
     )) c.run.ensures.refuses
 
 pub returns-clause-cut : goal.returns-clause-cut
 returns-clause-cut g c =
     IfErr-weaker c.run.result _ _ (λ fault refused. (
-      (λ e. absurd (Refuses-exit _ _ _ _ _ _ fault refused (ap exit_of e))),
+      (λ e. absurd (Refuses-exit _ _ _ _ _ _ _ fault refused (ap exit_of e))),
       (λ none. absurd (none.1 c.in_ok-opened.ensures.taken.1)),
     )) c.run.ensures.refuses
 
@@ -23,7 +23,7 @@ pub returns-clause-compacts : goal.returns-clause-compacts
 returns-clause-compacts g c =
     let opened = c.in_ok-opened.ensures in
     IfOk-weaker c.run.result _ _ (λ summary compacts.
-    runs_files _ _ _ _ (λ weak census from to before after. Compacts weak census from to before after summary) _ _ _ _ opened.not_read.0
+    runs_files _ _ _ _ (λ weak census from to before after. Compacts true weak census from to before after summary) _ _ _ _ opened.not_read.0
     _ _ c.in_ok-opened.opened.sink c.run.new.self.sink opened.weak opened.census opened.not_read.1 opened.path opened.not_made
     compacts) c.run.ensures.compacts
 
@@ -31,6 +31,6 @@ pub returns-clause-refuses : goal.returns-clause-refuses
 returns-clause-refuses g c =
     let opened = c.in_ok-opened.ensures in
     IfErr-weaker c.run.result _ _ (λ fault refused workers cut. inr (
-    runs_files _ _ _ _ (λ weak census from to before after. Refuses weak census from to before after fault) _ _ _ _ opened.not_read.0
+    runs_files _ _ _ _ (λ weak census from to before after. Refuses true weak census from to before after fault) _ _ _ _ opened.not_read.0
     _ _ c.in_ok-opened.opened.sink c.run.new.self.sink opened.weak opened.census opened.not_read.1 opened.path opened.not_made
     refused)) c.run.ensures.refuses

@@ -1,4 +1,4 @@
--- What is left of an image is its own compaction.
+-- A compacted image is a fixed point of compaction.
 -- Serves `laws::compacts_once` and `RunLemmas`.
 use Rattle.std.proofs.Common.{◌≡◌, ℕ, ◌+◌, ◌*◌, ◌^◌, ◌<◌, ◌≤◌, Bool, true, false, cond, List, [], length, slice_index, Some, None}
 use Rattle.std.proofs.Common.{refl, sym, ap, ◌∙◌, arith, is_some}
@@ -7,6 +7,7 @@ use Rattle.std.proofs.lemmas.List.{get_or-replicate}
 use Rattle.sqz_object.specs.Chunk.{IsChunk, is_object}
 use Rattle.sqz_image.specs.File.{AreBytes, renewed}
 use Rattle.sqz_image.specs.Objects.{Memory, SavedImage, object_count, find, file_bytes}
+use Rattle.sqz_image.specs.Refusals.{Holds}
 use Rattle.sqz_image.proofs.SavedLemmas.{IsSaved, IsSaved-read, HasChunks-saved}
 use Rattle.sqz_image.proofs.FoundLemmas.{address-find}
 use Rattle.sqz_image.proofs.RenewedLemmas.{length-renewed, version-renewed, header_size-renewed, base_address-renewed}
@@ -28,7 +29,7 @@ use Rattle.sqz_slide.proofs.WordLemmas.{moved_objects-lt}
 use Rattle.sqz_tool.proofs.CompactionLemmas.{new_special-place}
 use Rattle.sqz_tool.specs.Compacted.{new_special, compacted_memory, compacted_header, compacted}
 use Rattle.sqz_tool.specs.Verdict.{IsAccepted}
-use Rattle.sqz_tool.specs.Settled.{IsSettled}
+use Rattle.sqz_tool.specs.FixedPoint.{IsFixedPoint}
 
 module _ (image : SavedImage) (weak : Weak) (marks : List Bool) (saved : IsSaved image)
     (reachable : IsReachability image.memory weak marks) (has_nil : lacks_nil image.memory weak ≡ false)
@@ -169,30 +170,33 @@ module _ (image : SavedImage) (weak : Weak) (marks : List Bool) (saved : IsSaved
       ∙ ap (λ (special : ℕ). image_of once special (moved_objects left weak all_left)) special_stays
       ∙ ap (image_of once special_there) (moved_objects-settled left weak chunks alone)
 
+  -- the compacted image's file holds exactly this image
+  pub Holds-compacted : Holds (file_bytes (compacted image weak marks)) (compacted image weak marks)
+  Holds-compacted = record { parts = HasChunks-saved remainder IsSaved-compacted; special = ap is_some found_left }
+
   -- its file is accepted
   accepted_left : IsAccepted weak (file_bytes remainder) remainder all_left
   accepted_left =
       record {
-        holds = record { parts = HasChunks-saved remainder IsSaved-compacted; special = ap is_some found_left };
+        holds = Holds-compacted;
         has_nil = lacks_nil-copy image.memory left weak marks new copy reachable has_nil sound;
         reachable = IsReachability-copy image.memory left weak marks new copy reachable has_nil sound;
         sound = first_defect-copy image.memory left weak marks new copy reachable has_nil sound;
       }
 
-  -- so its file is settled
-  pub IsSettled-compacted : IsSettled weak (file_bytes (compacted image weak marks))
-  IsSettled-compacted =
+  -- so it is a fixed point
+  pub IsFixedPoint-compacted : IsFixedPoint weak (compacted image weak marks)
+  IsFixedPoint-compacted =
       record {
-        image = remainder;
         marks = all_left;
         accepted = accepted_left;
         all = marked_left;
         same = ap file_bytes compacted-same;
       }
 
--- the compaction of a file of bytes that is accepted is settled
-pub IsSettled-accepted : (weak : Weak) (file : List ℕ) (image : SavedImage) (marks : List Bool) → AreBytes file
-    → IsAccepted weak file image marks → IsSettled weak (file_bytes (compacted image weak marks))
-IsSettled-accepted weak file image marks bytes accepted =
-    IsSettled-compacted image weak marks (IsSaved-read file image bytes accepted.holds.parts)
+-- the compaction of a file of bytes that is accepted is a fixed point
+pub IsFixedPoint-accepted : (weak : Weak) (file : List ℕ) (image : SavedImage) (marks : List Bool) → AreBytes file
+    → IsAccepted weak file image marks → IsFixedPoint weak (compacted image weak marks)
+IsFixedPoint-accepted weak file image marks bytes accepted =
+    IsFixedPoint-compacted image weak marks (IsSaved-read file image bytes accepted.holds.parts)
     accepted.reachable accepted.has_nil accepted.sound
