@@ -16,6 +16,8 @@ mod headers;
 #[cfg(test)]
 mod held;
 #[cfg(test)]
+mod pausing_sources;
+#[cfg(test)]
 mod plans;
 #[cfg(test)]
 mod prefixes;
