@@ -1,6 +1,7 @@
 pub mod ShadeLemmas
 pub mod SlotLemmas
 pub mod StrongLemmas
+pub mod CompactClassLemmas
 pub mod EdgeLemmas
 pub mod NamedLemmas
 pub mod ReachabilityLemmas

@@ -1,5 +1,5 @@
 -- The strong fields of an object, by its class word alone and by its class.
--- Serves `CopyLemmas`; `MovedLemmas` and `MovedShapeLemmas` of `sqz_slide`; `GroupLemmas` of `sqz_census`.
+-- Serves `CopyLemmas` and `CompactClassLemmas`; `MovedLemmas` and `MovedShapeLemmas` of `sqz_slide`; `GroupLemmas` of `sqz_census`.
 use Rattle.std.proofs.Common.{◌≡◌, ℕ, ◌≤◌, Bool, true, false, cond, List, length, Option, Some, None, refl, ap, subst}
 use Rattle.std.proofs.Common.{sym, ◌∙◌, arith, inl, inr}
 use Rattle.std.proofs.lemmas.Bool.{cases_lt, lt-ltb, le-ltb}
@@ -18,6 +18,13 @@ use Rattle.sqz_trace.specs.Edges.{strong_target}
 use Rattle.sqz_trace.proofs.SlotLemmas.{traced_inside}
 use Rattle.sqz_trace.proofs.TargetLemmas.{named_among-more}
 
+-- where the header has no class word, none points to a class
+pub named_in-no_class_word : (memory : Memory) (chunk : List ℕ) (kind : Kind) → chunk_kind chunk ≡ kind
+    → class_word kind chunk ≡ None → named_in memory chunk ClassWord ≡ None
+named_in-no_class_word memory chunk kind is lacks =
+    ap (λ k. option_and_then (named_by memory) (option_map class_address (class_word k chunk))) is
+    ∙ ap (λ word. option_and_then (named_by memory) (option_map class_address word)) lacks
+
 module _ (memory : Memory) (weak : Weak) where
   -- without a class there are no more strong fields than with one
   strong_by-none : (chunk : List ℕ) (class : Option ℕ) → strong_by memory weak chunk None ≤ strong_by memory weak chunk class
@@ -33,21 +40,17 @@ module _ (memory : Memory) (weak : Weak) where
   strong_by_word-le : (chunk : List ℕ) → strong_by_word memory weak chunk ≤ strong memory weak chunk
   strong_by_word-le chunk = by_kind (chunk_kind chunk) refl
     where
-      none : (kind : Kind) → chunk_kind chunk ≡ kind → class_word kind chunk ≡ None → named_in memory chunk ClassWord ≡ None
-      none kind is lacks =
-          ap (λ k. option_and_then (named_by memory) (option_map class_address (class_word k chunk))) is
-          ∙ ap (λ word. option_and_then (named_by memory) (option_map class_address word)) lacks
-
       by_kind : (kind : Kind) → chunk_kind chunk ≡ kind
           → strong_by_word memory weak chunk ≤ strong_by memory weak chunk (class_by memory weak chunk kind)
       by_kind Three is = omega arith
       by_kind Two is = omega arith
       by_kind Free is =
-          subst (λ class. strong_by memory weak chunk class ≤ strong_by memory weak chunk None) (sym (none Free is refl)) (omega arith)
+          subst (λ class. strong_by memory weak chunk class ≤ strong_by memory weak chunk None)
+          (sym (named_in-no_class_word memory chunk Free is refl)) (omega arith)
       by_kind Short is =
           let class = class_by memory weak chunk Short in
-          subst (λ word. strong_by memory weak chunk word ≤ strong_by memory weak chunk class) (sym (none Short is refl))
-          (strong_by-none chunk class)
+          subst (λ word. strong_by memory weak chunk word ≤ strong_by memory weak chunk class)
+          (sym (named_in-no_class_word memory chunk Short is refl)) (strong_by-none chunk class)
 
   -- what leads to a class by a compact index are strong slots
   pub held_by_word-target : (index field found : ℕ) → held_by_word memory weak index field ≡ Some found

@@ -2,6 +2,7 @@ pub mod Slots
 pub mod Targets
 pub mod Strong
 pub mod Edges
+pub mod CompactClasses
 pub mod Graph
 pub mod Reachability
 pub mod Marking

@@ -60,7 +60,9 @@ held_by_word memory weak index field =
 abbrev pub compact_classes : Memory → Weak → Option ℕ
 compact_classes memory weak = option_and_then (λ special. held_by_word memory weak special 28) (find memory memory.special)
 
--- the class with a compact index: field 0 of the array of compact classes names the one with index 1
+-- the class with a compact index: field 0 of the array of compact classes points to the one with index 1. The
+-- format defines it by the targets of strong slots (`CompactClasses`), and `laws::class_by_compact_index` says
+-- that both are one
 abbrev pub compact_class : Memory → Weak → ℕ → Option ℕ
 compact_class memory weak zero = None
 compact_class memory weak (suc field) =

@@ -7,6 +7,7 @@ mod defects;
 mod finishing;
 mod fixed;
 mod greying;
+pub mod laws;
 mod lowest_defect;
 mod marking;
 mod marks;
