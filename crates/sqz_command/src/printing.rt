@@ -2,9 +2,17 @@
 
 ghost use Rattle.sqz_command.specs.Lines.{Prints};
 
+use clap::Error;
 use sqz_image::{Sink, write_all};
 use std::fmt;
-use std::fmt::{Display, Write};
+use std::fmt::Write;
+
+/// Prints a text, and takes no memory for it. If the sink fails, it took a front of the text.
+pub fn print<W: Sink>(sink: &mut W, text: &[u8])
+    ensures { Prints (W.state sink.old) (W.state sink.new) text.now }
+{
+    let _ = write_all(sink, text);
+}
 
 /// Passes text on to a sink.
 #[derive(Drop)]
@@ -27,15 +35,9 @@ impl<W: Sink> fmt::Write for TextSink<'_, W> {
     }
 }
 
-/// Prints a value, and takes no memory for it. Where the sink fails, the rest is left out.
-pub fn print<W: Sink, D: Display + Drop>(sink: &mut W, value: D) {
+/// Prints what `clap` says in place of arguments, and takes no memory for it. If the sink fails, the rest is
+/// left out. There is no clause, since the contracts of `clap` do not tell this text.
+pub(crate) fn print_error<W: Sink>(sink: &mut W, error: &Error) {
     let mut text = TextSink { sink };
-    let _ = write!(text, "{value}");
-}
-
-/// Prints bytes, and takes no memory for it. Where the sink fails, the rest is left out.
-pub(crate) fn print_bytes<W: Sink>(sink: &mut W, bytes: &[u8])
-    ensures { Prints (W.state sink.old) (W.state sink.new) bytes.now }
-{
-    let _ = write_all(sink, bytes);
+    let _ = write!(text, "{error}");
 }

@@ -9,7 +9,7 @@ ghost use Rattle.sqz_command.specs.Lines.{PrintsFault};
 
 use crate::exits::{BAD_ARGUMENTS, DONE, exit_of};
 use crate::fault_line::fault_line;
-use crate::printing::{print, print_bytes};
+use crate::printing::{print, print_error};
 use clap::Error;
 use clap::error::ErrorKind;
 use sqz_image::{Fault, Sink};
@@ -19,7 +19,7 @@ pub fn refuse<E: Sink>(fault: &Fault, err: &mut E) -> u8
     ensures exit { result ≡ exit_of fault.now }
     ensures line { PrintsFault (E.state err.old) (E.state err.new) fault.now }
 {
-    print_bytes(err, fault_line(fault).as_slice());
+    print(err, fault_line(fault).as_slice());
     exit_of(fault)
 }
 
@@ -33,11 +33,11 @@ pub fn explain<C: Sink, E: Sink>(error: &Error, out: &mut C, err: &mut E) -> u8
     match error.kind() {
         ErrorKind::OutOfMemory => refuse(&Fault::OutOfMemory, err),
         ErrorKind::DisplayHelp | ErrorKind::DisplayVersion => {
-            print(out, error);
+            print_error(out, error);
             DONE
         }
         _ => {
-            print(err, error);
+            print_error(err, error);
             BAD_ARGUMENTS
         }
     }

@@ -4,7 +4,7 @@ ghost use Rattle.std.specs.Prelude.{◌≡◌, codes};
 ghost use Rattle.sqz_command.specs.Lines.{Prints};
 
 use crate::exits::BAD_ARGUMENTS;
-use crate::printing::print_bytes;
+use crate::printing::print;
 use sqz_image::Sink;
 
 /// Prints one line, which says that a word of the command line is no text, and answers what the program
@@ -13,6 +13,6 @@ pub fn refuse_words<E: Sink>(err: &mut E) -> u8
     ensures exit { result ≡ 2 }
     ensures line { Prints (E.state err.old) (E.state err.new) (codes "error: an argument is not valid text\n") }
 {
-    print_bytes(err, b"error: an argument is not valid text\n");
+    print(err, b"error: an argument is not valid text\n");
     BAD_ARGUMENTS
 }

@@ -9,8 +9,12 @@ use crate::refusal::Refusal;
 use sqz_command::{BAD_ARGUMENTS, BAD_IMAGE, DONE, explain, print, refuse};
 use sqz_image::{Sink, write_all};
 use std::alloc::Global;
+use std::fmt::InlineText;
 use std::rt::Files;
 use std::thread::Threads;
+
+/// The length in bytes of the line for an address that no object has.
+const NO_OBJECT: usize = 22;
 
 /// Answers the question that a command line asks about an image, and answers what the program is to end with: 0 where the answer
 /// was printed, 1 where the image is at fault or has no object at the address, 2 where the words are, 3 where a file could not be
@@ -59,11 +63,12 @@ fn explain_refusal<E: Sink>(refusal: Refusal, err: &mut E) -> u8
     match refusal {
         Refusal::Faulty(fault) => refuse(&fault, err),
         Refusal::NoAddress => {
-            print(err, "error: an address has eight hexadecimal digits\n");
+            print(err, b"error: an address has eight hexadecimal digits\n");
             BAD_ARGUMENTS
         }
         Refusal::NoObject(address) => {
-            print(err, format_args!("no object at {address:08x}\n"));
+            let line = InlineText::<NO_OBJECT>::of(format_args!("no object at {address:08x}\n"));
+            print(err, line.as_str().as_bytes());
             BAD_IMAGE
         }
     }
