@@ -6,7 +6,7 @@ ghost use Rattle.sqz_image.specs.Objects.{object_count};
 use super::images::{FREE_AT_THE_END, LONG_HEADER, dead_cycle_image};
 use sqz_image::{Heap, Image};
 use sqz_regions::{Cut, Forward, Regions, bases, live_words};
-use sqz_test_images::accepted::SPECIAL_ARRAY_ALONE;
+use sqz_test_images::accepted::{SPECIAL_ARRAY_ALONE, THREE_WORD_HEADER};
 use sqz_test_images::image_of;
 use sqz_trace::{Marks, Weak, mark_plain};
 use std::alloc::Global;
@@ -136,9 +136,57 @@ fn dead_cycle(rt: HostRuntime) -> Result<(), Fail> {
     assert_places(&rt, &image, &cut, WORD_SUMS, WORD_BASES, places)
 }
 
-/// The third object has six words, of which three are header words.
+/// Asserts which objects each region has: the index of the first, and that after the last.
+fn assert_objects<R: Abort>(rt: &R, regions: &Regions<'_>, wanted: &[(u32, u32)]) {
+    assert_eq!(rt; regions.count() as usize, wanted.len());
+    for (region, objects) in wanted.iter().enumerate() {
+        let found = regions.objects(region as u32);
+        assert_eq!(rt; found, *objects, "region {region}");
+    }
+}
+
+/// Asserts the region of each object of a heap.
+fn assert_region_of_each<R: Abort>(rt: &R, heap: &Heap, regions: &Regions<'_>, wanted: &[u32])
+    requires { regions.now.memory ≡ heap.now }
+{
+    assert_eq!(rt; heap.len() as usize, wanted.len());
+    for (object, region) in wanted.iter().enumerate() {
+        let found = regions.region(object as u32);
+        assert_eq!(rt; found, *region, "object {object}");
+    }
+}
+
+/// Asserts which objects each region of an image has under a cut, and the region of each object.
+fn assert_regions<R: Abort + AllocGlobal>(
+    rt: &R,
+    image: &Image,
+    cut: &Cut,
+    objects: &[(u32, u32)],
+    regions: &[u32],
+) -> Result<(), Fail> {
+    let heap = image.heap();
+    let found = Regions::of(rt.alloc(), heap, cut)?;
+    assert_objects(rt, &found, objects);
+    assert_region_of_each(rt, heap, &found, regions);
+    Ok(())
+}
+
+/// One cut point is inside the dead second object, and two are inside the third, which has 66
+/// words: at its base header, and among its fields.
 #[test]
 fn cut_points_inside_objects(rt: HostRuntime) -> Result<(), Fail> {
+    let image = image_of(rt.alloc(), &THREE_WORD_HEADER)?;
+    let cut = cut_at(rt.alloc(), &[2, 6, 40])?;
+    let objects = [(0, 2), (2, 3), (3, 3), (3, 4)];
+    assert_regions(&rt, &image, &cut, &objects, &[0, 0, 1, 3])?;
+    let places = [Some(0x1000), None, Some(0x100C), Some(0x110C)];
+    let bases = [0x1000, 0x1004, 0x110C, 0x110C];
+    assert_places(&rt, &image, &cut, &[1, 66, 0, 3], &bases, &places)
+}
+
+/// The third object has six words, of which three are header words.
+#[test]
+fn cut_points_in_small_objects(rt: HostRuntime) -> Result<(), Fail> {
     let image = image_of(rt.alloc(), &LONG_HEADER)?;
     let places = [Some(0x1000), None, Some(0x100C), Some(0x101C)];
     let bases = [0x1000, 0x1004, 0x101C, 0x101C];
@@ -153,6 +201,22 @@ fn cut_points_inside_objects(rt: HostRuntime) -> Result<(), Fail> {
         &bases,
         &places,
     )
+}
+
+#[test]
+fn no_cut_point(rt: HostRuntime) -> Result<(), Fail> {
+    let image = dead_cycle_image(rt.alloc())?;
+    let cut = cut_at(rt.alloc(), &[])?;
+    assert_regions(&rt, &image, &cut, &[(0, 6)], &[0; 6])
+}
+
+#[test]
+fn one_word(rt: HostRuntime) -> Result<(), Fail> {
+    let image = image_of(rt.alloc(), &SPECIAL_ARRAY_ALONE)?;
+    let cut = Cut::every(1)?;
+    assert_regions(&rt, &image, &cut, &[(0, 1)], &[0])?;
+    let cut = cut_at(rt.alloc(), &[5])?;
+    assert_regions(&rt, &image, &cut, &[(0, 1), (1, 1)], &[0])
 }
 
 #[test]
