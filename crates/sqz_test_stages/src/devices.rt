@@ -1,9 +1,31 @@
 //! Devices that pass calls on: what goes through them, and what does not once they failed.
 
-use sqz_image::{Fault, ReadSource, Sink, Source, WriteSink, read_all, write_all};
+use sqz_image::{Fault, MemorySource, ReadSource, Sink, Source, WriteSink, read_all, write_all};
+use sqz_test_images::accepted::DEAD_ARRAY;
+use sqz_test_images::file_of;
 use std::io::{Cursor, ErrorKind, Read, Write};
 use std::process::Abort;
 use std::test::Fail;
+
+/// Asserts that all of a file is read from a source that gives so many bytes at once.
+fn assert_reads<R: Abort + AllocGlobal>(rt: &R, file: &[u8], piece: u32) -> Result<(), Fail> {
+    let bytes = file.to_vec(rt.alloc())?;
+    let mut source = MemorySource::new(bytes, piece.max(1), None);
+    let found = read_all(rt.alloc(), &mut source)?;
+    assert!(rt; !source.failed());
+    assert_eq!(rt; found.as_slice(), file, "in pieces of {piece}");
+    Ok(())
+}
+
+#[test]
+fn reads_a_file_in_pieces_of_any_size(rt: HostRuntime) -> Result<(), Fail> {
+    let file = file_of(rt.alloc(), &DEAD_ARRAY)?;
+    assert_eq!(rt; file.len(), 88);
+    for piece in [1, 7, 88] {
+        assert_reads(&rt, &file, piece)?;
+    }
+    Ok(())
+}
 
 /// Bytes that tell where they stand.
 const BYTES: [u8; 16] = [0, 1, 2, 3, 4, 5, 6, 7, 8, 9, 10, 11, 12, 13, 14, 15];
