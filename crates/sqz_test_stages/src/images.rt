@@ -155,6 +155,21 @@ pub(crate) fn dead_cycle_image(alloc: Global) -> Result<Image, Fail> {
     Ok(image_of(alloc, &DEAD_CYCLE)?)
 }
 
+/// An image of nil, a byte object of `words` words after its three header words, and the special
+/// objects array, which points to it. All are live.
+pub(crate) fn long_object_image(alloc: Global, words: u32) -> Result<Image, Fail>
+    requires { words < 1000000 }
+{
+    let order = Order::Little;
+    let special = 0x1010 + 4 * words;
+    let mut file = Vec::new(alloc);
+    put_header(&mut file, order, 28 + 4 * words, 0x1000, special)?;
+    put_words(&mut file, order, &[0x1007, 4 + 4 * words, 0x1000, 0x800])?;
+    file.resize(80 + 4 * words as usize, 7)?;
+    put_words(&mut file, order, &[0x320F, 0x1000, 0x100C])?;
+    Ok(read_image(alloc, &file)?)
+}
+
 /// An image of nil, of so many objects that each name the next one, and of the special objects array, which names the first.
 pub(crate) fn chain_image(alloc: Global, count: u32) -> Result<Image, Fail>
     requires { count < 10000 }

@@ -61,7 +61,7 @@ fn joined(alloc: Global, pieces: &[Vec<u32>]) -> Result<Vec<u32>, AllocError> {
 }
 
 /// Asserts that pieces have so many words each.
-fn assert_sizes<R: Abort>(rt: &R, pieces: &[Vec<u32>], sizes: &[usize]) {
+pub(crate) fn assert_sizes<R: Abort>(rt: &R, pieces: &[Vec<u32>], sizes: &[usize]) {
     assert_eq!(rt; pieces.len(), sizes.len());
     for (piece, size) in pieces.iter().zip(sizes) {
         assert_eq!(rt; piece.len(), *size);

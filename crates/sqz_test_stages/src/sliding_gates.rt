@@ -1,8 +1,11 @@
 //! Sliding, as a gate sees it: who takes turns, and when.
 
 use super::gates::{Hold, MEETING, TurnGate, assert_held, turn_of};
-use super::images::dead_cycle_image;
-use super::sliding::{assert_pieces, slid};
+use super::images::{dead_cycle_image, long_object_image};
+use super::sliding::{assert_pieces, assert_sizes, slid, slid_by};
+use sqz_image::Image;
+use sqz_regions::Cut;
+use sqz_slide::Pieces;
 use sqz_test_images::answers::DEAD_CYCLE_ANSWER;
 use sqz_trace::Weak;
 use sqz_workers::Phase;
@@ -63,5 +66,39 @@ fn worker_without_regions_passes_once(rt: HostRuntime) -> Result<(), Fail> {
     let gate = TurnGate::new(Phase::Slide, &[]);
     assert_slides_to(&rt, &gate, &[], &[8])?;
     assert_turns(&rt, &gate, 1, 1);
+    Ok(())
+}
+
+/// The pieces that two workers make of an image in regions of 65536 words, past a gate.
+fn slid_by_two<R: Threads + Sync + AllocGlobal>(
+    rt: &R,
+    image: &Image,
+    gate: &TurnGate<'_>,
+) -> Result<Pieces, Fail> {
+    let cut = Cut::every(65_536)?;
+    slid_by(rt, image.heap(), Weak::Keep, &cut, 2, gate)
+}
+
+/// Each worker passes the gate once, with one region or with none. So a gate cannot tell which of
+/// the two has the region; `second_worker_has_more_regions` shows how shares are rounded.
+#[test]
+fn one_region_for_two_workers(rt: HostRuntime) -> Result<(), Fail> {
+    let gate = TurnGate::new(Phase::Slide, &[]);
+    let image = dead_cycle_image(rt.alloc())?;
+    let pieces = slid_by_two(&rt, &image, &gate)?;
+    assert_pieces(&rt, &pieces, &[8], &DEAD_CYCLE_ANSWER)?;
+    assert_turns(&rt, &gate, 1, 1);
+    Ok(())
+}
+
+/// Where shares begin is rounded down: of three regions the first worker has one and the second
+/// has two, and so of one region the first has none. No object begins in the second region.
+#[test]
+fn second_worker_has_more_regions(rt: HostRuntime) -> Result<(), Fail> {
+    let gate = TurnGate::new(Phase::Slide, &[]);
+    let image = long_object_image(rt.alloc(), 140_000)?;
+    let pieces = slid_by_two(&rt, &image, &gate)?;
+    assert_sizes(&rt, pieces.as_slice(), &[140_004, 0, 3]);
+    assert_turns(&rt, &gate, 1, 2);
     Ok(())
 }
