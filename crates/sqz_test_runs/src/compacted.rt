@@ -18,7 +18,7 @@ use std::test::Fail;
 use std::thread::Threads;
 
 /// Asserts what is left of an image, whether weak slots are kept or cleared.
-fn assert_left<R: Threads + Wait + Sync + Abort + AllocGlobal>(
+pub(crate) fn assert_left<R: Threads + Wait + Sync + Abort + AllocGlobal>(
     rt: &R,
     image: &TestImage,
     answer: &TestImage,

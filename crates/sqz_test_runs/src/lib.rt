@@ -16,6 +16,8 @@ mod headers;
 #[cfg(test)]
 mod held;
 #[cfg(test)]
+mod object_sizes;
+#[cfg(test)]
 mod pausing_sources;
 #[cfg(test)]
 mod plans;
@@ -23,6 +25,8 @@ mod plans;
 mod prefixes;
 #[cfg(test)]
 mod runs;
+#[cfg(test)]
+mod summaries;
 #[cfg(test)]
 mod truncated;
 #[cfg(test)]

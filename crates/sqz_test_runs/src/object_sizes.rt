@@ -1,0 +1,29 @@
+//! The largest object that a short header can state, and an object one word larger.
+
+use super::compacted::assert_left;
+use sqz_test_images::Chunk::{Array, Long};
+use sqz_test_images::accepted::{LARGEST_SHORT_OBJECT, THREE_WORD_HEADER};
+use sqz_test_images::{EMPTY, NIL, TestImage};
+use std::test::Fail;
+
+/// What `THREE_WORD_HEADER` is compacted to.
+const THREE_WORD_HEADER_ANSWER: TestImage = TestImage {
+    chunks: &[
+        NIL,
+        Long(0x1000, 0, 2, &[1; 63], &[]),
+        Array(&[0x1000, 0x100C]),
+    ],
+    special: 0x110C,
+    ..EMPTY
+};
+
+/// A header word of its own states the size, and the object moves with its three header words.
+#[test]
+fn object_of_64_words(rt: HostRuntime) -> Result<(), Fail> {
+    assert_left(&rt, &THREE_WORD_HEADER, &THREE_WORD_HEADER_ANSWER)
+}
+
+#[test]
+fn object_of_63_words(rt: HostRuntime) -> Result<(), Fail> {
+    assert_left(&rt, &LARGEST_SHORT_OBJECT, &LARGEST_SHORT_OBJECT)
+}
