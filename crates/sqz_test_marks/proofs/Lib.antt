@@ -1,1 +1,2 @@
+pub mod InOrderLemmas
 pub mod PassLemmas

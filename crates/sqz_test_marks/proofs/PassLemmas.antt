@@ -1,7 +1,7 @@
 -- What a pass knows after calls, one after the other.
 -- Serves `passes::raced`, `steps::assert_blackens`, `::assert_claims`, `::assert_each_blackens`, `::assert_looks`,
 -- `::assert_marked`, `::claim`, `::mark_dead_cycle`, `::mark_named`, `::mark_special`, `targets::claim_target` and
--- `targets::mark_targets`.
+-- `targets::mark_targets`; `InOrderLemmas`.
 use Rattle.std.proofs.Common.{◌≡◌, ◌≢◌, ◌⊎◌, ℕ, ◌<◌, List, ◌∷◌, Option, Some, None, refl, sym, ap, subst, ◌∙◌, arith, inl, inr}
 use Rattle.sqz_image.specs.declared.fault.Slot.{Slot}
 use Rattle.sqz_image.specs.Objects.{Memory, object_count}
@@ -11,7 +11,7 @@ use Rattle.sqz_trace.specs.Edges.{Parent, strong_named}
 use Rattle.sqz_trace.proofs.EdgeLemmas.{named_among-lt}
 use Rattle.sqz_marks.specs.declared.view.View.{View}
 use Rattle.sqz_marks.specs.declared.claim.Claim.{Claim}
-use Rattle.sqz_marks.specs.declared.claim.Claim.TheVariants.{Won}
+use Rattle.sqz_marks.specs.declared.claim.Claim.TheVariants.{Won, Seen, Nothing}
 use Rattle.sqz_marks.specs.Core.{times, HasWon, HasSeen, first_view, looked, seen_by, won_by, counted, blackened}
 use Rattle.sqz_marks.specs.Core.{kept_of, part_of, joined}
 use Rattle.sqz_marks.specs.Table.{HeldPass, HasCountedAll, knowing}
@@ -84,6 +84,21 @@ module _ (old new : HeldPass) where
       let same : object ≡ found = (let e : Won found ≡ Won object = won.0 in cc) in
       (ap Some same, subst (λ (o : ℕ). new ≡ knowing old (won_by o old.view)) same won.1)
   IsClaim-won (Some object) found (inr seen) = absurd (cc (seen.0))
+
+  -- what was seen is what is named
+  pub IsClaim-seen : (named : Option ℕ) (found : ℕ) → IsClaim named old new (Seen found)
+      → (named ≡ Some found) × (new ≡ knowing old (seen_by found old.view))
+  IsClaim-seen None found claim = absurd (cc (claim.0))
+  IsClaim-seen (Some object) found (inl won) = absurd (cc (won.0))
+  IsClaim-seen (Some object) found (inr seen) =
+      let same : object ≡ found = (let e : Seen found ≡ Seen object = seen.0 in cc) in
+      (ap Some same, subst (λ (o : ℕ). new ≡ knowing old (seen_by o old.view)) same seen.1)
+
+  -- where nothing is found nothing is named
+  pub IsClaim-nothing : (named : Option ℕ) → IsClaim named old new Nothing → (named ≡ None) × (new ≡ old)
+  IsClaim-nothing None claim = (refl, claim.1)
+  IsClaim-nothing (Some object) (inl won) = absurd (cc (won.0))
+  IsClaim-nothing (Some object) (inr seen) = absurd (cc (seen.0))
 
   pub IsClaim-wins : (named : Option ℕ) (found : ℕ) → IsClaim named old new (Won found) → HasWon new.view found
   IsClaim-wins named found claim =

@@ -2,6 +2,8 @@
 #![tactic(auto)]
 
 #[cfg(test)]
+mod in_order;
+#[cfg(test)]
 mod passes;
 #[cfg(test)]
 mod steps;

@@ -48,12 +48,12 @@ fn claim_by_both<R: Threads>(
 }
 
 /// Asserts that a pass is all of its table's.
-fn assert_whole<R: Abort>(rt: &R, pass: &Pass) {
+pub(crate) fn assert_whole<R: Abort>(rt: &R, pass: &Pass) {
     assert!(rt; pass.is_whole());
 }
 
 /// Asserts that each of two passes is one worker's share, and not all of its table's.
-fn assert_parts<R: Abort>(rt: &R, first: &Pass, second: &Pass) {
+pub(crate) fn assert_parts<R: Abort>(rt: &R, first: &Pass, second: &Pass) {
     assert!(rt; !first.is_whole() && !second.is_whole());
     assert_eq!(rt; (first.weight(), second.weight()), (1, 1));
 }

@@ -77,7 +77,7 @@ pub(crate) fn claim(table: &MarkTable<'_>, pass: &mut Pass, parent: u32, slot: S
 }
 
 /// Whether two answers are one.
-fn is_same(found: Claim, wanted: Claim) -> bool
+pub(crate) fn is_same(found: Claim, wanted: Claim) -> bool
     ensures { result ≡ true → found ≡ wanted }
 {
     match (found, wanted) {
@@ -159,7 +159,7 @@ fn assert_each_blackens<R: Abort + AllocGlobal>(
 }
 
 /// What is left of a table. Where memory is refused once, it is asked for again: table and pass are as before.
-fn close_again(alloc: Global, table: MarkTable<'_>, pass: Pass) -> Result<Closed, Fault>
+pub(crate) fn close_again(alloc: Global, table: MarkTable<'_>, pass: Pass) -> Result<Closed, Fault>
     requires of { IsPassOf table pass }
     requires whole { pass.view.weight ≡ table.workers }
     requires counted { HasCountedAll pass.view }
