@@ -9,7 +9,7 @@ ghost use Rattle.sqz_trace.specs.Edges.{strong_target};
 ghost use Rattle.sqz_census.specs.Names.{shown_byte, text_in, held_name, class_name};
 
 use sqz_image::{Heap, Object, Slot};
-use sqz_object::{Order, base_of, put_word};
+use sqz_object::{Order, Words, base_of, put_word};
 use sqz_trace::{Parent, Weak};
 use std::alloc::{AllocError, Global};
 
@@ -93,7 +93,7 @@ fn text_in(alloc: Global, order: Order, object: &Object<'_>) -> Result<Option<Ve
     }
     let fields = object.fields();
     let count = (4 * fields.len()).saturating_sub(format as usize - 8);
-    let bytes = first_bytes(alloc, order, fields, count.min(MOST_BYTES))?;
+    let bytes = first_bytes(alloc, order, &fields, count.min(MOST_BYTES))?;
     Ok(Some(shown_bytes(alloc, &bytes)?))
 }
 
@@ -101,25 +101,26 @@ fn text_in(alloc: Global, order: Order, object: &Object<'_>) -> Result<Option<Ve
 fn first_bytes(
     alloc: Global,
     order: Order,
-    words: &[u32],
+    words: &Words<'_>,
     count: usize,
 ) -> Result<Vec<u8>, AllocError>
     requires few { count ≤ MOST_BYTES }
     requires inside { count ≤ 4 * length words.now }
     ensures { IfOk result (λ bytes. bytes.items ≡ take count (spelling_of order words.now)) }
 {
-    let mut bytes = spelled(alloc, order, &words[..words.len().min(MOST_WORDS)])?;
+    let (front, _) = words.split_at(words.len().min(MOST_WORDS));
+    let mut bytes = spelled(alloc, order, &front)?;
     bytes.truncate(count);
     Ok(bytes)
 }
 
 /// The bytes that spell words.
-fn spelled(alloc: Global, order: Order, words: &[u32]) -> Result<Vec<u8>, AllocError>
+fn spelled(alloc: Global, order: Order, words: &Words<'_>) -> Result<Vec<u8>, AllocError>
     ensures { IfOk result (λ bytes. bytes.items ≡ spelling_of order words.now) }
 {
     let mut bytes = Vec::with_capacity(alloc, MOST_BYTES)?;
-    for word in words {
-        bytes.extend_from_slice(&put_word(order, *word))?;
+    for index in 0..words.len() {
+        bytes.extend_from_slice(&put_word(order, words.at(index)))?;
     }
     Ok(bytes)
 }

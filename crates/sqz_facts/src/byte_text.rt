@@ -2,7 +2,7 @@
 
 use sqz_census::shown_byte;
 use sqz_image::Object;
-use sqz_object::{Order, base_of, put_word};
+use sqz_object::{Order, Words, base_of, put_word};
 use std::alloc::{AllocError, Global};
 
 /// How many bytes are printed at most.
@@ -24,7 +24,7 @@ pub(crate) fn text_of(
     let unused = base_of(object.header().base).format % 4;
     let count = (4 * fields.len()).saturating_sub(unused as usize);
     let shown = count.min(MOST_BYTES);
-    let bytes = first_bytes(alloc, order, fields, shown)?;
+    let bytes = first_bytes(alloc, order, &fields, shown)?;
     let rest = if shown < count { " .." } else { "" };
     shown_text(alloc, count, &bytes, rest)
 }
@@ -48,12 +48,12 @@ fn shown_text(
 fn first_bytes(
     alloc: Global,
     order: Order,
-    words: &[u32],
+    words: &Words<'_>,
     count: usize,
 ) -> Result<Vec<u8>, AllocError> {
     let mut bytes = Vec::new(alloc);
     for word in words.iter().take(count.div_ceil(4)) {
-        bytes.extend_from_slice(&put_word(order, *word))?;
+        bytes.extend_from_slice(&put_word(order, word))?;
     }
     bytes.truncate(count);
     Ok(bytes)

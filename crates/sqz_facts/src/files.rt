@@ -12,16 +12,12 @@ use sqz_trace::{Marks, Weak, first_defect, lacks_nil, mark_plain};
 use std::alloc::{AllocError, Global};
 use std::thread::Threads;
 
-/// How many bytes the header of an image has.
-const HEADER: usize = 64;
-
-/// The facts of a file: its byte order, where its image begins, the base and the data, the special objects array, the objects, the
-/// free chunks, the live objects and their bytes, and the first fault for which it would not be compacted. `bytes` are those of the
-/// file. Fails with `OutOfMemory` alone.
+/// The facts of an image: its byte order, where it begins in its file, the base and the data, the special objects array,
+/// the objects, the free chunks, the live objects and their bytes, and the first fault for which it would not be
+/// compacted. Fails only with `OutOfMemory`.
 pub fn file_text(
     rt: &(impl Threads + Sync),
     alloc: Global,
-    bytes: &[u8],
     image: &Image,
     weak: Weak,
 ) -> Result<Vec<u8>, Fault>
@@ -29,7 +25,7 @@ pub fn file_text(
 {
     let mut facts = Facts::new(alloc);
     add_header(&mut facts, image)?;
-    add_data(rt, alloc, &mut facts, bytes, image, weak)?;
+    add_data(rt, alloc, &mut facts, image.heap(), weak)?;
     Ok(facts.into_text())
 }
 
@@ -49,18 +45,14 @@ fn add_data(
     rt: &(impl Threads + Sync),
     alloc: Global,
     facts: &mut Facts,
-    bytes: &[u8],
-    image: &Image,
+    heap: &Heap,
     weak: Weak,
 ) -> Result<(), Fault>
     ensures { IfErr result (λ fault. fault ≡ OutOfMemory) }
 {
-    let heap = image.heap();
-    let begins = image.prefix().len().saturating_add(HEADER);
-    let data = bytes.get(begins..).unwrap_or(&[]);
     let marks = mark_plain(alloc, heap, weak)?;
     facts.add("objects", heap.len())?;
-    facts.add("free chunks", free_chunks(data, heap))?;
+    facts.add("free chunks", free_chunks(heap))?;
     facts.add("live objects", marks.count())?;
     facts.add("live bytes", live_bytes(heap, &marks))?;
     add_fault(facts, first_fault(rt, heap, weak, &marks))?;

@@ -45,9 +45,9 @@ fn add_fields(
     for (index, word) in object.fields().iter().enumerate().take(shown) {
         let text = if index < traced {
             let slot = if index < strong { "" } else { "weak " };
-            held_text(alloc, heap, weak, slot, *word)?
+            held_text(alloc, heap, weak, slot, word)?
         } else {
-            untraced_text(alloc, *word)?
+            untraced_text(alloc, word)?
         };
         add_field(alloc, facts, index, &text)?;
     }

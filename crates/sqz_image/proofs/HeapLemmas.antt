@@ -3,7 +3,7 @@
 -- `::first`, `::len`, `::object`, `::of`, `::special`, `::word` and `::words`.
 use Rattle.std.proofs.Common.{◌≡◌, ◌≢◌, ℕ, ◌+◌, ◌-◌, ◌*◌, ◌%◌, ◌^◌, ◌<◌, ◌≤◌, List, [], map, length, get_or, take}
 use Rattle.std.proofs.Common.{drop, slice_index, Option, Some, None, refl, sym, ap, subst, ◌∙◌, arith}
-use Rattle.std.specs.List.{concat}
+use Rattle.std.specs.List.{concat, AllByRecursion}
 use Rattle.sqz_image.specs.Ranks.{IsPlaceOf, IsRanked, IsTable}
 use Rattle.sqz_image.specs.declared.ranks.Block.{Block}
 use Rattle.sqz_image.specs.declared.starts.Start.{Start}
@@ -11,10 +11,10 @@ use Rattle.sqz_image.specs.Starts.{first_of, IsFollowed, start_at, IsNextAfter, 
 use Rattle.std.proofs.lemmas.Simd.{map-map}
 use Rattle.std.proofs.lemmas.List.{length-map, get_or-map, get_or-take, get_or-drop, length-drop}
 use Rattle.sqz_object.specs.declared.chunk.Chunk.{Chunk}
-use Rattle.sqz_object.specs.declared.chunk.ChunkFault.{ChunkFault}
-use Rattle.sqz_object.specs.Chunk.{IsChunk, before}
-use Rattle.sqz_object.specs.Reading.{BeginsWith, HasNoChunk, description}
-use Rattle.sqz_object.proofs.ChunkLemmas.{BeginsWith-description}
+use Rattle.sqz_object.specs.declared.chunk.Kind.{Kind}
+use Rattle.sqz_object.specs.Chunk.{IsChunkOf, IsChunk, chunk_kind, base_word, before}
+use Rattle.sqz_object.specs.Reading.{BeginsWith, description}
+use Rattle.sqz_object.proofs.ChunkLemmas.{chunk_kind_is, BeginsWith-description}
 use Rattle.sqz_image.specs.declared.fault.Fault.TheVariants.{BadSpecialObjects}
 use Rattle.sqz_image.specs.Memory.{cut, memory_of, base_headers, IsListed, IsKept, IsMemory, IsWholeMemory, LacksSpecial}
 use Rattle.sqz_image.specs.Objects.{Memory, Object, objects_of, objects, object_count, object_at, header_index}
@@ -49,6 +49,19 @@ pub record HasObject (words : List ℕ) (object : Object) : Type 0 where
   pub stands : StandsIn words object
   pub is_chunk : IsChunk object.chunk
   pub header : before object.chunk < length object.chunk
+
+-- the words of a memory whose chunks are chunks have its objects
+pub stands_at : (memory : Memory) → AllByRecursion IsChunk memory.chunks → (index : ℕ) → index < length (objects memory)
+    → HasObject (concat memory.chunks) (object_at memory index)
+stands_at memory chunks index lt =
+    let object = get_or (objects memory) index no_object in
+    let is_chunk : IsChunk object.chunk =
+    All_at (λ o. IsChunk o.chunk) (objects memory) index no_object lt (objects_keep IsChunk memory.chunks chunks) in
+    record {
+      stands = All_at (StandsIn (concat memory.chunks)) (objects memory) index no_object lt (objects_stand memory.chunks);
+      is_chunk = is_chunk;
+      header = before-chunk object.chunk is_chunk;
+    }
 
 -- ---- the addresses of words, by their indexes
 
@@ -91,17 +104,8 @@ addresses_of_headers memory = map-map (λ index. memory.base + 4 * index) header
 module _ {memory : Memory} {words : List ℕ} {starts : List Start} (heap : IsListed memory words starts) where
   pub has_object : (index : ℕ) → index < length (objects memory) → HasObject words (object_at memory index)
   has_object index lt =
-      let object = get_or (objects memory) index no_object in
-      let is_chunk : IsChunk object.chunk =
-      All_at (λ o. IsChunk o.chunk) (objects memory) index no_object lt
-      (objects_keep IsChunk memory.chunks heap.partition.each) in
-      record {
-        stands =
-            subst (λ (w : List ℕ). StandsIn w object) heap.partition.whole
-            (All_at (StandsIn (concat memory.chunks)) (objects memory) index no_object lt (objects_stand memory.chunks));
-        is_chunk = is_chunk;
-        header = before-chunk object.chunk is_chunk;
-      }
+      subst (λ (w : List ℕ). HasObject w (object_at memory index)) heap.partition.whole
+      (stands_at memory heap.partition.each index lt)
 
   pub first_there : (index : ℕ) → index < length (objects memory)
       → first_of (start_at starts index) ≡ (object_at memory index).first
@@ -187,9 +191,19 @@ module _ {words : List ℕ} {object : Object} (here : HasObject words object) wh
       BeginsWith-description words_here chunk (length object.chunk) begins inside chunk_here
       ∙ ap description here.stands.there
 
-  -- no fault is found where an object begins
-  pub no_fault_there : (fault : ChunkFault) → HasNoChunk words_here fault → ⊥
-  no_fault_there fault missing = missing.none (length object.chunk) chunk_here
+  -- the words of the heap begin with the object's chunk there
+  pub begins_there : BeginsWith words_here (description object.chunk)
+  begins_there =
+      let (kind, is) = here.is_chunk in
+      let same : chunk_kind object.chunk ≡ kind = chunk_kind_is kind object.chunk is in
+      record {
+        inside = omega (arith, here.stands.inside, length-drop object.first words);
+        is_chunk =
+            subst (IsChunkOf (chunk_kind object.chunk)) (sym here.stands.there)
+            (subst (λ (k : Kind). IsChunkOf k object.chunk) (sym same) is);
+        before = refl;
+        base = ap base_word (sym here.stands.there);
+      }
 
 -- ---- the heap of an index
 

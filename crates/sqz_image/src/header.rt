@@ -1,11 +1,11 @@
 //! The header of an image file, and where it stands.
 
-ghost use Rattle.std.specs.Prelude.{◌≡◌, ◌⊎◌, ◌≤◌, length, IfOk, IfErr, None, Some};
+ghost use Rattle.std.specs.Prelude.{◌≡◌, ◌⊎◌, ◌≤◌, length, take, IfOk, IfErr, None, Some};
+ghost use Rattle.sqz_object.specs.Bytes.{words_of};
 ghost use Rattle.sqz_image.specs.File.{order_of, prefix_size, header_offset, header_of};
 ghost use Rattle.sqz_image.specs.Refusals.{header_fault, header_bytes_fault};
 
 use crate::fault::Fault;
-use crate::words::header_words;
 use sqz_object::{Order, word_at};
 
 /// The first header word of an image of this format.
@@ -52,6 +52,19 @@ pub(crate) fn header_offset(file: &[u8]) -> usize
         Some(_) => PREFIX_SIZE,
         None => 0,
     }
+}
+
+/// The sixteen words that the first 64 bytes spell.
+fn header_words(order: Order, bytes: &[u8]) -> [u32; 16]
+    requires { 64 ≤ length bytes.now }
+    ensures { result ≡ words_of order (take 64 bytes.now) }
+{
+    let bytes = &bytes[..64];
+    let mut words = [0u32; 16];
+    for k in 0..16 {
+        words[k] = word_at(bytes, order, k);
+    }
+    words
 }
 
 /// What is wrong with the header words of an image of so many bytes.

@@ -2,20 +2,22 @@
 
 ghost use Rattle.std.specs.Prelude.{◌≡◌, ◌⊎◌, ℕ, ◌+◌, ◌-◌, ◌*◌, ◌%◌, ◌^◌, ◌<◌, ◌≤◌, List, map, length, slice_index};
 ghost use Rattle.std.specs.Prelude.{Some, IfOk, IfErr};
-ghost use Rattle.std.specs.List.{concat};
-ghost use Rattle.sqz_object.specs.Chunk.{fields};
+ghost use Rattle.std.specs.List.{concat, AllByRecursion};
+ghost use Rattle.sqz_object.specs.Bytes.{words_of};
+ghost use Rattle.sqz_object.specs.Chunk.{fields, IsChunk};
 ghost use Rattle.sqz_object.specs.Reading.{description};
 ghost use Rattle.sqz_image.specs.declared.fault.Fault.TheVariants.{OutOfMemory};
 ghost use Rattle.sqz_image.specs.Objects.{object_count, object_at, address_of, chunk_words, find};
 ghost use Rattle.sqz_image.specs.Memory.{IsWholeMemory, IsNoMemory};
 ghost use Rattle.sqz_image.specs.Ranks.{IsPlaceOf, IsRanked, IsTable};
 
+use crate::data_bytes::DataBytes;
 use crate::fault::Fault;
 use crate::index::{Index, index_of};
 use crate::object::Object;
 use crate::ranks::{Block, place_of};
 use crate::starts::Start;
-use sqz_object::{Chunk, Order, chunk_at};
+use sqz_object::{Chunk, Order, Words, known_chunk};
 use std::alloc::Global;
 use std::marker::Model;
 
@@ -27,7 +29,8 @@ pub struct Heap {
     base: u32,
     special: u32,
     special_object: u32,
-    words: Vec<u32>,
+    /// The data words, as the bytes of the file.
+    bytes: DataBytes,
     /// Where each object's chunk begins.
     starts: Vec<Start>,
     /// The table of the indexes of the base headers.
@@ -35,33 +38,36 @@ pub struct Heap {
 }
 
 impl Model for Heap {
+    ghost use Rattle.sqz_object.specs.Bytes.{words_of};
     ghost use Rattle.sqz_image.specs.Objects.{Memory};
     ghost use Rattle.sqz_image.specs.Memory.{memory_of, IsKept};
 
     ghost Value = { Memory };
 
-    ghost view = { λ heap. memory_of heap.order heap.base heap.special heap.words.items };
+    ghost view = { λ heap. memory_of heap.order heap.base heap.special (words_of heap.order heap.bytes) };
 
-    ghost invariant = { λ heap. IsKept (memory_of heap.order heap.base heap.special heap.words.items)
-        heap.words.items heap.starts.items heap.headers.items heap.special_object };
+    ghost invariant = { λ heap. IsKept (memory_of heap.order heap.base heap.special (words_of heap.order heap.bytes))
+        (words_of heap.order heap.bytes) heap.starts.items heap.headers.items heap.special_object };
 }
 
 impl Heap {
-    /// The object memory with these data words. Refused where they are not chunks one after the other, or
-    /// no object has the address of the special objects array; else for want of memory alone.
+    /// The object memory with these data. Refused if their words are not chunks one after the other, or if no
+    /// object has the address of the special objects array; otherwise it fails only by running out of memory.
     pub(crate) fn of(
         alloc: Global,
         order: Order,
         base: u32,
         special: u32,
-        words: Vec<u32>,
+        bytes: DataBytes,
     ) -> Result<Self, Fault>
-        requires few { length words.items < 2 ^ 30 }
-        requires within { base + 4 * length words.items ≤ 2 ^ 32 }
+        requires few { length (words_of order bytes) < 2 ^ 30 }
+        requires within { base + 4 * length (words_of order bytes) ≤ 2 ^ 32 }
         requires aligned { base % 4 ≡ 0 }
-        ensures heap { IfOk result (λ heap. IsWholeMemory order base special words.items heap) }
-        ensures refused { IfErr result (λ fault. (fault ≡ OutOfMemory) ⊎ IsNoMemory order base special words.items fault) }
+        ensures heap { IfOk result (λ heap. IsWholeMemory order base special (words_of order bytes) heap) }
+        ensures refused { IfErr result (λ fault. (fault ≡ OutOfMemory)
+            ⊎ IsNoMemory order base special (words_of order bytes) fault) }
     {
+        let words = Words::of(order, bytes.as_slice());
         let index = index_of(alloc, &words)?;
         let Index { starts, headers } = index;
         let Some(special_object) = place_at(&headers, base, special) else {
@@ -72,10 +78,19 @@ impl Heap {
             base,
             special,
             special_object,
-            words,
+            bytes,
             starts,
             headers,
         })
+    }
+
+    /// The data words, free chunks included.
+    pub fn data(&self) -> Words<'_>
+        ensures words { result ≡ concat self.now.chunks }
+        ensures few { length result < 2 ^ 30 }
+        ensures chunks { AllByRecursion IsChunk self.now.chunks }
+    {
+        Words::of(self.order, self.bytes.as_slice())
     }
 
     /// The byte order of the file.
@@ -98,7 +113,7 @@ impl Heap {
         ensures words { result ≡ length (concat self.now.chunks) }
         ensures few { result < 2 ^ 30 }
     {
-        self.words.len() as u32
+        self.data().len() as u32
     }
 
     /// The number of objects.
@@ -135,7 +150,8 @@ impl Heap {
     {
         let header = self.chunk(object);
         let first = self.first(object) as usize;
-        Object::new(header, &self.words[first..first + header.length as usize])
+        let words = self.data().part(first, first + header.length as usize);
+        Object::new(header, words)
     }
 
     /// What the header words of the object's chunk say.
@@ -145,10 +161,7 @@ impl Heap {
         ensures headed { result.before < result.length }
         ensures few { result.length < 2 ^ 30 }
     {
-        match chunk_at(&self.words, self.first(object) as usize) {
-            Ok(chunk) => chunk,
-            Err(_) => unreachable!(),
-        }
+        known_chunk(&self.data(), self.first(object) as usize)
     }
 
     /// How many words the object's chunk has. Its header is read only where no object's chunk follows it directly.
@@ -171,7 +184,7 @@ impl Heap {
         requires word { k < length (chunk_words self.now object) }
         ensures { result ≡ slice_index (chunk_words self.now object) k }
     {
-        self.words[(self.first(object) + k) as usize]
+        self.data().at((self.first(object) + k) as usize)
     }
 
     /// The number of the object's fields: the words after its base header.
@@ -216,7 +229,7 @@ pub fn heap_bounds(heap: &Heap)
     ensures within { heap.now.base + 4 * length (concat heap.now.chunks) ≤ 2 ^ 32 }
 {
     // what a heap keeps says so, and is known where one of its fields is used
-    let _ = &heap.words;
+    let _ = &heap.bytes;
 }
 
 /// The place of an address among those of the words whose indexes the table has, the first word's

@@ -8,7 +8,7 @@ ghost use Rattle.sqz_image.specs.Refusals.{HasNoPartition, refusal_of};
 use crate::fault::Fault;
 use crate::ranks::{Block, add};
 use crate::starts::{Start, begins_object};
-use sqz_object::{ChunkFault, Kind, chunk_at};
+use sqz_object::{ChunkFault, Kind, Words, chunk_in};
 use std::alloc::Global;
 
 /// Where each object stands.
@@ -22,7 +22,7 @@ pub(crate) struct Index {
 
 /// The objects of words that are chunks, one after the other. Refused at the first chunk that cannot
 /// be read: `ZeroSize`, `HeaderMismatch` or `Overrun`; else for want of memory alone.
-pub(crate) fn index_of(alloc: Global, words: &[u32]) -> Result<Index, Fault>
+pub(crate) fn index_of(alloc: Global, words: &Words<'_>) -> Result<Index, Fault>
     requires few { length words.now < 2 ^ 30 }
     ensures index { IfOk result (λ index. IsIndex words.now index.starts.items index.headers.items) }
     ensures refused { IfErr result (λ fault. (fault ≡ OutOfMemory) ⊎ HasNoPartition words.now fault) }
@@ -31,7 +31,7 @@ pub(crate) fn index_of(alloc: Global, words: &[u32]) -> Result<Index, Fault>
     let mut headers = Vec::new(alloc);
     let mut p = 0;
     while p < words.len() {
-        let chunk = match chunk_at(words, p) {
+        let chunk = match chunk_in(words, p) {
             Ok(chunk) => chunk,
             Err(reason) => return Err(refusal_of(reason, p as u32)),
         };

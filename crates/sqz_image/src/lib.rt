@@ -2,6 +2,7 @@
 //! and go to, the file as bytes, and the objects that it holds.
 #![tactic(auto)]
 
+mod data_bytes;
 mod device;
 mod fault;
 mod header;
@@ -18,7 +19,6 @@ mod read_whole;
 mod reading;
 mod sink_calls;
 mod starts;
-mod words;
 mod write_sink;
 mod write_whole;
 mod write_words;
@@ -33,7 +33,7 @@ pub use memory_source::MemorySource;
 pub use object::Object;
 pub use read_source::ReadSource;
 pub use read_whole::read_all;
-pub use reading::read_image;
+pub use reading::{image_of_file, read_image};
 pub use sink_calls::SinkCalls;
 pub use write_sink::WriteSink;
 pub use write_whole::write_all;

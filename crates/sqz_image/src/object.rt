@@ -4,7 +4,7 @@ ghost use Rattle.std.specs.Prelude.{◌≡◌, ◌^◌, ◌<◌, length};
 ghost use Rattle.sqz_object.specs.Chunk.{fields};
 ghost use Rattle.sqz_object.specs.Reading.{description};
 
-use sqz_object::Chunk;
+use sqz_object::{Chunk, Words};
 use std::marker::Model;
 
 /// An object's chunk: what its header says, and all its words. Contracts see it as the list of its
@@ -12,7 +12,7 @@ use std::marker::Model;
 #[derive(Drop)]
 pub struct Object<'a> {
     header: Chunk,
-    words: &'a [u32],
+    words: Words<'a>,
 }
 
 impl<'a> Model for Object<'a> {
@@ -21,18 +21,18 @@ impl<'a> Model for Object<'a> {
 
     ghost Value = { List ℕ };
 
-    ghost view = { λ object. object.words.now };
+    ghost view = { λ object. object.words };
 
-    ghost invariant = { λ object. IsHeaderOf object.words.now object.header };
+    ghost invariant = { λ object. IsHeaderOf object.words object.header };
 }
 
 impl<'a> Object<'a> {
     /// An object with this header and these words, all header words among them.
-    pub(crate) fn new(header: Chunk, words: &'a [u32]) -> Self
-        requires described { header ≡ description words.now }
+    pub(crate) fn new(header: Chunk, words: Words<'a>) -> Self
+        requires described { header ≡ description words }
         requires headed { header.before < header.length }
         requires few { header.length < 2 ^ 30 }
-        ensures { result ≡ words.now }
+        ensures { result ≡ words.entry }
     {
         Object { header, words }
     }
@@ -47,17 +47,18 @@ impl<'a> Object<'a> {
     }
 
     /// All words of the chunk, the header words among them.
-    pub fn words(&self) -> &'a [u32]
+    pub fn words(&self) -> &Words<'a>
         ensures { result.now ≡ self.now }
     {
-        self.words
+        &self.words
     }
 
     /// The words after the base header.
-    pub fn fields(&self) -> &'a [u32]
-        ensures fields { result.now ≡ fields self.now }
-        ensures few { length result.now < 2 ^ 30 }
+    pub fn fields(&self) -> Words<'a>
+        ensures fields { result ≡ fields self.now }
+        ensures few { length result < 2 ^ 30 }
     {
-        &self.words[self.header.before as usize + 1..]
+        let (_, fields) = self.words.split_at(self.header.before as usize + 1);
+        fields
     }
 }

@@ -4,30 +4,43 @@ ghost use Rattle.std.specs.Prelude.{◌≡◌, ◌⊎◌, IfOk, IfErr, None};
 ghost use Rattle.sqz_image.specs.declared.fault.Fault.TheVariants.{OutOfMemory};
 ghost use Rattle.sqz_image.specs.Refusals.{file_fault, Holds, IsUnreadable};
 
+use crate::data_bytes::DataBytes;
 use crate::fault::Fault;
 use crate::header::{HEADER_SIZE, header_offset, read_header};
 use crate::heap::Heap;
 use crate::image::Image;
-use crate::words::words_of;
+use crate::laws::byte_bounds;
 use std::alloc::Global;
 
-/// The image that the bytes of a file hold. Its header stands at the front, or behind 512 other bytes, which the image
-/// keeps. Bytes after the data are not looked at.
+/// The image that the bytes of a file hold, over a copy of them. The header stands at the front, or after 512 other
+/// bytes, which the image keeps. Bytes after the data are ignored.
 ///
-/// Refused with the first fault of a file that applies: `TooShort`, `BadVersion`, `BadHeaderSize`,
-/// `BadDataSize`, `BadBase`, `Truncated`; then `ZeroSize`, `HeaderMismatch` or `Overrun` at the first
-/// chunk that cannot be read; then `BadSpecialObjects`. Else for want of memory alone, which is never the
-/// answer where the header is at fault.
+/// Fails with the first fault of a file that applies: `TooShort`, `BadVersion`, `BadHeaderSize`, `BadDataSize`,
+/// `BadBase`, `Truncated`; then `ZeroSize`, `HeaderMismatch` or `Overrun` at the first chunk that cannot be read; then
+/// `BadSpecialObjects`. Otherwise it fails only by running out of memory, and never so if the header has a fault.
 pub fn read_image(alloc: Global, bytes: &[u8]) -> Result<Image, Fault>
     ensures image { IfOk result (λ image. Holds bytes.now image) }
     ensures refused { IfErr result (λ fault. ((fault ≡ OutOfMemory) × (file_fault bytes.now ≡ None)) ⊎ IsUnreadable bytes.now fault) }
 {
-    let (prefix, image_bytes) = bytes.split_at(header_offset(bytes));
-    let header = read_header(image_bytes)?;
-    let prefix = Vec::from_slice(alloc, prefix)?;
+    // the copy is made only if the header is sound
+    read_header(&bytes[header_offset(bytes)..])?;
+    let file = Vec::from_slice(alloc, bytes)?;
+    image_of_file(alloc, file)
+}
+
+/// The image that a file holds. Its words stay where they lie among the bytes of the file, which the image keeps. It
+/// fails as `read_image` does; the bytes are then lost.
+pub fn image_of_file(alloc: Global, file: Vec<u8>) -> Result<Image, Fault>
+    ensures image { IfOk result (λ image. Holds file.items image) }
+    ensures refused { IfErr result (λ fault. ((fault ≡ OutOfMemory) × (file_fault file.items ≡ None)) ⊎ IsUnreadable file.items fault) }
+{
+    byte_bounds(&file); // its bytes are below 256
+    let offset = header_offset(&file);
+    let header = read_header(&file[offset..])?;
+    let prefix = Vec::from_slice(alloc, &file[..offset])?;
     let [_, _, data_size, base, special, ..] = header.words;
-    let data = &image_bytes[HEADER_SIZE..][..data_size as usize];
-    let words = words_of(alloc, header.order, data)?;
-    let heap = Heap::of(alloc, header.order, base, special, words)?;
+    let start = offset + HEADER_SIZE;
+    let bytes = DataBytes::of(file, start, start + data_size as usize);
+    let heap = Heap::of(alloc, header.order, base, special, bytes)?;
     Ok(Image::new(prefix, header.words, heap))
 }

@@ -4,6 +4,8 @@ ghost use Rattle.std.specs.Prelude.{◌≡◌, ◌^◌, ◌<◌, ◌↔◌, true
 ghost use Rattle.sqz_object.specs.Chunk.{is_object};
 ghost use Rattle.sqz_image.specs.Starts.{first_of, IsFollowed};
 
+use sqz_object::Words;
+
 /// The indexes of words are below this.
 const WORDS: u32 = 1 << 30;
 
@@ -47,8 +49,8 @@ impl Start {
 }
 
 /// Whether an object's chunk begins at word `p`, if a chunk does: its first word has not the type of a free one.
-pub(crate) fn begins_object(words: &[u32], p: usize) -> bool
+pub(crate) fn begins_object(words: &Words<'_>, p: usize) -> bool
     ensures { result ≡ is_object (drop p words.now) }
 {
-    p < words.len() && words[p] % 4 != FREE
+    p < words.len() && words.at(p) % 4 != FREE
 }

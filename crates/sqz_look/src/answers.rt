@@ -7,7 +7,7 @@ use crate::addresses::address_in;
 use crate::arguments::{Arguments, Question};
 use crate::refusal::Refusal;
 use sqz_facts::{file_text, members_text, object_text};
-use sqz_image::{Fault, Heap, Image, ReadSource, read_all, read_image};
+use sqz_image::{Fault, Heap, Image, ReadSource, image_of_file, read_all};
 use sqz_trace::{Weak, named_by};
 use std::alloc::Global;
 use std::fs::File;
@@ -41,9 +41,8 @@ fn about_file<T: Files + Threads + Sync>(
     path: &str,
     weak: Weak,
 ) -> Result<Vec<u8>, Fault> {
-    let bytes = bytes_of(rt, alloc, path)?;
-    let image = read_image(alloc, &bytes)?;
-    file_text(rt, alloc, &bytes, &image, weak)
+    let image = image_in(rt, alloc, path)?;
+    file_text(rt, alloc, &image, weak)
 }
 
 /// What the object with an address is, and why it is there.
@@ -72,18 +71,13 @@ fn about_class<T: Files>(
     Ok(members_text(alloc, image.heap(), weak, class)?)
 }
 
-/// All bytes of a file.
-fn bytes_of<T: Files>(rt: &T, alloc: Global, path: &str) -> Result<Vec<u8>, Fault> {
+/// The image in a file.
+fn image_in<T: Files>(rt: &T, alloc: Global, path: &str) -> Result<Image, Fault> {
     let Ok(file) = File::open(rt, path) else {
         return Err(Fault::ReadFailed);
     };
-    read_all(alloc, &mut ReadSource::new(file))
-}
-
-/// The image in a file, whose bytes are let go.
-fn image_in<T: Files>(rt: &T, alloc: Global, path: &str) -> Result<Image, Fault> {
-    let bytes = bytes_of(rt, alloc, path)?;
-    read_image(alloc, &bytes)
+    let bytes = read_all(alloc, &mut ReadSource::new(file))?;
+    image_of_file(alloc, bytes)
 }
 
 /// The object with an address.

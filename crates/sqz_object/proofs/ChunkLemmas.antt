@@ -1,5 +1,5 @@
 -- What the words of a chunk say of it, and when no chunk begins with some words.
--- Serves `chunk::chunk_at` and `PartitionLemmas`; `CutLemmas`, `HeapLemmas`, `IndexLemmas` and `ObjectLemmas` of
+-- Serves `chunk::chunk_in` and `PartitionLemmas`; `CutLemmas`, `HeapLemmas`, `IndexLemmas` and `ObjectLemmas` of
 -- `sqz_image`; `ShapeLemmas` of `sqz_trace`; `LengthLemmas`, `MovedShapeLemmas` and `SettledLemmas` of `sqz_slide`;
 -- `WorkedImages` of `sqz_examples`.
 use Rattle.std.proofs.Common.{◌≡◌, ℕ, zero, suc, ◌+◌, ◌-◌, ◌/◌, ◌%◌, ◌<◌, ◌≤◌, ◌⊎◌, Bool, true, false, not, ◌&&◌, cond}
@@ -400,7 +400,7 @@ BeginsWith-from_no_fault words e =
 -- ---- the header that words begin with
 
 -- equal parts make one chunk
-same_chunk : {k l : Kind} {a b m n x y : ℕ} → k ≡ l → a ≡ b → m ≡ n → x ≡ y
+pub same_chunk : {k l : Kind} {a b m n x y : ℕ} → k ≡ l → a ≡ b → m ≡ n → x ≡ y
     → chunk_of k a m x ≡ chunk_of l b n y
 same_chunk p q r s = cc
 
@@ -419,18 +419,8 @@ BeginsWith-description words chunk size begins le is_chunk =
 -- ---- what a header that is read word by word says
 
 -- whether these words have the type of this one
-abbrev have_type_of : ℕ → List ℕ → Bool
+abbrev pub have_type_of : ℕ → List ℕ → Bool
 have_type_of first header = list_all (λ word. eqb (header_type word) (header_type first)) header
-
--- whether the header words have one type, as it is read from so many of them
-abbrev pub has_one_type : List ℕ → Bool
-has_one_type header = have_type_of (slice_index header 0) header
-
--- the type of the first header word is told by any front of them
-one_type-take : (words : List ℕ) (count : ℕ) → 0 < count
-    → has_one_type (take count words) ≡ have_type_of (slice_index words 0) (take count words)
-one_type-take words count some =
-    ap (λ (first : ℕ). have_type_of first (take count words)) (get_or-take count words 0 0 some)
 
 module _ (words : List ℕ) (kind : Kind) (count : ℕ)
     (kind_is : kind ≡ kind_of (slice_index words 0))
@@ -442,19 +432,17 @@ module _ (words : List ℕ) (kind : Kind) (count : ℕ)
   HasNoChunk-short_header short =
       HasNoChunk-from_fault words Overrun (fault_of_short_header words (omega (arith, before_is)))
 
-  types_are : has_one_type (take (count + 1) words) ≡ is_of_one_type words
-  types_are =
-      one_type-take words (count + 1) (omega arith)
-      ∙ ap (λ (n : ℕ). have_type_of (slice_index words 0) (take (n + 1) words)) (sym before_is)
+  types_are : have_type_of (slice_index words 0) (take (count + 1) words) ≡ is_of_one_type words
+  types_are = ap (λ (n : ℕ). have_type_of (slice_index words 0) (take (n + 1) words)) (sym before_is)
 
-  pub HasNoChunk-mixed_header : count + 1 ≤ length words → has_one_type (take (count + 1) words) ≡ false
+  pub HasNoChunk-mixed_header : count + 1 ≤ length words → have_type_of (slice_index words 0) (take (count + 1) words) ≡ false
       → HasNoChunk words HeaderMismatch
   HasNoChunk-mixed_header room mixed =
       HasNoChunk-from_fault words HeaderMismatch
       (fault_of_types words (omega (arith, before_is)) (sym types_are ∙ mixed))
 
   module _ (size : ℕ) (room : count + 1 ≤ length words)
-      (one : has_one_type (take (count + 1) words) ≡ true)
+      (one : have_type_of (slice_index words 0) (take (count + 1) words) ≡ true)
       (size_is : size ≡ size_stated kind (slice_index words 0) (slice_index words count)) where
     size_is_stated : stated_size (chunk_kind words) words ≡ size
     size_is_stated =

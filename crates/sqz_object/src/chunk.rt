@@ -1,12 +1,13 @@
 //! One chunk of the object memory, read from its header words.
 
-ghost use Rattle.std.specs.Prelude.{◌≡◌, ◌==◌, ◌^◌, ◌<◌, ◌≤◌, length, drop, slice_index, IfOk, IfErr};
+ghost use Rattle.std.specs.Prelude.{◌≡◌, ◌==◌, ◌-◌, ◌^◌, ◌<◌, ◌≤◌, length, take, drop, slice_index, IfOk, IfErr};
 ghost use Rattle.std.specs.List.{list_all};
 ghost use Rattle.sqz_object.specs.Chunk.{header_type, kind_of, words_before};
 ghost use Rattle.sqz_object.specs.Partition.{size_stated};
 ghost use Rattle.sqz_object.specs.Reading.{BeginsWith, HasNoChunk};
 
 use crate::base::base_of;
+use crate::word_list::WordList;
 
 /// How many header words a chunk has, told by the type of its first word: a three word, two word or
 /// one word header of an object, or a free chunk.
@@ -50,22 +51,34 @@ pub fn chunk_at(words: &[u32], p: usize) -> Result<Chunk, ChunkFault>
     ensures chunk { IfOk result (λ chunk. BeginsWith (drop p words.now) chunk) }
     ensures fault { IfErr result (λ fault. HasNoChunk (drop p words.now) fault) }
 {
-    let words = &words[p..];
-    let kind = kind_of(words[0]);
+    chunk_in(&words, p)
+}
+
+/// As `chunk_at`, for any list of words.
+pub fn chunk_in<W: WordList>(words: &W, p: usize) -> Result<Chunk, ChunkFault>
+    requires inside { p < length (W.words words.now) }
+    requires bounded { length (W.words words.now) < 2 ^ 30 }
+    ensures chunk { IfOk result (λ chunk. BeginsWith (drop p (W.words words.now)) chunk) }
+    ensures fault { IfErr result (λ fault. HasNoChunk (drop p (W.words words.now)) fault) }
+{
+    let count = words.count() - p;
+    let first = words.word(p);
+    let kind = kind_of(first);
     let before = words_before(kind);
-    if words.len() < before as usize + 1 {
+    if count < before as usize + 1 {
         return Err(ChunkFault::Overrun);
     }
-    if !is_of_one_type(&words[..before as usize + 1]) {
+    let at = p + before as usize;
+    if !is_of_one_type(words, p, at + 1) {
         return Err(ChunkFault::HeaderMismatch);
     }
-    let base = words[before as usize];
-    let size = stated_size(kind, words[0], base);
+    let base = words.word(at);
+    let size = stated_size(kind, first, base);
     if size == 0 {
         return Err(ChunkFault::ZeroSize);
     }
     let length = before + size;
-    if words.len() < length as usize {
+    if count < length as usize {
         return Err(ChunkFault::Overrun);
     }
     Ok(Chunk {
@@ -74,6 +87,25 @@ pub fn chunk_at(words: &[u32], p: usize) -> Result<Chunk, ChunkFault>
         length,
         base,
     })
+}
+
+/// The chunk that begins at word `p`, where one does: its header is read, and not checked again.
+pub fn known_chunk<W: WordList>(words: &W, p: usize) -> Chunk
+    requires begins { (chunk : Chunk) × BeginsWith (drop p (W.words words.now)) chunk }
+    requires bounded { length (W.words words.now) < 2 ^ 30 }
+    ensures { BeginsWith (drop p (W.words words.now)) result }
+{
+    let first = words.word(p);
+    let kind = kind_of(first);
+    let before = words_before(kind);
+    let base = words.word(p + before as usize);
+    let length = before + stated_size(kind, first, base);
+    Chunk {
+        kind,
+        before,
+        length,
+        base,
+    }
 }
 
 /// The kind of the chunk that begins with a word, by the word's header type.
@@ -100,13 +132,20 @@ fn words_before(kind: Kind) -> u32
     }
 }
 
-/// Whether all header words have the type of the first.
-fn is_of_one_type(header: &[u32]) -> bool
-    requires { 0 < length header.now }
-    ensures { result ≡ list_all (λ word. header_type word == header_type (slice_index header.now 0)) header.now }
+/// Whether the words from `start` up to `end` have the header type of the first of them.
+fn is_of_one_type<W: WordList>(words: &W, start: usize, end: usize) -> bool
+    requires some { start < end }
+    requires inside { end ≤ length (W.words words.now) }
+    ensures { result ≡ list_all (λ word. header_type word == header_type (slice_index (W.words words.now) start))
+        (take (end - start) (drop start (W.words words.now))) }
 {
-    let first = header[0] % 4;
-    header.iter().all(|word| *word % 4 == first)
+    let first = words.word(start) % 4;
+    for k in start + 1..end {
+        if words.word(k) % 4 != first {
+            return false;
+        }
+    }
+    true
 }
 
 /// How many words the header says that a chunk of this kind has from its base header on, by its first

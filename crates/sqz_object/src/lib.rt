@@ -10,10 +10,14 @@ pub mod laws;
 mod order;
 mod value;
 mod word;
+mod word_list;
+mod words;
 
 pub use base::{Base, base_of};
 pub use bit_field::BitField;
-pub use chunk::{Chunk, ChunkFault, Kind, chunk_at};
+pub use chunk::{Chunk, ChunkFault, Kind, chunk_at, chunk_in, known_chunk};
 pub use order::Order;
 pub use value::{Value, value_of};
 pub use word::{put_word, word_at};
+pub use word_list::WordList;
+pub use words::{WordIter, Words};

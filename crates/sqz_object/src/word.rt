@@ -11,10 +11,17 @@ pub fn word_at(bytes: &[u8], order: Order, k: usize) -> u32
     requires { 4 * k + 4 ≤ length bytes.now }
     ensures { result ≡ number_of order (take 4 (drop (4 * k) bytes.now)) }
 {
-    let four = &bytes[4 * k..4 * k + 4];
+    word_of(order, &bytes[4 * k..4 * k + 4])
+}
+
+/// The word that the first four bytes spell.
+pub(crate) fn word_of(order: Order, bytes: &[u8]) -> u32
+    requires { 4 ≤ length bytes.now }
+    ensures { result ≡ number_of order bytes.now }
+{
     match order {
-        Order::Little => LittleEndian::read_u32(four),
-        Order::Big => BigEndian::read_u32(four),
+        Order::Little => LittleEndian::read_u32(bytes),
+        Order::Big => BigEndian::read_u32(bytes),
     }
 }
 

@@ -12,7 +12,7 @@ ghost use Rattle.sqz_slide.specs.Pieces.{moved_in};
 use crate::moved_words::{moved_class, moved_field, moved_weak, nil_place};
 use crate::piece_sizes::piece_size;
 use sqz_image::{Heap, Object};
-use sqz_object::Kind;
+use sqz_object::{Kind, Words};
 use sqz_regions::{Forward, Regions};
 use sqz_trace::{Weak, is_weak, strong_fields};
 use std::alloc::{AllocError, Global};
@@ -61,12 +61,12 @@ fn push_moved(
     push_header(heap, object, forward, words)?;
     let count = strong_fields(heap, weak, object) as usize;
     let (strong, others) = object.fields().split_at(count);
-    push_strong(heap, strong, forward, words)?;
+    push_strong(heap, &strong, forward, words)?;
     if is_weak(weak, object) {
         let nil = nil_place(heap, weak, forward);
-        push_weak(heap, others, forward, nil, words)?;
+        push_weak(heap, &others, forward, nil, words)?;
     } else {
-        words.extend_from_slice(others)?;
+        push_untraced(&others, words)?;
     }
     Ok(())
 }
@@ -86,14 +86,14 @@ fn push_header(
     let header = object.words();
     match object.header().kind {
         Kind::Three => {
-            let class = moved_class(heap, header[1], forward);
-            words.extend_from_slice(&[header[0], class, header[2]])?;
+            let class = moved_class(heap, header.at(1), forward);
+            words.extend_from_slice(&[header.at(0), class, header.at(2)])?;
         }
         Kind::Two => {
-            let class = moved_class(heap, header[0], forward);
-            words.extend_from_slice(&[class, header[1]])?;
+            let class = moved_class(heap, header.at(0), forward);
+            words.extend_from_slice(&[class, header.at(1)])?;
         }
-        Kind::Free | Kind::Short => words.push(header[0])?,
+        Kind::Free | Kind::Short => words.push(header.at(0))?,
     }
     Ok(())
 }
@@ -101,7 +101,7 @@ fn push_header(
 /// Adds strong fields after the move.
 fn push_strong(
     heap: &Heap,
-    fields: &[u32],
+    fields: &Words<'_>,
     forward: &Forward,
     words: &mut Vec<u32>,
 ) -> Result<(), AllocError>
@@ -110,8 +110,8 @@ fn push_strong(
         → ArePlacesOf heap.now marks forward.now
         → words.new.items ≡ words.old.items ++ map (moved_field heap.now marks) fields.now) }
 {
-    for field in fields {
-        words.push(moved_field(heap, *field, forward))?;
+    for index in 0..fields.len() {
+        words.push(moved_field(heap, fields.at(index), forward))?;
     }
     Ok(())
 }
@@ -119,7 +119,7 @@ fn push_strong(
 /// Adds weak fields after the move, where nil has this place.
 fn push_weak(
     heap: &Heap,
-    fields: &[u32],
+    fields: &Words<'_>,
     forward: &Forward,
     nil: Option<u32>,
     words: &mut Vec<u32>,
@@ -130,8 +130,18 @@ fn push_weak(
         → nil ≡ nil_place heap.now weak marks
         → words.new.items ≡ words.old.items ++ map (moved_weak heap.now weak marks) fields.now) }
 {
-    for field in fields {
-        words.push(moved_weak(heap, *field, forward, nil))?;
+    for index in 0..fields.len() {
+        words.push(moved_weak(heap, fields.at(index), forward, nil))?;
+    }
+    Ok(())
+}
+
+/// Adds fields that are no slots, as they are.
+fn push_untraced(fields: &Words<'_>, words: &mut Vec<u32>) -> Result<(), AllocError>
+    ensures { IfOk result (λ _. words.new.items ≡ words.old.items ++ fields.now) }
+{
+    for index in 0..fields.len() {
+        words.push(fields.at(index))?;
     }
     Ok(())
 }

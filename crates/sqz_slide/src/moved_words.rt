@@ -25,7 +25,7 @@ pub fn moved_word(heap: &Heap, weak: Weak, forward: &Forward, object: u32, k: u3
 {
     let object = heap.object(object);
     let before = object.header().before;
-    let word = object.words()[k as usize];
+    let word = object.words().at(k as usize);
     if is_class_word(object.header().kind, k) {
         moved_class(heap, word, forward)
     } else if k <= before {

@@ -12,7 +12,7 @@ use crate::stopwatch::Stopwatch;
 use anyhow::Result;
 use sqz_census::{census, print};
 use sqz_image::laws::heap_bounds;
-use sqz_image::{Fault, Heap, Image, ReadSource, WriteSink, read_all, read_image, write_image};
+use sqz_image::{Fault, Heap, Image, ReadSource, WriteSink, image_of_file, read_all, write_image};
 use sqz_marks::Workers;
 use sqz_regions::{Cut, Forward, Regions, bases};
 use sqz_slide::{Pieces, slide};
@@ -87,7 +87,7 @@ fn bytes_of<R: Files + Clock + Print>(
     Ok(bytes)
 }
 
-/// The image of a file, whose bytes it no longer holds. Prints how long it takes.
+/// The image of a file. Prints how long it takes.
 fn image_of<R: Files + Clock + Print>(
     rt: &R,
     alloc: Global,
@@ -97,8 +97,7 @@ fn image_of<R: Files + Clock + Print>(
     ensures { IfOk result (λ image. AllByRecursion IsChunk image.memory.chunks) }
 {
     let bytes = bytes_of(rt, alloc, input, watch)?;
-    let image = read_image(alloc, &bytes)?;
-    drop(bytes);
+    let image = image_of_file(alloc, bytes)?;
     watch.lap(rt)?;
     Ok(image)
 }

@@ -7,6 +7,7 @@ use super::again::again;
 use super::dead_cycle::{assert_six_objects, image_in, new_sink};
 use super::rows::DEAD_CYCLE;
 use sqz_image::{Fault, Heap, Image, MemorySink, ReadSource, Sink, read_all};
+use sqz_object::Words;
 use std::process::Abort;
 use std::test::Fail;
 
@@ -33,10 +34,18 @@ fn file_read<R: Print + AllocGlobal>(rt: &R) -> Result<Vec<u8>, Fail> {
 fn assert_objects<R: Abort>(rt: &R, heap: &Heap)
     requires { object_count heap.now ≡ 6 }
 {
-    for (object, wanted) in OBJECTS.iter().enumerate() {
+    for (object, (address, words)) in OBJECTS.iter().enumerate() {
         let object = object as u32;
-        let found = (heap.address(object), heap.object(object).words());
-        assert_eq!(rt; found, *wanted, "object {object}");
+        assert_eq!(rt; heap.address(object), *address, "object {object}");
+        assert_words(rt, heap.object(object).words(), words);
+    }
+}
+
+/// Asserts that these are the words.
+fn assert_words<R: Abort>(rt: &R, found: &Words<'_>, wanted: &[u32]) {
+    assert_eq!(rt; found.len(), wanted.len());
+    for (k, word) in wanted.iter().enumerate() {
+        assert_eq!(rt; found.get(k), Some(*word), "word {k}");
     }
 }
 

@@ -8,6 +8,8 @@ mod devices;
 #[cfg(test)]
 mod equal_marks;
 #[cfg(test)]
+mod file_words;
+#[cfg(test)]
 mod gates;
 #[cfg(test)]
 mod images;

@@ -10,7 +10,7 @@ use crate::compaction::{Compaction, compaction_of};
 use crate::plan::Plan;
 use crate::summary::Summary;
 use sqz_image::laws::byte_bounds;
-use sqz_image::{Fault, Image, Sink, Source, read_all, read_image, write_all, write_image};
+use sqz_image::{Fault, Image, Sink, Source, image_of_file, read_all, write_all, write_image};
 use sqz_workers::Gate;
 use std::alloc::Global;
 use std::thread::Threads;
@@ -40,9 +40,8 @@ pub fn run<T: Threads + Sync, R: Source, W: Sink, C: Sink, G: Gate>(
         (sinks (W.state sink.old) (C.state report.old)) (sinks (W.state sink.new) (C.state report.new)) fault) }
 {
     let bytes = read_all(alloc, source)?;
-    let image = read_image(alloc, &bytes)?;
-    byte_bounds(&bytes);
-    drop(bytes);
+    byte_bounds(&bytes); // they are below 256
+    let image = image_of_file(alloc, bytes)?;
     let compaction = compaction_of(rt, alloc, plan, &image, gate)?;
     write_compaction(plan.census, &image, &compaction, sink, report)?;
     Ok(compaction.summary)

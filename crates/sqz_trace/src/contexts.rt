@@ -3,7 +3,10 @@
 ghost use Rattle.std.specs.Prelude.{◌≡◌, ◌==◌, ◌&&◌};
 ghost use Rattle.sqz_trace.specs.Slots.{is_context_index, context_fields};
 
-use sqz_object::{Base, Value, value_of};
+use sqz_object::{Base, Value, Words, value_of};
+
+/// The field of a context that holds its stack pointer.
+const STACK_POINTER: usize = 2;
 
 /// How many fields stand before the stack of a context.
 const FIXED_FIELDS: u32 = 6;
@@ -17,13 +20,10 @@ pub(crate) fn is_context(base: &Base) -> bool
 
 /// How many traced fields a context with these fields states: those up to the top of its stack. None
 /// where it has no stack pointer, or a negative one.
-pub(crate) fn context_fields(fields: &[u32]) -> Option<u32>
+pub(crate) fn context_fields(fields: &Words<'_>) -> Option<u32>
     ensures { result ≡ context_fields fields.now }
 {
-    let [_, _, top, ..] = fields else {
-        return None;
-    };
-    let stack_pointer = match value_of(*top) {
+    let stack_pointer = match value_of(fields.get(STACK_POINTER)?) {
         Value::Int(number) => number,
         Value::Pointer(_) | Value::Odd(_) => 0,
     };

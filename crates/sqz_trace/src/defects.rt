@@ -56,7 +56,7 @@ fn is_bad_method(object: &Object<'_>) -> bool
 {
     let base = base_of(object.header().base);
     let fields = object.fields();
-    is_method(&base) && states_too_many(method_fields(fields), fields.len() as u32)
+    is_method(&base) && states_too_many(method_fields(&fields), fields.len() as u32)
 }
 
 /// Whether the object is a context that states no number of traced fields, or more than it has.
@@ -65,7 +65,7 @@ fn is_bad_context(object: &Object<'_>) -> bool
 {
     let base = base_of(object.header().base);
     let fields = object.fields();
-    is_context(&base) && states_too_many(context_fields(fields), fields.len() as u32)
+    is_context(&base) && states_too_many(context_fields(&fields), fields.len() as u32)
 }
 
 /// Whether the object has weak slots that are cleared, and its class states no number of fixed fields, or more than it has.
@@ -116,10 +116,10 @@ fn bad_slot(heap: &Heap, object: &Object<'_>) -> Option<Slot>
 fn bad_field(heap: &Heap, object: &Object<'_>) -> Option<Slot>
     ensures { result ≡ first_bad heap.now object.now (field_slots 0 (traced object.now)) }
 {
-    let fields = &object.fields()[..traced_fields(object) as usize];
-    for (index, word) in fields.iter().enumerate() {
-        if is_bad_word(heap, *word) {
-            return Some(Slot::Field(index as u32));
+    let fields = object.fields();
+    for index in 0..traced_fields(object) {
+        if is_bad_word(heap, fields.at(index as usize)) {
+            return Some(Slot::Field(index));
         }
     }
     None

@@ -9,6 +9,9 @@ use crate::weak::Weak;
 use sqz_image::{Heap, Object};
 use sqz_object::{BitField, base_of};
 
+/// The field of a class that states how many fixed fields its instances have.
+const INSTANCE_SHAPE: usize = 2;
+
 /// The format of weak objects.
 const WEAK: u32 = 4;
 
@@ -40,10 +43,7 @@ pub(crate) fn fixed_by(heap: &Heap, class: Option<u32>) -> Option<u32>
     ensures { result ≡ fixed_by heap.now class }
 {
     let class = heap.object(class?);
-    let [_, _, word, ..] = class.fields() else {
-        return None;
-    };
-    fixed_in(*word)
+    fixed_in(class.fields().get(INSTANCE_SHAPE)?)
 }
 
 /// The number that the word of a class's field 2 states: an integer whose word has one more in two groups of bits.

@@ -16,6 +16,7 @@ use crate::slots::{class_address, named_by};
 use crate::strong_slots::strong_fields;
 use crate::weak::Weak;
 use sqz_image::{Fault, Heap, Object};
+use sqz_object::Words;
 use std::alloc::{AllocError, Global};
 
 /// Marks the object that a word names, and adds it to the worklist where it had no mark.
@@ -41,7 +42,7 @@ fn mark_named(
 /// Marks the objects that words name, and adds those that had no mark to the worklist.
 fn mark_all_named(
     heap: &Heap,
-    words: &[u32],
+    words: &Words<'_>,
     shades: &mut [Shade],
     worklist: &mut Vec<u32>,
 ) -> Result<(), AllocError>
@@ -49,8 +50,8 @@ fn mark_all_named(
     ensures { OnOk result (MarksTargets (IsNamedBelow heap.now words.now (length words.now))
         (marks_of shades.old) worklist.old.items (marks_of shades.new) worklist.new.items) }
 {
-    for word in words {
-        mark_named(heap, *word, shades, worklist)?;
+    for index in 0..words.len() {
+        mark_named(heap, words.at(index), shades, worklist)?;
     }
     Ok(())
 }
@@ -89,9 +90,9 @@ fn mark_targets(
 {
     let object = heap.object(index);
     let fields = object.fields();
-    let strong = strong_fields(heap, weak, &object) as usize;
+    let (strong, _) = fields.split_at(strong_fields(heap, weak, &object) as usize);
     mark_class(heap, &object, shades, worklist)?;
-    mark_all_named(heap, &fields[..strong], shades, worklist)
+    mark_all_named(heap, &strong, shades, worklist)
 }
 
 /// The reachable objects of a heap: a mark for each. The program marks by workers; this is the plain form, in one thread.

@@ -17,8 +17,8 @@ pub fn class_address(object: &Object<'_>) -> Option<u32>
     ensures { result ≡ slot_word object.now ClassWord }
 {
     let word = match object.header().kind {
-        Kind::Three => object.words()[1],
-        Kind::Two => object.words()[0],
+        Kind::Three => object.words().at(1),
+        Kind::Two => object.words().at(0),
         Kind::Free | Kind::Short => return None,
     };
     Some(word - word % 4)
@@ -34,10 +34,10 @@ pub fn traced_fields(object: &Object<'_>) -> u32
     let fields = object.fields();
     let count = fields.len() as u32;
     if is_context(&base) {
-        return clipped(context_fields(fields), count);
+        return clipped(context_fields(&fields), count);
     }
     if is_method(&base) {
-        return clipped(method_fields(fields), count);
+        return clipped(method_fields(&fields), count);
     }
     if base.format < 5 { count } else { 0 }
 }
@@ -79,7 +79,7 @@ fn word_among(object: &Object<'_>, count: u32, slot: Slot) -> Option<u32>
 {
     match slot {
         Slot::ClassWord => class_address(object),
-        Slot::Field(index) if index < count => Some(object.fields()[index as usize]),
+        Slot::Field(index) if index < count => Some(object.fields().at(index as usize)),
         Slot::Field(_) => None,
     }
 }

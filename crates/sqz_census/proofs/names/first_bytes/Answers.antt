@@ -9,6 +9,6 @@ returns c =
     let words = c.args.words.now in
     let count = c.args.count in
     c.truncate.ensures.items
-    ∙ ap (take count) c.in_ok-bytes.ensures
-    ∙ ap (λ (most : ℕ). take count (spelling_of order (take most words))) c.min.ensures
+    ∙ ap (take count) (c.in_ok-bytes.ensures ∙ ap (spelling_of order) c.split_at-front.ensures.front)
+    ∙ ap (λ (most : ℕ). take count (spelling_of order (take most words))) (rw c.len.ensures at c.min.ensures)
     ∙ take-spelling_of order words count 10 c.requires.inside c.requires.few

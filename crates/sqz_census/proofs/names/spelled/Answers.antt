@@ -2,5 +2,5 @@ use Rattle.std.proofs.Common.{arith}
 use Rattle.std.proofs.lemmas.Grind.{common_steps}
 use Rattle.sqz_census.proofs.names.spelled.Goals as goal
 
-pub loop-word-preserved : goal.loop-word-preserved
-loop-word-preserved c = grind (arith, common_steps)
+pub loop-index-preserved : goal.loop-index-preserved
+loop-index-preserved c = grind (arith, common_steps)

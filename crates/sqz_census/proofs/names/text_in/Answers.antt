@@ -11,6 +11,6 @@ returns c =
     let stated = ap (λ (base : Base). base.format) c.base_of-format.ensures
     ∙ ap (λ (header : Chunk). (base_of header.base).format) c.header.ensures.described in
     let text = c.in_ok-shown_bytes.ensures ∙ ap (map shown_byte) (c.deref.ensures.value ∙ c.in_ok-bytes.ensures) in
-    text_in-bytes c.args.order c.args.object.now c.base_of-format.result.format c.min.result c.fields-fields.result.now
+    text_in-bytes c.args.order c.args.object.now c.base_of-format.result.format c.min.result c.fields-fields.result
     c.in_ok-shown_bytes.field-0.items stated (omega arith) (omega arith) c.fields-fields.ensures.fields
     (omega (arith, c.min.ensures, c.saturating_sub-count.ensures)) text

@@ -10,11 +10,11 @@ pub returns-in-Err-clause-refused : goal.returns-in-Err-clause-refused
 returns-in-Err-clause-refused c =
     inr
     (rw c.refusal_of.ensures
-    (HasNoPartition-at c.loop-p.invariant c.in-Err.reason c.loop-p-test.true c.in-Err.ensures.fault))
+    (HasNoPartition-at c.loop-p.invariant c.in-Err.reason (omega (arith, c.len.ensures, c.loop-p-test.true)) c.in-Err.ensures.fault))
 
 pub overflow_cast-len : goal.overflow_cast-len
 overflow_cast-len c =
-    let count : c.len.result ≡ length c.loop-p.starts.items = c.len.ensures ∙ c.loop-p.starts.ok.0 in
+    let count : c.len-in_default.result ≡ length c.loop-p.starts.items = c.len-in_default.ensures ∙ c.loop-p.starts.ok.0 in
     omega (arith, count, few_starts c.loop-p.invariant, c.loop-p.invariant.inside, c.requires.few)
 
 pub loop-p-preserved-in-Free : goal.loop-p-preserved-in-Free
@@ -24,7 +24,7 @@ pub loop-p-preserved : goal.loop-p-preserved
 loop-p-preserved c =
     let so_far = c.loop-p.invariant in
     let chunk = c.in-Ok.chunk in
-    let count : c.len.result ≡ length c.loop-p.starts.items = c.len.ensures ∙ c.loop-p.starts.ok.0 in
+    let count : c.len-in_default.result ≡ length c.loop-p.starts.items = c.len-in_default.ensures ∙ c.loop-p.starts.ok.0 in
     let filled =
     c.in_ok-add-in_default.ensures (headers_in so_far.chunks) so_far.base_headers
     (as_many so_far ∙ sym count) (is_above so_far (c.loop-p.p + chunk.before) (omega arith)) in
@@ -34,4 +34,4 @@ loop-p-preserved c =
 
 pub returns-clause-index : goal.returns-clause-index
 returns-clause-index c =
-    whole_index c.loop-p.invariant c.loop-p-test.false
+    whole_index c.loop-p.invariant (omega (arith, c.len.ensures, c.loop-p-test.false))

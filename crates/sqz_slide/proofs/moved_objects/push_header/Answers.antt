@@ -10,10 +10,10 @@ returns-in_ok-extend_from_slice-in-Three c marks places =
     let headed : before c.args.object.now < length c.args.object.now = rw c.header.ensures.described at c.header.ensures.headed in
     let class = c.moved_class-class in
     let words = c.words-header in
-    c.in_ok-extend_from_slice-in-Three.ensures.items
+    (rw (c.at-in-Three.ensures, c.at-in-Three-2.ensures) at c.in_ok-extend_from_slice-in-Three.ensures.items)
     ∙ ap (λ (header : List ℕ). c.args.words.now.items ++ header)
     (moved_header-of_three c.args.heap.now marks c.args.object.now words.result.now headed words.ensures class.result
-    kind (class.ensures marks places))
+    kind (rw c.at.ensures at (class.ensures marks places)))
 
 pub returns-in_ok-extend_from_slice-in-Two : goal.returns-in_ok-extend_from_slice-in-Two
 returns-in_ok-extend_from_slice-in-Two c marks places =
@@ -21,7 +21,7 @@ returns-in_ok-extend_from_slice-in-Two c marks places =
     let headed : before c.args.object.now < length c.args.object.now = rw c.header.ensures.described at c.header.ensures.headed in
     let class = c.moved_class-class-in-Two in
     let words = c.words-header in
-    c.in_ok-extend_from_slice-in-Two.ensures.items
+    (rw c.at-in-Two-2.ensures at c.in_ok-extend_from_slice-in-Two.ensures.items)
     ∙ ap (λ (header : List ℕ). c.args.words.now.items ++ header)
     (moved_header-of_two c.args.heap.now marks c.args.object.now words.result.now headed words.ensures class.result
-    kind (class.ensures marks places))
+    kind (rw c.at-in-Two.ensures at (class.ensures marks places)))

@@ -5,5 +5,5 @@ use Rattle.sqz_slide.proofs.moved_objects.push_moved.Goals as goal
 pub returns-in_ok-push_weak : goal.returns-in_ok-push_weak
 returns-in_ok-push_weak c = grind (arith, common_steps)
 
-pub returns-in_ok-extend_from_slice : goal.returns-in_ok-extend_from_slice
-returns-in_ok-extend_from_slice c = grind (arith, common_steps)
+pub returns-in_ok-push_untraced : goal.returns-in_ok-push_untraced
+returns-in_ok-push_untraced c = grind (arith, common_steps)

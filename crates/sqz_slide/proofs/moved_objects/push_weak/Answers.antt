@@ -3,8 +3,8 @@ use Rattle.sqz_slide.specs.Moved.{moved_weak}
 use Rattle.sqz_slide.proofs.AddressLemmas.{map_one_more}
 use Rattle.sqz_slide.proofs.moved_objects.push_weak.Goals as goal
 
-pub loop-field-preserved : goal.loop-field-preserved
-loop-field-preserved c weak marks places nil =
-    map_one_more (moved_weak c.args.heap.now weak marks) c.args.words.now.items c.args.fields.now c.loop-field.field-index
-    c.moved_weak.result _ _ (omega arith) (c.moved_weak.ensures weak marks places nil) (c.loop-field.invariant weak marks places nil)
+pub loop-index-preserved : goal.loop-index-preserved
+loop-index-preserved c weak marks places nil =
+    map_one_more (moved_weak c.args.heap.now weak marks) c.args.words.now.items c.args.fields.now c.loop-index.index
+    c.moved_weak.result _ _ (omega arith) (rw c.at.ensures at (c.moved_weak.ensures weak marks places nil)) (c.loop-index.invariant weak marks places nil)
     c.in_ok-push.ensures.items

@@ -4,7 +4,7 @@ use Rattle.sqz_regions.specs.Bases.{ArePlacesOf}
 use Rattle.sqz_slide.specs.Moved.{nil_place, moved_weak}
 use Rattle.sqz_slide.proofs.moved_objects.push_weak.Given as goal
 
-abbrev pub invariant-loop-field : goal.invariant-loop-field
-invariant-loop-field l =
+abbrev pub invariant-loop-index : goal.invariant-loop-index
+invariant-loop-index l =
     (weak : Weak) (marks : List Bool) → ArePlacesOf l.heap marks l.forward → l.nil ≡ nil_place l.heap weak marks
-    → l.words.items ≡ l.fn.words.items ++ map (moved_weak l.heap weak marks) (take l.field-index l.fields)
+    → l.words.items ≡ l.fn.words.items ++ map (moved_weak l.heap weak marks) (take l.index l.fields)

@@ -6,7 +6,7 @@ pub returns-then-k-before-2 : goal.returns-then-k-before-2
 returns-then-k-before-2 c marks places =
     let header = c.header-before.ensures in
     rw (← c.object-object.ensures)
-    (c.moved_field.ensures.moved marks places
+    (rw c.at-word.ensures at (c.moved_field.ensures.moved marks places)
     ∙ sym (moved-strong_word c.args.heap.now c.args.weak marks _ _ c.words.ensures _ header.described header.headed
     _ c.strong_fields.ensures.strong c.args.k c.if-k-before.false c.if-k-before-2.true))
 
@@ -15,7 +15,7 @@ returns-then-is_weak c marks places =
     let header = c.header-before.ensures in
     let inside : c.args.k < length c.object-object.result = rw (← c.object-object.ensures) at c.requires.word in
     rw (← c.object-object.ensures)
-    (c.moved_weak.ensures c.args.weak marks places (c.nil_place.ensures marks places)
+    (rw c.at-word.ensures at (c.moved_weak.ensures c.args.weak marks places (c.nil_place.ensures marks places))
     ∙ sym (moved-weak_word c.args.heap.now c.args.weak marks _ _ c.words.ensures _ header.described header.headed
     _ c.strong_fields.ensures.strong c.args.k c.if-k-before.false (sym c.is_weak.ensures ∙ c.if-is_weak.true) inside
     c.if-k-before-2.false))
@@ -24,6 +24,7 @@ pub returns-else-is_weak : goal.returns-else-is_weak
 returns-else-is_weak c marks places =
     let header = c.header-before.ensures in
     rw (← c.object-object.ensures)
-    (sym (moved-untraced_word c.args.heap.now c.args.weak marks _ _ c.words.ensures _ header.described header.headed
+    (c.at-word.ensures
+    ∙ sym (moved-untraced_word c.args.heap.now c.args.weak marks _ _ c.words.ensures _ header.described header.headed
     _ c.strong_fields.ensures.strong c.args.k c.if-k-before.false (sym c.is_weak.ensures ∙ c.if-is_weak.false)
     c.if-k-before-2.false))

@@ -8,19 +8,19 @@ pub returns-in_err-image-clause-refuses : goal.returns-in_err-image-clause-refus
 returns-in_err-image-clause-refuses g c =
     let p = err_from_is_err_and c.from_residual-in_err-image.result c.from_residual-in_err-image.ensures.1 in
     rw (p.1, p.2) (refuses_file _ _ _ _ _ _ _ _ c.in_ok-bytes.bytes.items refl c.in_ok-bytes.ensures.whole
-    (rw c.deref.ensures.value at c.in_err-image.ensures.refused))
+    c.in_err-image.ensures.refused)
 
 pub returns-in_err-compaction-clause-refuses : goal.returns-in_err-compaction-clause-refuses
 returns-in_err-compaction-clause-refuses g c =
     let p = err_from_is_err_and c.from_residual-in_err-compaction.result c.from_residual-in_err-compaction.ensures.1 in
-    let holds = rw c.deref.ensures.value at c.in_ok-image.ensures.image in
+    let holds = c.in_ok-image.ensures.image in
     rw (p.1, p.2) (refuses_image _ _ _ _ _ _ _ _ c.in_ok-bytes.bytes.items c.in_ok-image.image refl
     c.in_ok-bytes.ensures.whole holds c.in_err-compaction.ensures.refused)
 
 pub returns-in_err-write_compaction-clause-refuses : goal.returns-in_err-write_compaction-clause-refuses
 returns-in_err-write_compaction-clause-refuses g c =
     let p = err_from_is_err_and c.from_residual-in_err-write_compaction.result c.from_residual-in_err-write_compaction.ensures.1 in
-    let holds = rw c.deref.ensures.value at c.in_ok-image.ensures.image in
+    let holds = c.in_ok-image.ensures.image in
     rw (p.1, p.2) (elim c.in_err-write_compaction.ensures.stopped [
       | inl (stops, untouched) ↦
           refuses_writing _ _ _ _ _ _ _ c.in_ok-bytes.bytes.items c.in_ok-image.image _ _ _ _ c.in_ok-bytes.ensures.whole holds
@@ -32,9 +32,9 @@ returns-in_err-write_compaction-clause-refuses g c =
 
 pub returns-clause-compacts : goal.returns-clause-compacts
 returns-clause-compacts g c =
-    let holds = rw c.deref.ensures.value at c.in_ok-image.ensures.image in
+    let holds = c.in_ok-image.ensures.image in
     let written = c.in_ok-write_compaction.ensures.image in
-    let are = rw c.deref-2.ensures.value at c.byte_bounds.ensures in
+    let are = rw c.deref.ensures.value at c.byte_bounds.ensures in
     elim c.in_ok-write_compaction.ensures.census [
       | inl (asked, whole) ↦
           compacts_and_reports _ _ _ _ _ _ _ c.in_ok-bytes.bytes.items c.in_ok-image.image _ _ _ _

@@ -1,4 +1,5 @@
-use Rattle.std.proofs.Common.{◌≡◌, None, sym, ◌∙◌, inr}
+use Rattle.std.proofs.Common.{◌≡◌, ℕ, List, None, sym, ap, subst, ◌∙◌, inr}
+use Rattle.sqz_object.specs.Bytes.{words_of}
 use Rattle.sqz_image.specs.Index.{IsIndex}
 use Rattle.sqz_image.specs.Memory.{memory_of, base_headers, IsListed}
 use Rattle.sqz_image.specs.Objects.{find}
@@ -6,42 +7,48 @@ use Rattle.sqz_image.specs.Ranks.{IsRanked}
 use Rattle.sqz_image.proofs.HeapLemmas.{listed_of, headers_of, table_of}
 use Rattle.sqz_image.proofs.HeapLemmas.{find_in_table, lacks_special_of, whole_memory_of}
 use Rattle.sqz_image.proofs.heap.Heap.of.Goals as goal
-use Rattle.sqz_image.proofs.heap.Heap.of.Goals.{In_ok-index, After-place_at}
+use Rattle.sqz_image.proofs.heap.Heap.of.Goals.{After-of-words, In_ok-index, After-place_at}
+
+-- the words are those of the bytes
+words_are : (c : After-of-words) → c.of-words.result ≡ words_of c.args.order c.args.bytes
+words_are c = c.of-words.ensures ∙ ap (words_of c.args.order) c.as_slice.ensures
 
 index_is : (c : In_ok-index)
-    → IsIndex c.args.words.items c.in_ok-index.index.starts.items c.in_ok-index.index.headers.items
-index_is c = rw c.deref.ensures.value at c.in_ok-index.ensures.index
+    → IsIndex (words_of c.args.order c.args.bytes) c.in_ok-index.index.starts.items c.in_ok-index.index.headers.items
+index_is c =
+    subst (λ (words : List ℕ). IsIndex words c.in_ok-index.index.starts.items c.in_ok-index.index.headers.items)
+    (words_are (goal.at.In_ok-index c).After-of-words) c.in_ok-index.ensures.index
 
 listed : (c : In_ok-index)
-    → IsListed (memory_of c.args.order c.args.base c.args.special c.args.words.items) c.args.words.items c.in_ok-index.index.starts.items
+    → IsListed (memory_of c.args.order c.args.base c.args.special (words_of c.args.order c.args.bytes)) (words_of c.args.order c.args.bytes) c.in_ok-index.index.starts.items
 listed c =
     listed_of c.args.order c.args.base c.args.special (index_is c)
     c.requires.few c.requires.within c.requires.aligned
 
 ranked : (c : In_ok-index)
-    → IsRanked (base_headers (memory_of c.args.order c.args.base c.args.special c.args.words.items)) c.in_ok-index.index.headers.items
+    → IsRanked (base_headers (memory_of c.args.order c.args.base c.args.special (words_of c.args.order c.args.bytes))) c.in_ok-index.index.headers.items
 ranked c = headers_of c.args.order c.args.base c.args.special (index_is c)
 
 pub place_at-requires : goal.place_at-requires
 place_at-requires c =
     let read = (goal.at.place_at-requires c).In_ok-index in
-    rw c.deref-2.ensures.value (table_of (listed read) (ranked read))
+    rw c.deref.ensures.value (table_of (listed read) (ranked read))
 
 -- what the look for the special objects array says
 found : (c : After-place_at)
-    → find (memory_of c.args.order c.args.base c.args.special c.args.words.items) c.args.special ≡ c.place_at.result
+    → find (memory_of c.args.order c.args.base c.args.special (words_of c.args.order c.args.bytes)) c.args.special ≡ c.place_at.result
 found c =
     let at = goal.at.After-place_at c in
     sym
     (find_in_table (listed at.In_ok-index) c.args.special c.place_at.result (ranked at.In_ok-index)
-    (rw c.deref-2.ensures.value at c.place_at.ensures))
+    (rw c.deref.ensures.value at c.place_at.ensures))
 
 pub returns-in_default-clause-refused : goal.returns-in_default-clause-refused
 returns-in_default-clause-refused c =
     let at = goal.at.returns-in_default-clause-refused c in
     let missing =
     find_in_table (listed at.In_ok-index) c.args.special None (ranked at.In_ok-index)
-    (rw c.deref-2.ensures.value at c.in_default.ensures) in
+    (rw c.deref.ensures.value at c.in_default.ensures) in
     inr (inr (lacks_special_of c.args.order c.args.base c.args.special (index_is at.In_ok-index) (sym missing)))
 
 pub invariant_of-result : goal.invariant_of-result

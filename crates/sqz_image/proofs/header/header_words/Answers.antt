@@ -2,7 +2,7 @@ use Rattle.std.proofs.Common.{◌≡◌, ◌≢◌, ◌<◌, length, take, sym, 
 use Rattle.std.proofs.lemmas.List.{length-set, length-take, ext_get_or}
 use Rattle.sqz_object.specs.Bytes.{words_of}
 use Rattle.sqz_object.proofs.WordLemmas.{length-words_of, words_of-at}
-use Rattle.sqz_image.proofs.words.header_words.Goals as goal
+use Rattle.sqz_image.proofs.header.header_words.Goals as goal
 
 pub word_at-requires : goal.word_at-requires
 word_at-requires c = omega (arith, length-take 64 c.args.bytes.now, c.requires, c.loop-k-test.true)
