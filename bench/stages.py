@@ -1,9 +1,10 @@
 #!/usr/bin/env python3
 """Times each stage of a run over a made image, and `cp` beside it. Prints a table in Markdown.
 
-Usage: bench/stages.py [--part PART] [--mib N] [--runs N] [--workers N ...] [--beside PROGRAM]
+Usage: bench/stages.py [--part PART] [--mib N] [--runs N] [--workers N ...] [--swapped] [--beside PROGRAM]
 
-The image is one of bench/compare.py: `mixed` (the default), `fitted`, `1 MiB` or `anywhere`. The numbers are milliseconds, each the median
+The image is one of bench/compare.py: `mixed` (the default), `fitted`, `1 MiB` or `anywhere`; with `--swapped` it is
+in the other byte order than this machine's. The numbers are milliseconds, each the median
 of so many times three runs; the program of `crates/sqz_stage_times` makes three at a time, and `rt run -- --help` there builds it.
 Plain marking, which a run does not do, stands there to compare with. Copies by `cp` are made in turns with the runs.
 
@@ -11,6 +12,7 @@ With `--beside` the program of another checkout that times stages makes runs ove
 below each of this one's. In odd turns this program goes first, in even ones the other, so that noise of the machine falls on both."""
 
 import argparse
+import array
 import os
 import statistics
 import subprocess
@@ -29,6 +31,15 @@ def timed(program, workers, image, out):
     words = [program, "--workers", str(workers), image, out]
     lines = subprocess.run(words, capture_output=True, text=True, check=True).stdout.splitlines()
     return lines[0].split(), [[float(word) for word in line.split()] for line in lines[1:]]
+
+
+def swap_words(path):
+    """Puts each word of a file into the other byte order."""
+    with open(path, "rb") as file:
+        words = array.array("I", file.read())
+    words.byteswap()
+    with open(path, "wb") as file:
+        words.tofile(file)
 
 
 def copied(image, out):
@@ -67,12 +78,15 @@ def main():
     parser.add_argument("--mib", type=int, default=64)
     parser.add_argument("--runs", type=int, default=3)
     parser.add_argument("--workers", type=int, nargs="+", default=[1, 2, 4])
+    parser.add_argument("--swapped", action="store_true")
     parser.add_argument("--beside", metavar="PROGRAM")
     options = parser.parse_args()
     programs = [PROGRAM, options.beside] if options.beside else [PROGRAM]
     with tempfile.TemporaryDirectory() as folder:
         image, out = (os.path.join(folder, name) for name in ("in.image", "out.image"))
         compare.make_image(image, options.mib * compare.MIB, compare.PARTS[options.part])
+        if options.swapped:
+            swap_words(image)
         for number, workers in enumerate(options.workers):
             names, rows, copy = measured(programs, image, out, workers, options.runs)
             if number == 0:
