@@ -6,7 +6,7 @@ Usage: bench/stages.py [--part PART] [--mib N] [--runs N] [--workers N ...] [--s
 The image is one of bench/compare.py: `mixed` (the default), `fitted`, `1 MiB` or `anywhere`; with `--swapped` it is
 in the other byte order than this machine's. The numbers are milliseconds, each the median
 of so many times three runs; the program of `crates/sqz_stage_times` makes three at a time, and `rt run -- --help` there builds it.
-Plain marking, which a run does not do, stands there to compare with. Copies by `cp` are made in turns with the runs.
+Copies by `cp` are made in turns with the runs.
 
 With `--beside` the program of another checkout that times stages makes runs over the same image, in turns with this one, and has a line
 below each of this one's. In odd turns this program goes first, in even ones the other, so that noise of the machine falls on both."""
@@ -23,7 +23,6 @@ import time
 import compare
 
 PROGRAM = os.path.join(compare.ROOT, "crates", "sqz_stage_times", "out", "sqz_stage_times")
-NOT_OF_A_RUN = "plain"
 
 
 def timed(program, workers, image, out):
@@ -51,11 +50,10 @@ def copied(image, out):
     return 1000 * (time.monotonic() - begun)
 
 
-def medians(names, runs):
+def medians(runs):
     """The median of each stage, and that of a whole run."""
     each = [statistics.median(column) for column in zip(*runs)]
-    left_out = names.index(NOT_OF_A_RUN)
-    return [*each, statistics.median(sum(run) - run[left_out] for run in runs)]
+    return [*each, statistics.median(sum(run) for run in runs)]
 
 
 def measured(programs, image, out, workers, count):
@@ -69,7 +67,7 @@ def measured(programs, image, out, workers, count):
                 sys.exit(f"{program} times other stages: {' '.join(stages)}")
             names = stages
             runs[program] += three
-    return names, [medians(names, runs[program]) for program in programs], statistics.median(copies)
+    return names, [medians(runs[program]) for program in programs], statistics.median(copies)
 
 
 def main():

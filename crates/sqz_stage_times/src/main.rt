@@ -1,51 +1,96 @@
-//! The program `sqz_stage_times`: takes the words that `sqzcompact` takes, and prints how long each stage of three such runs takes, in
-//! milliseconds. It is for those who work on the product, and promises nothing.
+//! The program `sqz_stage_times`: takes the command line of `sqzcompact`, and prints how many milliseconds each stage
+//! of three such runs takes, each with a census. It is for those who work on the product.
 #![tactic(auto)]
 
-mod stages;
-mod stopwatch;
+mod stage_printer;
 
 use anyhow::Result;
 use sqz_arguments::{Arguments, read_arguments};
+use sqz_image::{ReadSource, WriteSink};
 use sqz_marks::Workers;
 use sqz_regions::Cut;
+use sqz_tool::{Plan, Session, run_observed};
 use sqz_trace::Weak;
-use stages::{Work, print_stages};
+use sqz_workers::OpenGate;
+use stage_printer::StagePrinter;
 use std::alloc::Global;
-use std::env;
+use std::fs::File;
 use std::process::ExitCode;
 use std::rt::Files;
 use std::thread::Threads;
 use std::time::Clock;
+use std::{env, io};
 
-/// The words of the command line are at fault, or there is no memory for them.
+/// How often the image is compacted.
+const RUNS: u32 = 3;
+
+/// The names of the stages, in their order.
+const STAGES: &[&str] = &[
+    "read", "index", "cut", "mark", "check", "place", "slide", "census", "write",
+];
+
+/// The exit if the command line is wrong, or there is no memory to read it.
 const BAD_ARGUMENTS: u8 = 2;
 
-/// The runs that a command line asks for, each with a census.
-fn run<R: Files + Threads + Sync + Clock + Print>(
+/// The plan that a command line asks for, with a census.
+fn plan_of(arguments: &Arguments<'_>) -> Result<Plan> {
+    let weak = if arguments.clear_weak {
+        Weak::Clear
+    } else {
+        Weak::Keep
+    };
+    Ok(Plan {
+        workers: Workers::new(arguments.workers)?,
+        cut: Cut::every(arguments.region_words)?,
+        weak,
+        census: true,
+    })
+}
+
+/// Compacts the image of a command line, and prints how long each stage takes. The census is dropped.
+fn print_run<R: Files + Threads + Sync + Clock + Print>(
     rt: &R,
     alloc: Global,
     arguments: &Arguments<'_>,
 ) -> Result<()> {
-    let work = Work {
-        input: arguments.input,
-        output: arguments.output,
-        workers: Workers::new(arguments.workers)?,
-        cut: Cut::every(arguments.region_words)?,
-        weak: if arguments.clear_weak {
-            Weak::Clear
-        } else {
-            Weak::Keep
-        },
+    let plan = plan_of(arguments)?;
+    let mut source = ReadSource::new(File::open(rt, arguments.input)?);
+    let mut sink = WriteSink::new(File::create(rt, arguments.output)?);
+    let mut report = WriteSink::new(io::sink());
+    let mut printer = StagePrinter::start(rt)?;
+    let mut session = Session {
+        rt,
+        alloc,
+        gate: &OpenGate,
+        observer: &mut printer,
     };
-    print_stages(rt, alloc, &work)
+    run_observed(&mut session, &plan, &mut source, &mut sink, &mut report)?;
+    printer.finish()?;
+    println!(rt)?;
+    Ok(())
+}
+
+/// Prints a line of the stages' names, and for each run a line of milliseconds.
+fn print_runs<R: Files + Threads + Sync + Clock + Print>(
+    rt: &R,
+    alloc: Global,
+    arguments: &Arguments<'_>,
+) -> Result<()> {
+    for stage in STAGES {
+        print!(rt; "{stage:>9}")?;
+    }
+    println!(rt)?;
+    for _ in 0..RUNS {
+        print_run(rt, alloc, arguments)?;
+    }
+    Ok(())
 }
 
 fn main(rt: HostRuntime) -> Result<ExitCode> {
     let words: Vec<String> = env::args(&rt)?.collect(rt.alloc())?;
     match read_arguments(rt.alloc(), &words) {
         Ok(arguments) => {
-            run(&rt, rt.alloc(), &arguments)?;
+            print_runs(&rt, rt.alloc(), &arguments)?;
             Ok(ExitCode::SUCCESS)
         }
         Err(error) => {

@@ -18,6 +18,8 @@ mod held;
 #[cfg(test)]
 mod object_sizes;
 #[cfg(test)]
+mod observers;
+#[cfg(test)]
 mod pausing_sources;
 #[cfg(test)]
 mod plans;

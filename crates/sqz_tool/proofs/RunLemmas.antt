@@ -1,12 +1,13 @@
 -- From what a run did, and what stopped it, to the run's contract.
--- Serves `compact_files::compact` and `running::run`.
-use Rattle.std.proofs.Common.{◌≡◌, ◌≢◌, ℕ, ◌≤◌, ◌⊎◌, Bool, true, false, List, None, refl, sym, subst, arith, inl, inr}
+-- Serves `compact_files::compact` and `running::run_observed`.
+use Rattle.std.proofs.Common.{◌≡◌, ◌≢◌, ℕ, ◌≤◌, ◌⊎◌, Bool, true, false, List, Option, Some, None, option_map, refl, sym, subst, arith, inl, inr}
+use Rattle.std.specs.Prelude.{IsSomeAnd, MatchOption}
 use Rattle.sqz_object.specs.declared.chunk.ChunkFault.{ChunkFault}
 use Rattle.sqz_object.specs.declared.chunk.ChunkFault.TheVariants.{ZeroSize, HeaderMismatch, Overrun}
 use Rattle.sqz_image.specs.declared.fault.Fault.{Fault}
 use Rattle.sqz_image.specs.declared.fault.Fault.TheVariants.{OutOfMemory, ReadFailed, WriteFailed, BadWorkers, BadCut}
 use Rattle.sqz_image.specs.File.{AreBytes, file_with}
-use Rattle.sqz_image.specs.Objects.{SavedImage, file_bytes}
+use Rattle.sqz_image.specs.Objects.{Memory, SavedImage, file_bytes}
 use Rattle.sqz_image.specs.Numbers.{number_of_fault}
 use Rattle.sqz_image.specs.Refusals.{file_fault, Holds, IsUnreadable, refusal_of}
 use Rattle.sqz_image.specs.Devices.{SourceState, SinkState, new_source, ReadsWhole, ReadStops, WritesWhole, WriteStops}
@@ -17,7 +18,8 @@ use Rattle.sqz_tool.specs.declared.summary.Summary.{Summary}
 use Rattle.sqz_tool.specs.Compacted.{compacted}
 use Rattle.sqz_tool.specs.Verdict.{IsAccepted, IsRefused}
 use Rattle.sqz_command.specs.Exits.{exit_of}
-use Rattle.sqz_tool.specs.Headline.{IsCompaction, LacksNilIn, HasDefectIn, Sinks, sinks, Reports, Compacts, RefusesFile}
+use Rattle.sqz_tool.specs.Headline.{IsReport, IsReportIfAsked, IsCompaction, LacksNilIn, HasDefectIn, Sinks, sinks, Reports}
+use Rattle.sqz_tool.specs.Headline.{Compacts, RefusesFile}
 use Rattle.sqz_tool.specs.Headline.{StopsAtImage, StopsAtCensus, Refuses}
 use Rattle.sqz_tool.proofs.FixedPointLemmas.{IsFixedPoint-accepted}
 use Rattle.clap.specs.Words.{Text}
@@ -115,9 +117,27 @@ module _ (gives_all : Bool) (weak : Weak) (census : Bool) (from to : SourceState
 
 -- ---- an image that was compacted
 
-module _ (gives_all : Bool) (weak : Weak) (census : Bool) (from to : SourceState) (old new : Sinks) (file : List ℕ) (image : SavedImage) (special : ℕ)
-    (pieces : List (List ℕ)) (summary : Summary) (text : List ℕ) (read : ReadsWhole gives_all from to file) (holds : Holds file image)
-    (is : IsCompaction weak census image special pieces summary text) where
+-- a text of a census was made only if one is asked for
+module _ {T : Type 0} (items : T → List ℕ) (memory : Memory) (weak : Weak) (marks : List Bool) where
+  report_asked : (asked : Bool) (text : Option T) (P : T → Type 0) → IsReportIfAsked asked memory weak marks (option_map items text)
+      → IsSomeAnd text P → (asked ≡ true) × ((t : T) × IsReport memory weak marks (items t) × P t)
+  report_asked true (Some t) P report p = (refl, (t, report, p))
+  report_asked false (Some t) P report p = absurd report
+  report_asked true None P report p = absurd report
+  report_asked false None P report p = absurd p
+
+  -- what was reported
+  reports : (asked : Bool) (text : Option T) (old new : SinkState) → IsReportIfAsked asked memory weak marks (option_map items text)
+      → MatchOption text (new ≡ old) (λ t. WritesWhole old new (items t)) → Reports weak asked memory marks old new
+  reports true (Some t) old new report whole = (items t, report, whole)
+  reports false None old new report same = same
+  reports true None old new report same = absurd report
+  reports false (Some t) old new report whole = absurd report
+
+module _ (gives_all : Bool) (weak : Weak) (census : Bool) (from to : SourceState) (old new : Sinks) (file : List ℕ) (image : SavedImage)
+    (special : ℕ) (pieces : List (List ℕ)) (summary : Summary) {T : Type 0} (items : T → List ℕ) (text : Option T)
+    (read : ReadsWhole gives_all from to file) (holds : Holds file image)
+    (is : IsCompaction weak census image special pieces summary (option_map items text)) where
   accepted : IsAccepted weak file image is.marks
   accepted = record { holds = holds; has_nil = is.has_nil; reachable = is.reachable; sound = is.sound }
 
@@ -150,40 +170,31 @@ module _ (gives_all : Bool) (weak : Weak) (census : Bool) (from to : SourceState
     moved_written = subst (WritesWhole old.image new.image) is.bytes written
 
     -- written, but the census is not
-    pub refuses_report : (fault : Fault) → census ≡ true → WriteStops old.census new.census text fault
+    pub refuses_report : (fault : Fault) → IsSomeAnd text (λ t. WriteStops old.census new.census (items t) fault)
         → Refuses gives_all weak census from to old new fault
-    refuses_report fault asked stops =
-        let named = subst (WriteStops old.census new.census text) stops.named stops in
+    refuses_report fault some =
+        let asked = report_asked items image.memory weak is.marks census text
+        (λ t. WriteStops old.census new.census (items t) fault) is.reported some in
+        let (t, report, stops) = asked.1 in
+        let named = subst (WriteStops old.census new.census (items t)) stops.named stops in
         refuses_stopped fault stops.named
-        (inr (asked, record { written = moved_written; text = text; report = is.reported asked; stops = named }))
+        (inr (asked.0, record { written = moved_written; text = items t; report = report; stops = named }))
 
-    module _ (are_bytes : AreBytes file) where
-      -- and written, with what there is to report
-      compacts : Reports weak census image.memory is.marks old.census new.census → Compacts gives_all weak census from to old new summary
-      compacts reported =
-          record {
-            file = file;
-            read = read;
-            image = image;
-            marks = is.marks;
-            accepted = accepted;
-            written = moved_written;
-            reported = reported;
-            counted = is.counted;
-            fixed_point = IsFixedPoint-accepted weak file image is.marks are_bytes accepted;
-          }
-
-      -- no census is asked for
-      pub compacts_alone : census ≡ false → new.census ≡ old.census → Compacts gives_all weak census from to old new summary
-      compacts_alone unasked untouched =
-          compacts (subst (λ (c : Bool). Reports weak c image.memory is.marks old.census new.census) (sym unasked) untouched)
-
-      -- one is, and its text was written
-      pub compacts_and_reports : census ≡ true → WritesWhole old.census new.census text
-          → Compacts gives_all weak census from to old new summary
-      compacts_and_reports asked whole =
-          compacts (subst (λ (c : Bool). Reports weak c image.memory is.marks old.census new.census) (sym asked)
-          (text, is.reported asked, whole))
+    -- and written, with what there is to report
+    pub compacts : AreBytes file → MatchOption text (new.census ≡ old.census) (λ t. WritesWhole old.census new.census (items t))
+        → Compacts gives_all weak census from to old new summary
+    compacts are_bytes reported =
+        record {
+          file = file;
+          read = read;
+          image = image;
+          marks = is.marks;
+          accepted = accepted;
+          written = moved_written;
+          reported = reports items image.memory weak is.marks census text old.census new.census is.reported reported;
+          counted = is.counted;
+          fixed_point = IsFixedPoint-accepted weak file image is.marks are_bytes accepted;
+        }
 
 -- ---- a run from one file to another
 

@@ -1,5 +1,5 @@
 -- What a run does: it writes exactly the compaction of what it read, or says why not.
-use Rattle.std.specs.Prelude.{◌≡◌, ◌⊎◌, ℕ, ◌*◌, ◌^◌, ◌<◌, Bool, true, false, List, length, Some, None}
+use Rattle.std.specs.Prelude.{◌≡◌, ◌⊎◌, ℕ, ◌*◌, ◌^◌, ◌<◌, Bool, true, false, List, length, Option, Some, None}
 use Rattle.std.specs.List.{concat}
 use Rattle.std.specs.Io.KnownBytes.{Consumes}
 use Rattle.sqz_image.specs.declared.fault.Fault.{Fault}
@@ -36,10 +36,16 @@ pub record IsReport (memory : Memory) (weak : Weak) (marks : List Bool) (text : 
   pub census : IsCensus memory weak marks rows
   pub text_is : text ≡ census_text rows
 
--- the address and the pieces are those of the image's compaction, these are the numbers, and the text is that of its
--- census where one is asked for
+-- the text of the census, if one is asked for, and no text if none is
+abbrev pub IsReportIfAsked : Bool → Memory → Weak → List Bool → Option (List ℕ) → Type 0
+IsReportIfAsked true memory weak marks (Some text) = IsReport memory weak marks text
+IsReportIfAsked false memory weak marks None = Unit {0}
+IsReportIfAsked _ memory weak marks _ = ⊥
+
+-- the address and the pieces are those of the image's compaction, these are the numbers, and this is the text of its
+-- census
 pub record IsCompaction (weak : Weak) (census : Bool) (image : SavedImage) (special : ℕ) (pieces : List (List ℕ)) (summary : Summary)
-    (text : List ℕ) : Type 0 where
+    (text : Option (List ℕ)) : Type 0 where
   pub marks : List Bool
   pub has_nil : lacks_nil image.memory weak ≡ false
   pub reachable : IsReachability image.memory weak marks
@@ -47,7 +53,7 @@ pub record IsCompaction (weak : Weak) (census : Bool) (image : SavedImage) (spec
   pub bytes : file_with image.memory.order image.prefix image.header special pieces ≡ file_bytes (compacted image weak marks)
   pub few : length (concat pieces) < 2 ^ 30
   pub counted : summary ≡ summary_of image marks
-  pub reported : census ≡ true → IsReport image.memory weak marks text
+  pub reported : IsReportIfAsked census image.memory weak marks text
 
 -- there is no nil for weak slots
 pub record LacksNilIn (weak : Weak) (image : SavedImage) (fault : Fault) : Type 0 where

@@ -1,6 +1,6 @@
 //! What is written of an image: its live objects in their new places.
 
-ghost use Rattle.std.specs.Prelude.{◌≡◌, ◌⊎◌, ◌+◌, ◌*◌, ◌^◌, ◌<◌, ◌≤◌, true, false, length, sum, None, IfOk, IfErr};
+ghost use Rattle.std.specs.Prelude.{◌≡◌, ◌⊎◌, ◌+◌, ◌*◌, ◌^◌, ◌<◌, ◌≤◌, true, false, length, sum, None, option_map, IfOk, IfErr};
 ghost use Rattle.std.specs.List.{AllByRecursion};
 ghost use Rattle.sqz_object.specs.Chunk.{IsChunk};
 ghost use Rattle.sqz_image.specs.declared.fault.Fault.TheVariants.{OutOfMemory};
@@ -9,16 +9,18 @@ ghost use Rattle.sqz_trace.specs.Reachability.{IsReachability};
 ghost use Rattle.sqz_trace.specs.Defects.{first_defect, lacks_nil};
 ghost use Rattle.sqz_regions.specs.Places.{live_words};
 ghost use Rattle.sqz_regions.specs.Bases.{AreSums, ArePlacesOf};
-ghost use Rattle.sqz_tool.specs.Headline.{IsCompaction, IsReport, LacksNilIn, HasDefectIn};
+ghost use Rattle.sqz_tool.specs.Headline.{IsCompaction, IsReportIfAsked, LacksNilIn, HasDefectIn};
 
+use crate::observer::{Stage, StageObserver};
 use crate::plan::Plan;
+use crate::session::Session;
 use crate::summary::Summary;
 use sqz_census::{census, print};
 use sqz_image::laws::heap_bounds;
 use sqz_image::{Fault, Heap, Image};
 use sqz_regions::{Forward, Regions, bases};
 use sqz_slide::{Pieces, slide};
-use sqz_trace::{Marks, Weak, first_defect, lacks_nil};
+use sqz_trace::{Marks, first_defect, lacks_nil};
 use sqz_workers::{Gate, Marked, mark};
 use std::alloc::Global;
 use std::thread::Threads;
@@ -31,21 +33,20 @@ pub(crate) struct Compaction {
     /// The words of the live objects, in their order.
     pub pieces: Pieces,
     pub summary: Summary,
-    /// The text of the census; empty where the plan asks for none.
-    pub census: Vec<u8>,
+    /// The text of the census, if the plan asks for one.
+    pub census: Option<Vec<u8>>,
 }
 
-/// The compaction of an image. Refused with `NoNil` where weak slots are to be cleared and there is no nil, else with the
-/// defect of the lowest reachable object that has one, else for want of memory alone.
-pub(crate) fn compaction_of<T: Threads + Sync, G: Gate>(
-    rt: &T,
-    alloc: Global,
+/// The compaction of an image. Fails with `NoNil` if weak slots are to be cleared and there is no nil, else with the
+/// defect of the lowest reachable object that has one; otherwise only by running out of memory.
+pub(crate) fn compaction_of<T: Threads + Sync, G: Gate, O: StageObserver>(
+    session: &mut Session<'_, T, G, O>,
     plan: &Plan,
     image: &Image,
-    gate: &G,
 ) -> Result<Compaction, Fault>
     requires { AllByRecursion IsChunk image.now.memory.chunks }
-    ensures compaction { IfOk result (λ c. IsCompaction plan.now.weak plan.now.census image.now c.special c.pieces c.summary c.census.items) }
+    ensures compaction { IfOk result (λ c. IsCompaction plan.now.weak plan.now.census image.now c.special c.pieces c.summary
+        (option_map (λ text. text.items) c.census)) }
     ensures refused { IfErr result (λ fault. (fault ≡ OutOfMemory)
         ⊎ LacksNilIn plan.now.weak image.now fault ⊎ HasDefectIn plan.now.weak image.now fault) }
 {
@@ -53,19 +54,19 @@ pub(crate) fn compaction_of<T: Threads + Sync, G: Gate>(
     if lacks_nil(heap, plan.weak) {
         return Err(Fault::NoNil);
     }
-    let regions = Regions::of(alloc, heap, &plan.cut)?;
-    let marked = sound_marks(rt, alloc, plan, image, &regions, gate)?;
-    moved(rt, alloc, plan, image, &regions, &marked, gate)
+    let regions = Regions::of(session.alloc, heap, &plan.cut)?;
+    session.observer.finished(Stage::Cut);
+    let marked = sound_marks(session, plan, image, &regions)?;
+    moved(session, plan, image, &regions, &marked)
 }
 
-/// What marking gives. Refused with the defect of the lowest reachable object that has one, else for want of memory alone.
-fn sound_marks<T: Threads + Sync, G: Gate>(
-    rt: &T,
-    alloc: Global,
+/// What marking gives. Fails with the defect of the lowest reachable object that has one; otherwise only by running out
+/// of memory.
+fn sound_marks<T: Threads + Sync, G: Gate, O: StageObserver>(
+    session: &mut Session<'_, T, G, O>,
     plan: &Plan,
     image: &Image,
     regions: &Regions<'_>,
-    gate: &G,
 ) -> Result<Marked, Fault>
     requires regions { regions.now.memory ≡ image.now.memory }
     requires has_nil { lacks_nil image.now.memory plan.now.weak ≡ false }
@@ -77,22 +78,30 @@ fn sound_marks<T: Threads + Sync, G: Gate>(
     ensures refused { IfErr result (λ fault. (fault ≡ OutOfMemory) ⊎ HasDefectIn plan.now.weak image.now fault) }
 {
     let heap = image.heap();
-    let marked = mark(rt, alloc, heap, plan.weak, regions, plan.workers, gate)?;
-    if let Some(fault) = first_defect(rt, heap, plan.weak, &marked.marks) {
+    let marked = mark(
+        session.rt,
+        session.alloc,
+        heap,
+        plan.weak,
+        regions,
+        plan.workers,
+        session.gate,
+    )?;
+    session.observer.finished(Stage::Mark);
+    if let Some(fault) = first_defect(session.rt, heap, plan.weak, &marked.marks) {
         return Err(fault);
     }
+    session.observer.finished(Stage::Check);
     Ok(marked)
 }
 
-/// The compaction of an image of which this is what marking gives. Refused for want of memory alone.
-fn moved<T: Threads + Sync, G: Gate>(
-    rt: &T,
-    alloc: Global,
+/// The compaction of an image of which this is what marking gives. Fails only by running out of memory.
+fn moved<T: Threads + Sync, G: Gate, O: StageObserver>(
+    session: &mut Session<'_, T, G, O>,
     plan: &Plan,
     image: &Image,
     regions: &Regions<'_>,
     marked: &Marked,
-    gate: &G,
 ) -> Result<Compaction, Fault>
     requires chunks { AllByRecursion IsChunk image.now.memory.chunks }
     requires regions { regions.now.memory ≡ image.now.memory }
@@ -102,15 +111,27 @@ fn moved<T: Threads + Sync, G: Gate>(
     requires sums { AreSums regions.now marked.now.marks marked.now.live_words.items }
     requires whole { sum marked.now.live_words.items ≡ live_words image.now.memory marked.now.marks }
     requires room { image.now.memory.base + 4 * sum marked.now.live_words.items ≤ 2 ^ 32 }
-    ensures compaction { IfOk result (λ c. IsCompaction plan.now.weak plan.now.census image.now c.special c.pieces c.summary c.census.items) }
+    ensures compaction { IfOk result (λ c. IsCompaction plan.now.weak plan.now.census image.now c.special c.pieces c.summary
+        (option_map (λ text. text.items) c.census)) }
     ensures refused { IfErr result (λ fault. fault ≡ OutOfMemory) }
 {
     let heap = image.heap();
     let weak = plan.weak;
     heap_bounds(heap);
-    let forward = places_of(rt, alloc, heap, regions, marked)?;
-    let pieces = slide(rt, alloc, heap, weak, regions, &forward, plan.workers, gate)?;
-    let census = census_text(rt, alloc, plan.census, heap, weak, &marked.marks, &forward)?;
+    let forward = places_of(session.rt, session.alloc, heap, regions, marked)?;
+    session.observer.finished(Stage::Place);
+    let pieces = slide(
+        session.rt,
+        session.alloc,
+        heap,
+        weak,
+        regions,
+        &forward,
+        plan.workers,
+        session.gate,
+    )?;
+    session.observer.finished(Stage::Slide);
+    let census = census_text(session, plan, heap, &marked.marks, &forward)?;
     let special = forward.place(heap.special()).unwrap();
     let summary = Summary {
         objects: heap.len(),
@@ -145,29 +166,28 @@ fn places_of(
     Forward::build(rt, alloc, heap, regions, &marked.marks, &bases)
 }
 
-/// The text of the census, where it is wanted.
-fn census_text(
-    rt: &(impl Threads + Sync),
-    alloc: Global,
-    wanted: bool,
+/// The text of the census, if the plan asks for one. Fails only by running out of memory.
+fn census_text<T: Threads + Sync, G: Gate, O: StageObserver>(
+    session: &mut Session<'_, T, G, O>,
+    plan: &Plan,
     heap: &Heap,
-    weak: Weak,
     marks: &Marks,
     forward: &Forward,
-) -> Result<Vec<u8>, Fault>
+) -> Result<Option<Vec<u8>>, Fault>
     requires sized { length marks.now ≡ object_count heap.now }
     requires one_each { length forward.now ≡ object_count heap.now }
-    ensures text { IfOk result (λ text. IsReachability heap.now weak marks.now
+    ensures text { IfOk result (λ text. IsReachability heap.now plan.now.weak marks.now
         → ArePlacesOf heap.now marks.now forward.now
-        → wanted ≡ true
-        → IsReport heap.now weak marks.now text.items) }
+        → IsReportIfAsked plan.now.census heap.now plan.now.weak marks.now (option_map (λ text. text.items) text)) }
     ensures refused { IfErr result (λ fault. fault ≡ OutOfMemory) }
 {
-    if !wanted {
-        return Ok(Vec::new(alloc));
+    if !plan.census {
+        return Ok(None);
     }
-    let rows = census(rt, alloc, heap, weak, marks, forward)?;
-    print(alloc, &rows)
+    let rows = census(session.rt, session.alloc, heap, plan.weak, marks, forward)?;
+    let text = print(session.alloc, &rows)?;
+    session.observer.finished(Stage::Census);
+    Ok(Some(text))
 }
 
 /// The sum of numbers.

@@ -1,13 +1,15 @@
 //! A run: an image from a source, compacted, to a sink, and its census to another.
 
-ghost use Rattle.std.specs.Prelude.{◌≡◌, ◌⊎◌, ◌<◌, ◌^◌, true, false, length, IfOk, IfErr, OnOk};
+ghost use Rattle.std.specs.Prelude.{◌≡◌, ◌⊎◌, ◌<◌, ◌^◌, length, IfOk, IfErr, IsSomeAnd, OnOk, MatchOption};
 ghost use Rattle.std.specs.List.{concat};
 ghost use Rattle.sqz_image.specs.File.{file_with};
 ghost use Rattle.sqz_image.specs.Devices.{WritesWhole, WriteStops};
 ghost use Rattle.sqz_tool.specs.Headline.{Compacts, Refuses, sinks};
 
 use crate::compaction::{Compaction, compaction_of};
+use crate::observer::{NoObserver, Stage, StageObserver};
 use crate::plan::Plan;
+use crate::session::Session;
 use crate::summary::Summary;
 use sqz_image::laws::byte_bounds;
 use sqz_image::{Fault, Image, Sink, Source, image_of_file, read_all, write_all, write_image};
@@ -39,18 +41,42 @@ pub fn run<T: Threads + Sync, R: Source, W: Sink, C: Sink, G: Gate>(
     ensures refuses { IfErr result (λ fault. Refuses R.gives_all plan.now.weak plan.now.census (R.state source.old) (R.state source.new)
         (sinks (W.state sink.old) (C.state report.old)) (sinks (W.state sink.new) (C.state report.new)) fault) }
 {
-    let bytes = read_all(alloc, source)?;
+    let observer = &mut NoObserver;
+    let mut session = Session {
+        rt,
+        alloc,
+        gate,
+        observer,
+    };
+    run_observed(&mut session, plan, source, sink, report)
+}
+
+/// As `run`, and tells an observer of each stage when it has ended.
+pub fn run_observed<T: Threads + Sync, G: Gate, O: StageObserver, R: Source, W: Sink, C: Sink>(
+    session: &mut Session<'_, T, G, O>,
+    plan: &Plan,
+    source: &mut R,
+    sink: &mut W,
+    report: &mut C,
+) -> Result<Summary, Fault>
+    ensures compacts { IfOk result (λ summary. Compacts R.gives_all plan.now.weak plan.now.census (R.state source.old) (R.state source.new)
+        (sinks (W.state sink.old) (C.state report.old)) (sinks (W.state sink.new) (C.state report.new)) summary) }
+    ensures refuses { IfErr result (λ fault. Refuses R.gives_all plan.now.weak plan.now.census (R.state source.old) (R.state source.new)
+        (sinks (W.state sink.old) (C.state report.old)) (sinks (W.state sink.new) (C.state report.new)) fault) }
+{
+    let bytes = read_all(session.alloc, source)?;
+    session.observer.finished(Stage::Read);
     byte_bounds(&bytes); // they are below 256
-    let image = image_of_file(alloc, bytes)?;
-    let compaction = compaction_of(rt, alloc, plan, &image, gate)?;
-    write_compaction(plan.census, &image, &compaction, sink, report)?;
+    let image = image_of_file(session.alloc, bytes)?;
+    session.observer.finished(Stage::Index);
+    let compaction = compaction_of(session, plan, &image)?;
+    write_compaction(&image, &compaction, sink, report)?;
+    session.observer.finished(Stage::Write);
     Ok(compaction.summary)
 }
 
-/// Writes the compaction of an image, and behind it the text of its census where that is wanted. Refused with `WriteFailed`
-/// alone.
+/// Writes the compaction of an image, and after it the text of its census, if there is one. Fails only with `WriteFailed`.
 fn write_compaction<W: Sink, C: Sink>(
-    census: bool,
     image: &Image,
     compaction: &Compaction,
     sink: &mut W,
@@ -59,19 +85,19 @@ fn write_compaction<W: Sink, C: Sink>(
     requires few { length (concat compaction.now.pieces) < 2 ^ 30 }
     ensures image { OnOk result (WritesWhole (W.state sink.old) (W.state sink.new)
         (file_with image.now.memory.order image.now.prefix image.now.header compaction.now.special compaction.now.pieces)) }
-    ensures census { OnOk result (((census ≡ true) × WritesWhole (C.state report.old) (C.state report.new) compaction.now.census.items)
-        ⊎ ((census ≡ false) × (C.state report.new ≡ C.state report.old))) }
+    ensures census { OnOk result (MatchOption compaction.now.census (C.state report.new ≡ C.state report.old)
+        (λ text. WritesWhole (C.state report.old) (C.state report.new) text.items)) }
     ensures stopped { IfErr result (λ fault. (WriteStops (W.state sink.old) (W.state sink.new)
         (file_with image.now.memory.order image.now.prefix image.now.header compaction.now.special compaction.now.pieces) fault
         × (C.state report.new ≡ C.state report.old))
         ⊎ (WritesWhole (W.state sink.old) (W.state sink.new)
         (file_with image.now.memory.order image.now.prefix image.now.header compaction.now.special compaction.now.pieces)
-        × (census ≡ true) × WriteStops (C.state report.old) (C.state report.new) compaction.now.census.items fault)) }
+        × IsSomeAnd compaction.now.census (λ text. WriteStops (C.state report.old) (C.state report.new) text.items fault))) }
 {
     let pieces = compaction.pieces.as_slice();
     write_image(image, compaction.special, pieces, sink)?;
-    if census {
-        write_all(report, &compaction.census)?;
+    if let Some(text) = &compaction.census {
+        write_all(report, text)?;
     }
     Ok(())
 }
