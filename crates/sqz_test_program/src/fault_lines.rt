@@ -45,6 +45,20 @@ fn lines_of_faults(rt: HostRuntime) -> Result<(), Fail> {
     Ok(())
 }
 
+/// Where standard error takes nothing, the exits are the same.
+#[test]
+fn exits_without_lines(rt: HostRuntime) -> Result<(), Fail> {
+    for (fault, wanted, _) in &LINES {
+        let mut err = MemorySink::new(rt.alloc(), 0, None)?;
+        let exit = refuse(fault, &mut err);
+        assert_line(&rt, exit, &err, *wanted, "");
+    }
+    let mut err = MemorySink::new(rt.alloc(), 0, None)?;
+    let exit = refuse_words(&mut err);
+    assert_line(&rt, exit, &err, 2, "");
+    Ok(())
+}
+
 #[test]
 fn line_of_words_that_are_no_text(rt: HostRuntime) -> Result<(), Fail> {
     let mut err = MemorySink::new(rt.alloc(), 100, None)?;

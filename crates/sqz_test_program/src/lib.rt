@@ -4,6 +4,8 @@
 #[cfg(test)]
 mod command_lines;
 #[cfg(test)]
+mod failing_sinks;
+#[cfg(test)]
 mod fault_lines;
 #[cfg(test)]
 mod files;

@@ -34,9 +34,20 @@ pub(crate) fn run_program<R: Threads + Wait + Sync + Files>(
     alloc: Global,
     words: &[&str],
 ) -> Result<Ended, Fail> {
+    let out = MemorySink::new(alloc, 4096, None)?;
+    let err = MemorySink::new(alloc, 4096, None)?;
+    run_into(rt, alloc, words, out, err)
+}
+
+/// Runs the program with these words after its name, over these sinks.
+pub(crate) fn run_into<R: Threads + Wait + Sync + Files>(
+    rt: &R,
+    alloc: Global,
+    words: &[&str],
+    mut out: MemorySink,
+    mut err: MemorySink,
+) -> Result<Ended, Fail> {
     let line = line_of(alloc, words)?;
-    let mut out = MemorySink::new(alloc, 4096, None)?;
-    let mut err = MemorySink::new(alloc, 4096, None)?;
     let exit = program(rt, alloc, &line, &mut out, &mut err);
     Ok(Ended { exit, out, err })
 }
