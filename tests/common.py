@@ -23,22 +23,22 @@ def write(path, data):
 
 
 def compiled(name):
-    """The library that is made of a C file beside this one; None where there is no compiler. It stands in the folder that this
-    process is in."""
+    """The library built from a C file next to this one, in the current folder; None without a
+    compiler. A file that does not compile ends the script."""
     library = os.path.realpath(f"{name}.so")
     words = ["cc", "-shared", "-fPIC", "-o", library, os.path.join(ROOT, "tests", f"{name}.c")]
     try:
-        subprocess.run(words, check=True, stderr=subprocess.DEVNULL)
-    except (OSError, subprocess.CalledProcessError):
+        subprocess.run(words, check=True)
+    except OSError:
         return None
     return library
 
 
 class Tests:
-    """What passed and what failed."""
+    """What passed, what failed, and what was skipped."""
 
     def __init__(self):
-        self.passed = self.failed = 0
+        self.passed = self.failed = self.skipped = 0
 
     def add(self, name, passed):
         self.passed += passed
@@ -46,8 +46,22 @@ class Tests:
         if not passed:
             print(f"failed: {name}", flush=True)
 
+    def skip(self, name, lacking):
+        """Counts a test that cannot run here."""
+        self.skipped += 1
+        print(f"skipped: {name}, for lack of {lacking}", flush=True)
+
+    def skip_uncompiled(self, *names):
+        """Counts tests that cannot run for lack of a C compiler. In CI, where there has to be one, they fail."""
+        for name in names:
+            if os.environ.get("CI"):
+                self.add(f"{name}, for lack of a C compiler", False)
+            else:
+                self.skip(name, "a C compiler")
+
     def end(self):
         """Prints the last line, and answers what the script is to end with."""
         sys.stderr.flush()
-        print(f"{self.passed} passed, {self.failed} failed")
+        skipped = f", {self.skipped} skipped" if self.skipped else ""
+        print(f"{self.passed} passed, {self.failed} failed{skipped}")
         return 1 if self.failed else 0

@@ -6,14 +6,19 @@ Usage: tests/faults.py
 Two libraries for LD_PRELOAD, which a C compiler makes of refuse_memory.c and fail_calls.c beside this file, refuse one
 request for memory of a run, or fail one of its reads or writes. Over each image below one request or call after the
 other is tried, until a run has no more of them. No answer may change in place of an error: the run ends with the
-fault and has written nothing, or a front of the answer where a write failed; or, where it can do without the memory,
-it does all that it is to do.
+fault and has written nothing, or a front of the answer where a write failed.
+
+A run does all that it has to do without the memory that a deque's push or a thread's start asked
+for: requesters.py finds who asked, and the run has to end with the fault if anyone else did. One
+request is excepted: `collect` reserves room for the words of the command line, and goes on without
+it, so there is one such answer in each row of runs, and no more.
 
 The tests of crates/sqz_test_refusals are then run in the same way: each public call that is refused memory is made again
 there, and prints its name. So is the test of crates/sqz_test_marks that closes a table on which an image was marked. And so is
 `sqzlook`, which prints its answer whole or not at all, or a front of it where a write failed.
 
-The last line is 'N passed, M failed'. Without a C compiler nothing is run, and a line says so.
+The last line is 'N passed, M failed', or 'N passed, M failed, K skipped'. Without a C compiler the
+tests are skipped, and fail if the variable CI is set.
 """
 
 import array
@@ -27,6 +32,7 @@ import sys
 import tempfile
 
 from common import IMAGES, NO_MEMORY, OLD, PROGRAM, ROOT, Tests, compiled, read, write
+from requesters import OTHER, PUSH, START, Functions, requester
 
 # What a run may take, in seconds. None that ends as it must takes a twentieth of that.
 SECONDS = 20
@@ -36,6 +42,8 @@ NOT_WRITTEN = (3, b"fault 17: cannot write the output\n")
 # The images: a dead array, dead objects that name each other, names of classes in both byte orders, and weak objects in a file
 # whose image stands behind 512 bytes.
 NAMES = ("dead_array", "dead_cycle", "class_names", "big_endian_class_names", "weak_array_behind_512_bytes")
+# How many requests `collect` makes whose memory it does without.
+RESERVATIONS = 1
 # How many objects the long chain has: so many that to go over all of them for each of them takes longer than a run may.
 CHAIN = 500_000
 
@@ -61,6 +69,9 @@ QUESTIONS = (
     ("weak_fields.image", "00001020", "--clear-weak"),
     ("class_names.image", "--class", "00001004"),
 )
+
+# The end of a run to which memory was refused.
+FAULT = "the fault"
 
 # A run: its options, the bytes of the image, and what it is to write and to print.
 Run = collections.namedtuple("Run", "options image answer census")
@@ -99,10 +110,6 @@ def is_cut(outcome, run):
     return outcome[:2] == NOT_WRITTEN and fronts and (not outcome.printed or outcome.written == run.answer)
 
 
-def without_memory(outcome, run):
-    return is_undone(outcome, NO_MEMORY) or is_whole(outcome, run)
-
-
 def without_read(outcome, _run):
     return is_undone(outcome, NOT_READ)
 
@@ -122,6 +129,23 @@ def bears_each(run, library, variable, judge, others):
         if not outcome.was_refused:
             return True, faults
         faults += outcome.status != 0
+
+
+def ends_by_requester(run, library, functions):
+    """How the runs end in which one request for memory is refused: the number of those that end with
+    the fault, by FAULT, and of those that do all, by who asked. None where one ends otherwise."""
+    ends = collections.Counter()
+    for number in itertools.count(1):
+        outcome = outcome_of(run, library, {"REFUSED_REQUEST": str(number)})
+        if not outcome.was_refused and is_whole(outcome, run):
+            return ends
+        if outcome.was_refused and is_undone(outcome, NO_MEMORY):
+            ends[FAULT] += 1
+        elif outcome.was_refused and is_whole(outcome, run):
+            ends[requester("refused", functions)] += 1
+        else:
+            print(f"request {number}: exit {outcome.status}, {outcome.said!r}")
+            return None
 
 
 def runs_over(name):
@@ -158,26 +182,42 @@ def chain_run(workers):
 
 
 class FaultTests(Tests):
-    """What passed and what failed, and how many runs ended with a fault."""
+    """What passed, failed and was skipped, and how many runs ended with a fault."""
 
     def __init__(self):
         super().__init__()
         self.faults = 0
 
-    def add_each(self, name, least, *words):
+    def add_each(self, name, least, run, library, *words):
         """Tries a run with one thing after the other refused, of which so many at least are to end with a fault."""
-        bears, faults = bears_each(*words)
+        if library is None:
+            self.skip_uncompiled(name)
+            return
+        bears, faults = bears_each(run, library, *words)
         self.faults += faults
         self.add(name, bears and faults >= least)
 
+    def add_requests(self, name, run, library, functions):
+        """Tries a run with one request for memory after the other refused. Returns how the runs ended."""
+        if library is None:
+            self.skip_uncompiled(name)
+            return collections.Counter()
+        ends = ends_by_requester(run, library, functions)
+        self.add(f"{name}: {ends}", ends and ends[FAULT] >= 20 and ends[OTHER] == RESERVATIONS)
+        self.faults += ends[FAULT] if ends else 0
+        return ends or collections.Counter()
+
 
 def try_memory(tests, library):
+    functions = Functions(PROGRAM) if library else None
+    ends = collections.Counter()
     for name in NAMES:
         for run in runs_over(name):
-            tests.add_each(f"memory of {name} {run.options}", 20, run, library, "REFUSED_REQUEST", without_memory, {})
+            ends += tests.add_requests(f"memory of {name} {run.options}", run, library, functions)
     for workers in ("1", "2"):
-        run = chain_run(workers)
-        tests.add_each(f"memory of a chain, {workers}", 20, run, library, "REFUSED_REQUEST", without_memory, {})
+        ends += tests.add_requests(f"memory of a chain, {workers}", chain_run(workers), library, functions)
+    if library is not None:
+        tests.add(f"pushes and starts without memory: {ends}", ends[PUSH] > 0 and ends[START] > 0)
 
 
 def try_calls(tests, library, name, run, way):
@@ -201,7 +241,7 @@ def try_devices(tests, library):
 
 def ends_of(library, words, variable="REFUSED_REQUEST", others=None):
     """How a program ends to which one request for memory after the other is refused, or one call after the other, as long as there
-    is one."""
+    is one. The file `refused` is there until the next one is tried."""
     for number in itertools.count(1):
         if os.path.exists("refused"):
             os.remove("refused")
@@ -214,6 +254,9 @@ def ends_of(library, words, variable="REFUSED_REQUEST", others=None):
 
 def try_calls_again(tests, library):
     """Each call serves that is made again, and each is refused at least once."""
+    if library is None:
+        tests.skip_uncompiled(*(f"calls made again in {test}" for test in TESTS_AGAIN), "a table that is closed again")
+        return
     unbuilt = [path for path in (CALLS_AGAIN, CLOSES_AGAIN) if not os.path.exists(path)]
     if unbuilt:
         tests.add(f"{unbuilt[0]} is not built, which `rt test` in its crate does", False)
@@ -233,13 +276,21 @@ def try_calls_again(tests, library):
 
 def try_looks(tests, memory, calls):
     """Each question is answered whole, or ends with the fault."""
+    if memory is None or calls is None:
+        tests.skip_uncompiled(*(f"a look {' '.join(words)}" for words in QUESTIONS))
+        return
     failed = {"FAILED_ERROR": str(errno.EIO)}
+    functions = Functions(LOOK)
     for image, *rest in QUESTIONS:
         words = (LOOK, os.path.join(IMAGES, image), *rest)
         answer = subprocess.run(words, capture_output=True, timeout=SECONDS, check=True).stdout
-        ends = [(it.returncode, it.stderr, it.stdout) for it in ends_of(memory, words)]
-        bears = all(end in ((0, b"", answer), (*NO_MEMORY, b"")) for end in ends)
-        tests.add(f"memory of a look {image} {rest}", bears and ends.count((*NO_MEMORY, b"")) > 10)
+        ends = collections.Counter()
+        for it in ends_of(memory, words):
+            end = (it.returncode, it.stderr, it.stdout)
+            ends[requester("refused", functions) if end == (0, b"", answer) else end] += 1
+        faults = ends.pop((*NO_MEMORY, b""), 0)
+        bears = faults > 10 and ends.pop(OTHER) == RESERVATIONS and set(ends) <= {START}
+        tests.add(f"memory of a look {image} {rest}: {ends}", bears)
         ends = [(it.returncode, it.stderr, it.stdout) for it in ends_of(calls, words, "FAILED_READ", failed)]
         tests.add(f"reads of a look {image} {rest}", set(ends) == {(*NOT_READ, b"")})
         ends = list(ends_of(calls, words, "FAILED_WRITE", failed))
@@ -252,13 +303,10 @@ def main():
     with tempfile.TemporaryDirectory() as folder:
         os.chdir(folder)
         memory, calls = compiled("refuse_memory"), compiled("fail_calls")
-        if memory is None or calls is None:
-            print("left out: refused memory and failed calls, which want a C compiler", file=sys.stderr)
-        else:
-            try_memory(tests, memory)
-            try_devices(tests, calls)
-            try_calls_again(tests, memory)
-            try_looks(tests, memory, calls)
+        try_memory(tests, memory)
+        try_devices(tests, calls)
+        try_calls_again(tests, memory)
+        try_looks(tests, memory, calls)
         os.chdir(ROOT)
     print(f"{tests.faults} runs ended with a fault", file=sys.stderr)
     return tests.end()

@@ -8,7 +8,8 @@ images/ where it ends in `.image`; then comes what is printed, on standard error
 the one that tests/real_image.py takes, answers are worked out without the program: its facts, a path to each of some objects, and
 the objects of some classes.
 
-The last line is 'N passed, M failed'.
+The last line is 'N passed, M failed', or 'N passed, M failed, K skipped'. Without a real image each of its
+forms is skipped.
 """
 
 import argparse
@@ -28,6 +29,8 @@ PROGRAM = os.path.join(ROOT, "sqzlook")
 LOOKS = os.path.join(IMAGES, "look")
 SECONDS = 60
 PATHS, CLASSES = 60, 20
+# The forms in which the real image is asked about.
+FORMS = ("as it is", "in the other order", "with garbage", "held weakly and kept", "held weakly and cleared")
 
 
 def look(*words):
@@ -152,14 +155,15 @@ def try_image(tests, generator, name, image, *options):
 
 def try_real(tests, generator, image):
     """Asks about the real image, in both orders, with garbage between its objects, and with some that a weak array holds."""
-    try_image(tests, generator, "as it is", image)
-    try_image(tests, generator, "in the other order", image.in_other_order())
+    as_it_is, in_other_order, with_garbage, kept, cleared = FORMS
+    try_image(tests, generator, as_it_is, image)
+    try_image(tests, generator, in_other_order, image.in_other_order())
     sound = (garbage.dead_array, garbage.dead_bytes, garbage.dead_copy, garbage.free_chunk)
     littered = garbage.littered(image, generator, sound, 5000, is_wild=False)
-    try_image(tests, generator, "with garbage", littered)
+    try_image(tests, generator, with_garbage, littered)
     held = garbage.held_weakly(littered)
-    try_image(tests, generator, "held weakly and kept", held)
-    try_image(tests, generator, "held weakly and cleared", held, "--clear-weak")
+    try_image(tests, generator, kept, held)
+    try_image(tests, generator, cleared, held, "--clear-weak")
 
 
 def main():
@@ -173,7 +177,10 @@ def main():
     home = os.getcwd()
     with tempfile.TemporaryDirectory() as folder:
         path = scratch.find_image(folder)
-        if path is not None:
+        if path is None:
+            for form in FORMS:
+                tests.skip(f"the real image {form}", "a real image")
+        else:
             print(f"{path}, seed {options.seed}", flush=True)
             os.chdir(folder)
             try_real(tests, random.Random(options.seed), Image.read(read(path))[0].compacted())

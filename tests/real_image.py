@@ -4,8 +4,8 @@
 Usage: tests/real_image.py [--seed N]
 
 The image is the installed one, or one that the variable SQZ_REAL_IMAGE names. Where there is none, root asks the package manager
-for the package, which is unpacked in a temporary folder and not installed. Where that fails too, nothing is run, and a line
-says so. Of an image that is not that of the package, nothing is known but its answer, which is made without the program.
+for the package, which is unpacked in a temporary folder and not installed. Where that fails too, the groups of tests are
+skipped. Of an image that is not that of the package, nothing is known but its answer, which is made without the program.
 
 The machine saved the image compacted, so it is to come back byte for byte: as it is, with bytes behind its data, behind 512 bytes,
 and in the other byte order. Then dead objects and free chunks are put between its objects, all over the image, and again it is to
@@ -13,7 +13,7 @@ come back. Dead are arrays that name any object, each other, and themselves; byt
 with words of no meaning. Last, a weak array holds what is dead. The census is to be the same each time, and is counted without
 the program. The same seed makes the same files.
 
-The last line is 'N passed, M failed'.
+The last line is 'N passed, M failed', or 'N passed, M failed, K skipped'.
 """
 
 import argparse
@@ -46,6 +46,9 @@ LITTERS = {
     "a few": ((*SOUND, garbage.dead_anything), 20, True),
 }
 ALL = ((*SOUND, garbage.dead_anything), 40000, True)
+# The groups of tests.
+KNOWN = "what is known of the image"
+GROUPS = (KNOWN, "the image in each form", "garbage between its objects", "weak slots")
 # What is known of the image: its objects, the bytes of its data, and of some classes the objects and their bytes.
 OBJECTS, BYTES = 83459, 5682480
 CLASSES = {
@@ -163,7 +166,7 @@ def try_weak(runs):
     runs.compacts("cleared", clean.file(), cleared, census, (*CLEAR, *CENSUS), (*CLEAR, *runs.random_plan()))
     runs.compacts("cleared again", cleared, cleared, census, (*CLEAR, *CENSUS))
     if all(clean.first_weak(number) is None for number in range(len(clean.objects))):
-        print("left out: garbage that is held weakly, since the image has no weak object")
+        runs.tests.skip("garbage that is held weakly", "a weak object in the image")
         return
     littered = garbage.littered(clean, runs.generator, SOUND, 10000, is_wild=False)
     image = garbage.held_weakly(littered)
@@ -177,6 +180,19 @@ def try_weak(runs):
         runs.compacts(f"{name} again", answer.file(), answer.file(), census, (*plan, *CENSUS))
 
 
+def try_all(runs, file):
+    """All groups of tests of this image."""
+    image, rest = Image.read(file)
+    runs.take(image.compacted())
+    if scratch.is_known(file):
+        try_known(runs, image, rest)
+    else:
+        runs.tests.skip(KNOWN, "the image of the package")
+    try_forms(runs, image, rest)
+    try_litters(runs)
+    try_weak(runs)
+
+
 def main():
     parser = argparse.ArgumentParser(description=__doc__.split("\n", maxsplit=1)[0])
     parser.add_argument("--seed", type=int, default=1)
@@ -187,17 +203,13 @@ def main():
     home = os.getcwd()
     with tempfile.TemporaryDirectory() as folder:
         path = scratch.find_image(folder)
-        if path is not None:
+        if path is None:
+            for name in GROUPS:
+                runs.tests.skip(name, "a real image")
+        else:
             print(f"{path}, seed {options.seed}", flush=True)
             os.chdir(folder)
-            file = read(path)
-            image, rest = Image.read(file)
-            runs.take(image.compacted())
-            if scratch.is_known(file):
-                try_known(runs, image, rest)
-            try_forms(runs, image, rest)
-            try_litters(runs)
-            try_weak(runs)
+            try_all(runs, read(path))
             os.chdir(home)
     return runs.tests.end()
 

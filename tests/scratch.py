@@ -43,8 +43,8 @@ def unpacked(folder):
 
 
 def find_image(folder):
-    """The path of the image: the one that the variable names, the installed one, or one that is put into this folder. Where there
-    is none, a line says so, and None is answered."""
+    """The path of the image: the one that the variable names, the installed one, or one that is put into this folder. Without
+    one, a line says what to do, and None is returned."""
     named = os.environ.get(VARIABLE)
     if named:
         if not os.path.isfile(named):
@@ -53,7 +53,7 @@ def find_image(folder):
     installed = os.path.join(os.sep, PLACE)
     path = installed if os.path.isfile(installed) else unpacked(folder)
     if path is None:
-        print(f"left out, for want of a real image: install the Debian package {PACKAGE}, or name an image in {VARIABLE}")
+        print(f"no real image: install the Debian package {PACKAGE}, or set {VARIABLE} to the path of an image")
     return path
 
 

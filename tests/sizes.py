@@ -3,9 +3,10 @@
 
 Usage: tests/sizes.py
 
-The images have more than 2^22 objects or more than 20,000 classes, stand behind 512 other bytes, have their base at 2^31 or
-above, or are a chain or an array of a million objects. Each run is to write and to print what is known from how the image
-was made. It has a minute, and needs a second or two: one that looks through all objects for each of them does not end in it.
+The images have more than 2^22 objects, more than 20,000 classes, more than 4 MiB after 512 other
+bytes, a base at 2^31 or above, or a chain or an array of a million objects. Each run has to write
+and to print what is known from how the image was made. It has a minute, and needs a second or two:
+a run that looks through all objects for each of them does not end in it.
 
 Then the address space is limited to 15 percent more than a run needs, which is counted by its objects, words and classes.
 
@@ -78,12 +79,20 @@ def try_many(tests):
     try_plans(tests, "20,100 classes", classes(20_100), CENSUS, (*BY_ONE, *CENSUS))
 
 
-def try_places(tests):
-    """Images behind 512 bytes, and such that cross 2^31, begin there, lie above it, and end at 2^32, in both byte orders."""
+def try_prefixes(tests):
+    """Images after 512 bytes, in both byte orders. They and their answers have more than 4 MiB."""
+    frames = varied(90_000)
+    for order in ("little", "big"):
+        it = made(frames, order=order, prefix=PREFIX)
+        tests.add("more than 4 MiB", min(len(it.image), len(it.answer)) > 4 * MIB)
+        try_plans(tests, f"more than 4 MiB after 512 bytes, {order}", it, CENSUS)
+
+
+def try_bases(tests):
+    """Images that cross 2^31, begin there, lie above it, and end at 2^32, in both byte orders."""
     frames = varied(60_000)
     size = len(made(frames).image) - 4 * HEADER_WORDS
     for order in ("little", "big"):
-        try_plans(tests, f"behind 512 bytes, {order}", made(frames, order=order, prefix=PREFIX), CENSUS)
         for base in ((1 << 31) - MIB, 1 << 31, 0xF0000000, (1 << 32) - size):
             try_plans(tests, f"at {base:08x}, {order}", made(frames, base, order), CENSUS)
 
@@ -157,7 +166,8 @@ def main():
     with tempfile.TemporaryDirectory() as folder:
         os.chdir(folder)
         try_many(tests)
-        try_places(tests)
+        try_prefixes(tests)
+        try_bases(tests)
         try_limits(tests)
         os.chdir(home)
     return tests.end()
