@@ -52,7 +52,7 @@ class Tests:
         print(f"skipped: {name}, for lack of {lacking}", flush=True)
 
     def skip_uncompiled(self, *names):
-        """Counts tests that cannot run for lack of a C compiler. In CI, where there has to be one, they fail."""
+        """Counts tests that cannot run without a C compiler. In CI, where there has to be one, they fail."""
         for name in names:
             if os.environ.get("CI"):
                 self.add(f"{name}, for lack of a C compiler", False)

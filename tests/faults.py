@@ -8,10 +8,10 @@ request for memory of a run, or fail one of its reads or writes. Over each image
 other is tried, until a run has no more of them. No answer may change in place of an error: the run ends with the
 fault and has written nothing, or a front of the answer where a write failed.
 
-A run does all that it has to do without the memory that a deque's push or a thread's start asked
-for: requesters.py finds who asked, and the run has to end with the fault if anyone else did. One
-request is excepted: `collect` reserves room for the words of the command line, and goes on without
-it, so there is one such answer in each row of runs, and no more.
+A run does without the memory that a deque's push or a thread's start requested, and gives its whole
+answer. If other code made the request, which requesters.py finds out, the run ends with the fault.
+There is one exception in each run, and no more: `collect` reserves room for the words of the
+command line, and goes on without it.
 
 The tests of crates/sqz_test_refusals are then run in the same way: each public call that is refused memory is made again
 there, and prints its name. So is the test of crates/sqz_test_marks that closes a table on which an image was marked. And so is
@@ -42,7 +42,9 @@ NOT_WRITTEN = (3, b"fault 17: cannot write the output\n")
 # The images: a dead array, dead objects that name each other, names of classes in both byte orders, and weak objects in a file
 # whose image stands behind 512 bytes.
 NAMES = ("dead_array", "dead_cycle", "class_names", "big_endian_class_names", "weak_array_behind_512_bytes")
-# How many requests `collect` makes whose memory it does without.
+# How many workers runs have. One worker starts no thread over these images.
+WORKERS = ("1", "2")
+# How many requests `collect` makes in a run, and does without.
 RESERVATIONS = 1
 # How many objects the long chain has: so many that to go over all of them for each of them takes longer than a run may.
 CHAIN = 500_000
@@ -132,8 +134,8 @@ def bears_each(run, library, variable, judge, others):
 
 
 def ends_by_requester(run, library, functions):
-    """How the runs end in which one request for memory is refused: the number of those that end with
-    the fault, by FAULT, and of those that do all, by who asked. None where one ends otherwise."""
+    """How runs end in which one request for memory is refused: how many end with the fault, under
+    FAULT, and how many do all, under who made the request. None if a run ends otherwise."""
     ends = collections.Counter()
     for number in itertools.count(1):
         outcome = outcome_of(run, library, {"REFUSED_REQUEST": str(number)})
@@ -151,7 +153,7 @@ def ends_by_requester(run, library, functions):
 def runs_over(name):
     """The runs over an image: by one worker and by two, in regions of 8 words, with a census, by each policy on weak slots."""
     image = read(os.path.join(IMAGES, f"{name}.image"))
-    for weak, workers in itertools.product(((), ("--clear-weak",)), ("1", "2")):
+    for weak, workers in itertools.product(((), ("--clear-weak",)), WORKERS):
         cleared = os.path.join(IMAGES, "cleared", name)
         plain = os.path.join(IMAGES, f"{name}.compacted")
         differs = weak and os.path.exists(f"{cleared}.image")
@@ -202,22 +204,25 @@ class FaultTests(Tests):
         if library is None:
             self.skip_uncompiled(name)
             return collections.Counter()
-        ends = ends_by_requester(run, library, functions)
-        self.add(f"{name}: {ends}", ends and ends[FAULT] >= 20 and ends[OTHER] == RESERVATIONS)
-        self.faults += ends[FAULT] if ends else 0
-        return ends or collections.Counter()
+        ends = ends_by_requester(run, library, functions) or collections.Counter()
+        self.add(f"{name}: {ends}", ends[FAULT] >= 20 and ends[OTHER] == RESERVATIONS)
+        self.faults += ends[FAULT]
+        return ends
 
 
 def try_memory(tests, library):
     functions = Functions(PROGRAM) if library else None
-    ends = collections.Counter()
+    ends = {workers: collections.Counter() for workers in WORKERS}
     for name in NAMES:
-        for run in runs_over(name):
-            ends += tests.add_requests(f"memory of {name} {run.options}", run, library, functions)
-    for workers in ("1", "2"):
-        ends += tests.add_requests(f"memory of a chain, {workers}", chain_run(workers), library, functions)
-    if library is not None:
-        tests.add(f"pushes and starts without memory: {ends}", ends[PUSH] > 0 and ends[START] > 0)
+        for run, workers in zip(runs_over(name), itertools.cycle(WORKERS)):
+            ends[workers] += tests.add_requests(f"memory of {name} {run.options}", run, library, functions)
+    for workers in WORKERS:
+        tests.add_requests(f"memory of a chain, {workers}", chain_run(workers), library, functions)
+    if library is None:
+        tests.skip_uncompiled("pushes and starts")
+    else:
+        one, two = ends.values()
+        tests.add(f"pushes and starts: {ends}", one[PUSH] > 0 and one[START] == 0 and two[PUSH] > 0 and two[START] > 0)
 
 
 def try_calls(tests, library, name, run, way):

@@ -1,7 +1,7 @@
 /* A library for LD_PRELOAD: of a program's requests for memory it refuses the one whose number stands in REFUSED_REQUEST,
- * counted from 1. It then makes a file of the name `refused` with a line for each caller, the innermost first: the file
- * that the caller was loaded from, the address behind the call as a distance from where that file begins, and the caller's
- * name, or `-` if only a symbol table has it. */
+ * counted from 1. It then writes a line for each caller to a file of the name `refused`, the innermost
+ * caller first: the file that the caller was loaded from, the address after the call, counted from
+ * where that file was loaded, and the caller's name, or `-` if it is not exported. */
 #define _GNU_SOURCE
 #include <dlfcn.h>
 #include <errno.h>
@@ -22,7 +22,8 @@ extern void *__libc_memalign(size_t alignment, size_t size);
 /* How many requests there are yet up to the one that is refused; 0 or less where none is. */
 static atomic_long left;
 
-/* What the loader needs before the program begins is not counted, nor what the first walk over callers loads. */
+/* What the loader needs before the program begins is not counted, nor what the first walk over
+ * callers loads. */
 __attribute__((constructor)) static void begin(void) {
   const char *number = getenv("REFUSED_REQUEST");
   void *caller;
