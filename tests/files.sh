@@ -456,7 +456,8 @@ build_timer() {
   if [ -x "$timer" ] && [ -z "$(find "$root"/crates.txt "$root"/crates/*/{src,specs,proofs} -newer "$timer" -print -quit)" ]; then
     return
   fi
-  (cd "$root/crates/sqz_stage_times" && rt run -- --help) </dev/null >printed 2>said
+  # it ends with 2 after its help
+  (cd "$root/crates/sqz_stage_times" && rt run -- --help) </dev/null >printed 2>said || [ $? -eq 2 ]
 }
 
 # That program writes the image that the program writes, in each of its runs.
