@@ -13,7 +13,7 @@ use std::sync::Wait;
 use std::test::Fail;
 use std::thread::Threads;
 
-/// Keeps the stages that it is told of.
+/// Keeps the stages reported to it.
 #[derive(Drop)]
 struct Recorder {
     stages: Vec<Stage>,

@@ -7,7 +7,7 @@ use std::io::{Cursor, ErrorKind, Read, Write};
 use std::process::Abort;
 use std::test::Fail;
 
-/// Asserts that all of a file is read from a source that gives so many bytes at once.
+/// Asserts that all of a file is read from a source that gives a few bytes per call.
 fn assert_reads<R: Abort + AllocGlobal>(rt: &R, file: &[u8], piece: u32) -> Result<(), Fail> {
     let bytes = file.to_vec(rt.alloc())?;
     let mut source = MemorySource::new(bytes, piece.max(1), None);
