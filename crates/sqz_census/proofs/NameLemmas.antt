@@ -3,13 +3,13 @@
 use Rattle.std.proofs.Common.{◌≡◌, ℕ, ◌-◌, ◌*◌, ◌<◌, ◌≤◌, min, List, length, map, take, drop, Some, refl}
 use Rattle.std.proofs.Common.{sym, ap, ◌∙◌, arith, inl, inr}
 use Rattle.std.proofs.lemmas.List.{length-take, take-append-le, take-append-drop, take-take, take_all}
-use Rattle.std.proofs.lemmas.Bool.{cases_lt, le-leb, lt-ltb}
+use Rattle.std.proofs.lemmas.Bool.{cases_lt}
 use Rattle.sqz_object.specs.declared.order.Order.{Order}
 use Rattle.sqz_object.specs.Bytes.{spelling_of}
-use Rattle.sqz_object.specs.Chunk.{format, fields}
+use Rattle.sqz_object.specs.declared.layout.Layout.TheVariants.{Bytes}
 use Rattle.sqz_object.proofs.WordLemmas.{length-spelling_of}
 use Rattle.sqz_image.proofs.Spelling.{spelling_of-append}
-use Rattle.sqz_census.specs.Names.{shown_byte, text_in}
+use Rattle.sqz_census.specs.Names.{shown_byte, text_by}
 
 -- the first bytes are among those of the first words
 pub take-spelling_of : (order : Order) (words : List ℕ) (count most : ℕ) → count ≤ 4 * length words → count ≤ 4 * most
@@ -36,18 +36,13 @@ take-min count most bytes =
           ap (λ (count : ℕ). take count bytes) fewer ∙ sym (take-take most count bytes le)
     ]
 
--- the text in an object of bytes, where so many of its first bytes are printed
-pub text_in-bytes : (order : Order) (chunk : List ℕ) (stated count : ℕ) (words text : List ℕ)
-    → stated ≡ format chunk → 8 ≤ stated → stated ≤ 11 → words ≡ fields chunk
-    → count ≡ min (4 * length words - (stated - 8)) 40
-    → text ≡ map shown_byte (take count (spelling_of order words)) → Some text ≡ text_in order chunk
-text_in-bytes order chunk stated count words text stated_is low high words_are count_is text_is =
-    let bytes = spelling_of order (fields chunk) in
-    let room = λ (stated : ℕ) (words : List ℕ). 4 * length words - (stated - 8) in
-    let count_here : count ≡ min (room (format chunk) (fields chunk)) 40 =
-    count_is ∙ (λ i. min (room (stated_is i) (words_are i)) 40) in
-    let first = (λ i. take (count_here i) (spelling_of order (words_are i))) ∙ take-min (room (format chunk) (fields chunk)) 40 bytes in
-    let lowest : 8 ≤ format chunk = omega (arith, stated_is) in
-    let highest : format chunk < 12 = omega (arith, stated_is) in
+-- the text in fields of bytes, of which the first are printed
+pub text_by-bytes : (order : Order) (unused count : ℕ) (words fields text : List ℕ)
+    → words ≡ fields → count ≡ min (4 * length words - unused) 40
+    → text ≡ map shown_byte (take count (spelling_of order words))
+    → Some text ≡ text_by order (Bytes unused) fields
+text_by-bytes order unused count words fields text words_are count_is text_is =
+    let room = λ (words : List ℕ). 4 * length words - unused in
+    let count_here : count ≡ min (room fields) 40 = count_is ∙ (λ i. min (room (words_are i)) 40) in
+    let first = (λ i. take (count_here i) (spelling_of order (words_are i))) ∙ take-min (room fields) 40 (spelling_of order fields) in
     ap Some (text_is ∙ ap (map shown_byte) first)
-    ∙ rw (le-leb 8 (format chunk) lowest, lt-ltb (format chunk) 12 highest) refl

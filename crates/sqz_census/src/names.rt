@@ -9,7 +9,7 @@ ghost use Rattle.sqz_trace.specs.Edges.{strong_target};
 ghost use Rattle.sqz_census.specs.Names.{shown_byte, text_in, held_name, class_name};
 
 use sqz_image::{Heap, Object, Slot};
-use sqz_object::{Order, Words, base_of, put_word};
+use sqz_object::{Layout, Order, Words, put_word};
 use sqz_trace::{Parent, Weak};
 use std::alloc::{AllocError, Global};
 
@@ -87,12 +87,11 @@ fn held_name(
 fn text_in(alloc: Global, order: Order, object: &Object<'_>) -> Result<Option<Vec<u8>>, AllocError>
     ensures { IfOk result (λ text. option_map (λ text. text.items) text ≡ text_in order object.now) }
 {
-    let format = base_of(object.header().base).format;
-    if format < 8 || format > 11 {
+    let Layout::Bytes { unused } = object.layout() else {
         return Ok(None);
-    }
+    };
     let fields = object.fields();
-    let count = (4 * fields.len()).saturating_sub(format as usize - 8);
+    let count = (4 * fields.len()).saturating_sub(unused as usize);
     let bytes = first_bytes(alloc, order, &fields, count.min(MOST_BYTES))?;
     Ok(Some(shown_bytes(alloc, &bytes)?))
 }
@@ -109,13 +108,13 @@ fn first_bytes(
     ensures { IfOk result (λ bytes. bytes.items ≡ take count (spelling_of order words.now)) }
 {
     let (front, _) = words.split_at(words.len().min(MOST_WORDS));
-    let mut bytes = spelled(alloc, order, &front)?;
+    let mut bytes = spelling_of(alloc, order, &front)?;
     bytes.truncate(count);
     Ok(bytes)
 }
 
 /// The bytes that spell words.
-fn spelled(alloc: Global, order: Order, words: &Words<'_>) -> Result<Vec<u8>, AllocError>
+fn spelling_of(alloc: Global, order: Order, words: &Words<'_>) -> Result<Vec<u8>, AllocError>
     ensures { IfOk result (λ bytes. bytes.items ≡ spelling_of order words.now) }
 {
     let mut bytes = Vec::with_capacity(alloc, MOST_BYTES)?;

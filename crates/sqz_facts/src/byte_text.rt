@@ -2,31 +2,33 @@
 
 use sqz_census::shown_byte;
 use sqz_image::Object;
-use sqz_object::{Order, Words, base_of, put_word};
+use sqz_object::{Layout, Order, Words, put_word};
 use std::alloc::{AllocError, Global};
 
 /// How many bytes are printed at most.
 const MOST_BYTES: usize = 400;
 
-/// Whether the fields of an object are bytes: the formats 8 to 11.
+/// Whether the fields of an object are bytes.
 pub(crate) fn has_bytes(object: &Object<'_>) -> bool {
-    let format = base_of(object.header().base).format;
-    format >= 8 && format <= 11
+    matches!(object.layout(), Layout::Bytes { .. })
 }
 
-/// The number of an object's bytes, and the first of them, as a census prints those of names.
+/// The number of an object's bytes, and the first of them, as a census prints those of names. None
+/// unless its fields are bytes.
 pub(crate) fn text_of(
     alloc: Global,
     order: Order,
     object: &Object<'_>,
-) -> Result<Vec<u8>, AllocError> {
+) -> Result<Option<Vec<u8>>, AllocError> {
+    let Layout::Bytes { unused } = object.layout() else {
+        return Ok(None);
+    };
     let fields = object.fields();
-    let unused = base_of(object.header().base).format % 4;
     let count = (4 * fields.len()).saturating_sub(unused as usize);
     let shown = count.min(MOST_BYTES);
     let bytes = first_bytes(alloc, order, &fields, shown)?;
     let rest = if shown < count { " .." } else { "" };
-    shown_text(alloc, count, &bytes, rest)
+    Ok(Some(shown_text(alloc, count, &bytes, rest)?))
 }
 
 /// A number of bytes, some bytes as they are shown, and what stands behind them.

@@ -4,7 +4,7 @@ ghost use Rattle.std.specs.Prelude.{◌≡◌, ◌<◌, IfErr};
 ghost use Rattle.sqz_image.specs.Objects.{object_count};
 ghost use Rattle.sqz_image.specs.declared.fault.Fault.TheVariants.{OutOfMemory};
 
-use crate::byte_text::{has_bytes, text_of};
+use crate::byte_text::text_of;
 use crate::classes::{name_of_class, named_class};
 use crate::facts::Facts;
 use crate::paths::add_path;
@@ -23,8 +23,8 @@ pub fn object_text(alloc: Global, heap: &Heap, weak: Weak, object: u32) -> Resul
     add_header(alloc, &mut facts, heap, weak, object)?;
     let chunk = heap.object(object);
     add_slots(alloc, &mut facts, heap, weak, &chunk)?;
-    if has_bytes(&chunk) {
-        facts.add_text("text", &text_of(alloc, heap.order(), &chunk)?)?;
+    if let Some(text) = text_of(alloc, heap.order(), &chunk)? {
+        facts.add_text("text", &text)?;
     }
     add_path(alloc, &mut facts, heap, weak, object)?;
     Ok(facts.into_text())

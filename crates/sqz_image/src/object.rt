@@ -2,9 +2,10 @@
 
 ghost use Rattle.std.specs.Prelude.{◌≡◌, ◌^◌, ◌<◌, length};
 ghost use Rattle.sqz_object.specs.Chunk.{fields};
+ghost use Rattle.sqz_object.specs.Layout.{layout};
 ghost use Rattle.sqz_object.specs.Reading.{description};
 
-use sqz_object::{Chunk, Words};
+use sqz_object::{Chunk, Layout, Words, base_of};
 use std::marker::Model;
 
 /// An object's chunk: what its header says, and all its words. Contracts see it as the list of its
@@ -44,6 +45,13 @@ impl<'a> Object<'a> {
         ensures few { result.length < 2 ^ 30 }
     {
         self.header
+    }
+
+    /// How the fields are laid out.
+    pub fn layout(&self) -> Layout
+        ensures { result ≡ layout self.now }
+    {
+        Layout::of(&base_of(self.header.base))
     }
 
     /// All words of the chunk, the header words among them.

@@ -52,10 +52,10 @@ pub fn base_of(word: u32) -> Base
     ensures { result ≡ base_of word }
 {
     Base {
-        kind: KIND.of(word),
-        size_field: SIZE_FIELD.of(word),
-        format: FORMAT.of(word),
-        compact: COMPACT.of(word),
-        hash: HASH.of(word),
+        kind: KIND.get(word),
+        size_field: SIZE_FIELD.get(word),
+        format: FORMAT.get(word),
+        compact: COMPACT.get(word),
+        hash: HASH.get(word),
     }
 }

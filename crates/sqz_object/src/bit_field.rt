@@ -10,8 +10,8 @@ pub struct BitField {
 }
 
 impl BitField {
-    /// The number that these bits of a word are.
-    pub const fn of(self, word: u32) -> u32
+    /// The number in these bits of a word.
+    pub const fn get(self, word: u32) -> u32
         requires inside { self.lowest < 32 }
         requires narrow { self.width < 32 }
         ensures { result ≡ word / 2 ^ self.lowest % 2 ^ self.width }

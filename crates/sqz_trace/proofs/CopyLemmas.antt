@@ -12,13 +12,16 @@ use Rattle.sqz_object.specs.declared.value.Value.TheVariants.{Int, Pointer, Odd}
 use Rattle.sqz_object.specs.declared.chunk.Kind.{Kind}
 use Rattle.sqz_object.specs.declared.chunk.Kind.TheVariants.{Three, Two, Free, Short}
 use Rattle.sqz_object.specs.Value.{value_of}
-use Rattle.sqz_object.specs.Chunk.{chunk_kind, compact_index, format, fields}
+use Rattle.sqz_object.specs.Chunk.{chunk_kind, compact_index, fields}
+use Rattle.sqz_object.specs.declared.layout.Layout.{Layout}
+use Rattle.sqz_object.specs.declared.layout.Layout.TheVariants.{Fields, Weak as WeakFields, Context, Words, Bytes, Method}
+use Rattle.sqz_object.specs.Layout.{layout, is_weak_layout}
 use Rattle.sqz_image.specs.declared.fault.Slot.{Slot}
 use Rattle.sqz_image.specs.declared.fault.Slot.TheVariants.{ClassWord, Field}
 use Rattle.sqz_image.specs.Objects.{Memory, object_count, object_at, chunk_words, find}
 use Rattle.sqz_trace.specs.declared.weak.Weak.{Weak}
 use Rattle.sqz_trace.specs.declared.weak.Weak.TheVariants.{Keep, Clear}
-use Rattle.sqz_trace.specs.Slots.{traced, slot_word, is_context_index}
+use Rattle.sqz_trace.specs.Slots.{traced_of, traced, slot_word}
 use Rattle.sqz_trace.specs.Targets.{object_named, named_by, named_among, named_in, target}
 use Rattle.sqz_trace.specs.Strong.{is_weak, fixed_by, unless_above, strong_by, strong_by_word, held_by_word, compact_classes}
 use Rattle.sqz_trace.specs.Strong.{compact_class, class_by, class_of, strong}
@@ -105,16 +108,19 @@ named-good memory chunk slot index names = by_word (slot_word chunk slot) names
 
 -- ---- the strong fields are some of those traced
 
--- the traced fields, where the format is 4
-traced_of_four : (format : ℕ) (test : Bool) (context method count : ℕ) → format ≡ 4
-    → cond (eqb format 3 && test) context (cond (leb 12 format) method (cond (ltb format 5) count 0)) ≡ count
-traced_of_four format test context method count four = rw four refl
+-- the fields with a weak layout are all traced
+traced_of-weak : (laid : Layout) (fields : List ℕ) → is_weak_layout laid ≡ true → traced_of laid fields ≡ length fields
+traced_of-weak Fields fields is = absurd (false≢true is)
+traced_of-weak WeakFields fields is = refl
+traced_of-weak Context fields is = absurd (false≢true is)
+traced_of-weak Words fields is = absurd (false≢true is)
+traced_of-weak (Bytes unused) fields is = absurd (false≢true is)
+traced_of-weak Method fields is = absurd (false≢true is)
 
 -- a weak object's fields are all traced
 traced-weak : (weak : Weak) (chunk : List ℕ) → is_weak weak chunk ≡ true → traced chunk ≡ length (fields chunk)
 traced-weak Keep chunk is = absurd (false≢true is)
-traced-weak Clear chunk is =
-    traced_of_four (format chunk) (is_context_index (compact_index chunk)) _ _ _ (eqb-true (format chunk) 4 is)
+traced-weak Clear chunk is = traced_of-weak (layout chunk) (fields chunk) is
 
 -- whatever the class, no more fields are strong than are traced
 strong_by-traced : (memory : Memory) (weak : Weak) (chunk : List ℕ) (class : Option ℕ)

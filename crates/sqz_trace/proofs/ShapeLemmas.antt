@@ -1,6 +1,6 @@
 -- The shape of an object: what its headers say, how many fields it has, and which of them hold which integers.
 -- Serves `CopyLemmas`; `CopiedLemmas` and `MovedShapeLemmas` of `sqz_slide`.
-use Rattle.std.proofs.Common.{◌≡◌, ◌⊎◌, ℕ, ◌+◌, ◌%◌, Bool, true, false, ◌&&◌, cond, eqb, ltb, leb}
+use Rattle.std.proofs.Common.{◌≡◌, ◌⊎◌, ℕ, ◌+◌, ◌%◌, Bool, true, false, ◌&&◌, cond, eqb}
 use Rattle.std.proofs.Common.{List, [], ◌∷◌, length, slice_index}
 use Rattle.std.proofs.Common.{Option, refl, sym, ap, ◌∙◌, arith, inl, inr}
 use Rattle.std.specs.Prelude.{option_map}
@@ -8,13 +8,16 @@ use Rattle.std.specs.Prelude.{pos}
 use Rattle.sqz_object.specs.declared.value.Value.TheVariants.{Pointer, Odd}
 use Rattle.sqz_object.specs.Value.{base_of, value_of}
 use Rattle.sqz_object.specs.Chunk.{chunk_kind, base_word, compact_index, fields, header_type}
+use Rattle.sqz_object.specs.declared.layout.Layout.{Layout}
+use Rattle.sqz_object.specs.declared.layout.Layout.TheVariants.{Fields, Weak as WeakFields, Context, Words, Bytes, Method}
+use Rattle.sqz_object.specs.Layout.{layout_of, layout, is_weak_layout}
 use Rattle.sqz_object.proofs.ChunkLemmas.{type_of, type_of-kind_of}
 use Rattle.sqz_trace.specs.declared.weak.Weak.{Weak}
 use Rattle.sqz_trace.specs.declared.weak.Weak.TheVariants.{Keep, Clear}
-use Rattle.sqz_trace.specs.Slots.{traced, is_context_index, stack_pointer, fields_to_top, context_fields, literals_of}
-use Rattle.sqz_trace.specs.Slots.{method_fields, clipped}
+use Rattle.sqz_trace.specs.Slots.{traced_of, traced, stack_pointer, fields_to_top, context_fields, literals_of}
+use Rattle.sqz_trace.specs.Slots.{method_fields, clip}
 use Rattle.sqz_trace.specs.Strong.{is_weak, fixed_in, fixed_fields}
-use Rattle.sqz_trace.specs.Defects.{lacks_class, states_too_many, is_bad_method, is_bad_context}
+use Rattle.sqz_trace.specs.Defects.{lacks_class, states_too_many, is_bad_method_in, is_bad_method, is_bad_context_in, is_bad_context}
 
 -- a word in the place of another: the same, or neither is an integer
 abbrev pub IsAlike : ℕ → ℕ → Type 0
@@ -81,19 +84,38 @@ method_fields-alike _ _ sized alike = absurd (omega arith)
 
 -- ---- what the shape of an object tells
 
--- the base header is that of a context
-abbrev is_context_by : ℕ → Bool
-is_context_by base = eqb (base_of base).format 3 && is_context_index (base_of base).compact
+-- alike fields with one layout: as many of them are traced
+traced_of-alike : (laid : Layout) (one other : List ℕ) → length other ≡ length one
+    → context_fields other ≡ context_fields one → method_fields other ≡ method_fields one
+    → traced_of laid other ≡ traced_of laid one
+traced_of-alike Fields one other sized context method = sized
+traced_of-alike WeakFields one other sized context method = sized
+traced_of-alike Context one other sized context method = ap (clip _) sized ∙ ap (λ stated. clip stated (length one)) context
+traced_of-alike Words one other sized context method = refl
+traced_of-alike (Bytes unused) one other sized context method = refl
+traced_of-alike Method one other sized context method = ap (clip _) sized ∙ ap (λ stated. clip stated (length one)) method
 
--- the base header is that of a method
-abbrev is_method_by : ℕ → Bool
-is_method_by base = leb 12 (base_of base).format
+-- both are those of a bad method, or neither
+is_bad_method_in-alike : (laid : Layout) (one other : List ℕ) → length other ≡ length one
+    → method_fields other ≡ method_fields one → is_bad_method_in laid other ≡ is_bad_method_in laid one
+is_bad_method_in-alike Fields one other sized method = refl
+is_bad_method_in-alike WeakFields one other sized method = refl
+is_bad_method_in-alike Context one other sized method = refl
+is_bad_method_in-alike Words one other sized method = refl
+is_bad_method_in-alike (Bytes unused) one other sized method = refl
+is_bad_method_in-alike Method one other sized method =
+    ap (states_too_many _) sized ∙ ap (λ stated. states_too_many stated (length one)) method
 
--- how many fields are traced, by the base header, what the fields state of a context and of a method, and how many they are
-abbrev traced_by : ℕ → Option ℕ → Option ℕ → ℕ → ℕ
-traced_by base context method count =
-    cond (is_context_by base) (clipped context count)
-    (cond (is_method_by base) (clipped method count) (cond (ltb (base_of base).format 5) count 0))
+-- both are those of a bad context, or neither
+is_bad_context_in-alike : (laid : Layout) (one other : List ℕ) → length other ≡ length one
+    → context_fields other ≡ context_fields one → is_bad_context_in laid other ≡ is_bad_context_in laid one
+is_bad_context_in-alike Fields one other sized context = refl
+is_bad_context_in-alike WeakFields one other sized context = refl
+is_bad_context_in-alike Context one other sized context =
+    ap (states_too_many _) sized ∙ ap (λ stated. states_too_many stated (length one)) context
+is_bad_context_in-alike Words one other sized context = refl
+is_bad_context_in-alike (Bytes unused) one other sized context = refl
+is_bad_context_in-alike Method one other sized context = refl
 
 -- what four parts determine, of the same parts
 pub same_by_parts : {A B C D X : Type 0} (f : A → B → C → D → X) (a x : A) (b y : B) (c z : C) (d w : D)
@@ -113,16 +135,20 @@ module _ (chunk new : List ℕ) (is : IsShapedAs chunk new) where
   method_fields-shaped : method_fields (fields new) ≡ method_fields (fields chunk)
   method_fields-shaped = method_fields-alike (fields chunk) (fields new) is.sized (is.alike 0)
 
+  -- the layout is the same
+  layout-shaped : layout new ≡ layout chunk
+  layout-shaped = ap (λ base. layout_of (base_of base)) is.base
+
   -- as many fields are traced
   pub traced-shaped : traced new ≡ traced chunk
   traced-shaped =
-      same_by_parts traced_by (base_word new) (base_word chunk) _ _ _ _ _ _
-      is.base context_fields-shaped method_fields-shaped is.sized
+      ap (λ laid. traced_of laid (fields new)) layout-shaped
+      ∙ traced_of-alike (layout chunk) (fields chunk) (fields new) is.sized context_fields-shaped method_fields-shaped
 
   -- both are weak, or neither
   pub is_weak-shaped : (weak : Weak) → is_weak weak new ≡ is_weak weak chunk
   is_weak-shaped Keep = refl
-  is_weak-shaped Clear = ap (λ base. eqb (base_of base).format 4) is.base
+  is_weak-shaped Clear = ap is_weak_layout layout-shaped
 
   -- the compact index is the same
   pub compact_index-shaped : compact_index new ≡ compact_index chunk
@@ -142,13 +168,11 @@ module _ (chunk new : List ℕ) (is : IsShapedAs chunk new) where
   -- both are bad methods, or neither
   pub is_bad_method-shaped : is_bad_method new ≡ is_bad_method chunk
   is_bad_method-shaped =
-      ap (λ base. is_method_by base && states_too_many (method_fields (fields new)) (length (fields new))) is.base
-      ∙ ap (λ stated. is_method_by (base_word chunk) && states_too_many stated (length (fields new))) method_fields-shaped
-      ∙ ap (λ count. is_method_by (base_word chunk) && states_too_many (method_fields (fields chunk)) count) is.sized
+      ap (λ laid. is_bad_method_in laid (fields new)) layout-shaped
+      ∙ is_bad_method_in-alike (layout chunk) (fields chunk) (fields new) is.sized method_fields-shaped
 
   -- both are bad contexts, or neither
   pub is_bad_context-shaped : is_bad_context new ≡ is_bad_context chunk
   is_bad_context-shaped =
-      ap (λ base. is_context_by base && states_too_many (context_fields (fields new)) (length (fields new))) is.base
-      ∙ ap (λ stated. is_context_by (base_word chunk) && states_too_many stated (length (fields new))) context_fields-shaped
-      ∙ ap (λ count. is_context_by (base_word chunk) && states_too_many (context_fields (fields chunk)) count) is.sized
+      ap (λ laid. is_bad_context_in laid (fields new)) layout-shaped
+      ∙ is_bad_context_in-alike (layout chunk) (fields chunk) (fields new) is.sized context_fields-shaped

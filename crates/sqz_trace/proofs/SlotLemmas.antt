@@ -1,32 +1,31 @@
 -- The slots of an object: how many of its fields they are, and one after another.
 -- Serves `defects::bad_field`, `DefectLemmas` and `StrongLemmas`; `MovedShapeLemmas` of `sqz_slide`.
-use Rattle.std.proofs.Common.{◌≡◌, ℕ, suc, ◌+◌, ◌-◌, ◌<◌, ◌≤◌, Bool, true, false, cond, ltb, List, ◌∷◌}
+use Rattle.std.proofs.Common.{◌≡◌, ℕ, suc, ◌+◌, ◌-◌, ◌<◌, ◌≤◌, Bool, cond, List, ◌∷◌}
 use Rattle.std.proofs.Common.{length, slice_index, Option, Some, None, ap, ◌∙◌, arith}
 use Rattle.std.proofs.lemmas.Bool.{lt-ltb}
-use Rattle.sqz_object.specs.Chunk.{format, fields}
+use Rattle.sqz_object.specs.declared.layout.Layout.{Layout}
+use Rattle.sqz_object.specs.declared.layout.Layout.TheVariants.{Fields, Weak, Context, Words, Bytes, Method}
+use Rattle.sqz_object.specs.Chunk.{fields}
+use Rattle.sqz_object.specs.Layout.{layout}
 use Rattle.sqz_image.specs.declared.fault.Slot.TheVariants.{Field}
-use Rattle.sqz_trace.specs.Slots.{is_context, is_method, context_fields, method_fields, clipped, traced, slot_word}
-use Rattle.sqz_trace.specs.Slots.{field_slots}
+use Rattle.sqz_trace.specs.Slots.{context_fields, method_fields, clip, traced_of, traced, slot_word, field_slots}
 
 -- a clipped number is no more than there are
-clipped-le : (stated : Option ℕ) (count : ℕ) → clipped stated count ≤ count
-clipped-le None count = omega arith
-clipped-le (Some stated) count = omega arith
-
--- of the numbers that tests choose from, each is no more than there are
-chosen-le : (context method low : Bool) (a b count : ℕ)
-    → a ≤ count → b ≤ count → cond context a (cond method b (cond low count 0)) ≤ count
-chosen-le true method low a b count le_a le_b = le_a
-chosen-le false true low a b count le_a le_b = le_b
-chosen-le false false true a b count le_a le_b = omega arith
-chosen-le false false false a b count le_a le_b = omega arith
+clip-le : (stated : Option ℕ) (count : ℕ) → clip stated count ≤ count
+clip-le None count = omega arith
+clip-le (Some stated) count = omega arith
 
 -- the traced fields are some of the fields
+traced_of-le : (laid : Layout) (fields : List ℕ) → traced_of laid fields ≤ length fields
+traced_of-le Fields fields = omega arith
+traced_of-le Weak fields = omega arith
+traced_of-le Context fields = clip-le (context_fields fields) (length fields)
+traced_of-le Words fields = omega arith
+traced_of-le (Bytes unused) fields = omega arith
+traced_of-le Method fields = clip-le (method_fields fields) (length fields)
+
 pub traced_inside : (chunk : List ℕ) → traced chunk ≤ length (fields chunk)
-traced_inside chunk =
-    chosen-le (is_context chunk) (is_method chunk) (ltb (format chunk) 5) _ _ (length (fields chunk))
-    (clipped-le (context_fields (fields chunk)) (length (fields chunk)))
-    (clipped-le (method_fields (fields chunk)) (length (fields chunk)))
+traced_inside chunk = traced_of-le (layout chunk) (fields chunk)
 
 -- the slot of a traced field holds its word
 pub slot_word-field : (chunk : List ℕ) (index : ℕ)

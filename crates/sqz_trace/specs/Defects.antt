@@ -5,13 +5,16 @@ use Rattle.sqz_object.specs.declared.value.Value.{Value}
 use Rattle.sqz_object.specs.declared.value.Value.TheVariants.{Int, Pointer, Odd}
 use Rattle.sqz_object.specs.Value.{value_of}
 use Rattle.sqz_object.specs.Chunk.{header_type, compact_index, fields}
+use Rattle.sqz_object.specs.declared.layout.Layout.{Layout}
+use Rattle.sqz_object.specs.declared.layout.Layout.TheVariants.{Context, Method}
+use Rattle.sqz_object.specs.Layout.{layout}
 use Rattle.sqz_image.specs.declared.fault.Fault.{Fault}
 use Rattle.sqz_image.specs.declared.fault.Fault.TheVariants.{NoClass, BadMethod, BadContext, BadWeak, BadPointer}
 use Rattle.sqz_image.specs.declared.fault.Slot.{Slot}
 use Rattle.sqz_image.specs.Objects.{Memory, Object, address_in, find}
 use Rattle.sqz_trace.specs.declared.weak.Weak.{Weak}
 use Rattle.sqz_trace.specs.declared.weak.Weak.TheVariants.{Keep, Clear}
-use Rattle.sqz_trace.specs.Slots.{slots, slot_word, is_context, is_method, context_fields, method_fields}
+use Rattle.sqz_trace.specs.Slots.{slots, slot_word, context_fields, method_fields}
 use Rattle.sqz_trace.specs.Strong.{is_weak, fixed_by, class_of}
 use Rattle.sqz_trace.specs.Edges.{nil}
 use Rattle.sqz_trace.specs.Live.{live}
@@ -25,13 +28,21 @@ abbrev pub states_too_many : Option ℕ → ℕ → Bool
 states_too_many None count = true
 states_too_many (Some stated) count = nat_lt count stated
 
+-- these fields of an object with a layout are those of a bad method
+abbrev pub is_bad_method_in : Layout → List ℕ → Bool
+is_bad_method_in Method fields = states_too_many (method_fields fields) (length fields)
+is_bad_method_in _ fields = false
+
 abbrev pub is_bad_method : List ℕ → Bool
-is_bad_method chunk =
-    is_method chunk && states_too_many (method_fields (fields chunk)) (length (fields chunk))
+is_bad_method chunk = is_bad_method_in (layout chunk) (fields chunk)
+
+-- these fields of an object with a layout are those of a bad context
+abbrev pub is_bad_context_in : Layout → List ℕ → Bool
+is_bad_context_in Context fields = states_too_many (context_fields fields) (length fields)
+is_bad_context_in _ fields = false
 
 abbrev pub is_bad_context : List ℕ → Bool
-is_bad_context chunk =
-    is_context chunk && states_too_many (context_fields (fields chunk)) (length (fields chunk))
+is_bad_context chunk = is_bad_context_in (layout chunk) (fields chunk)
 
 -- by its class
 abbrev pub is_bad_weak : Memory → Weak → List ℕ → Bool

@@ -1,27 +1,18 @@
 -- The slots of an object: the words of it that may name other objects.
-use Rattle.std.specs.Prelude.{ℕ, zero, suc, ◌+◌, ◌-◌, ◌/◌, ◌%◌, ◌^◌, nat_lt, nat_le, min, ℤ, pos, negsuc}
-use Rattle.std.specs.Prelude.{Bool, ◌==◌, ◌&&◌, ◌||◌, if◌then◌else◌, List, [], ◌∷◌, ◌++◌, length, slice_index}
+use Rattle.std.specs.Prelude.{ℕ, zero, suc, ◌+◌, ◌-◌, ◌/◌, ◌%◌, ◌^◌, nat_lt, min, ℤ, pos, negsuc}
+use Rattle.std.specs.Prelude.{◌==◌, if◌then◌else◌, List, [], ◌∷◌, ◌++◌, length, slice_index}
 use Rattle.std.specs.Prelude.{Option, Some, None, option_map}
 use Rattle.sqz_object.specs.declared.value.Value.{Value}
 use Rattle.sqz_object.specs.declared.value.Value.TheVariants.{Int, Pointer, Odd}
 use Rattle.sqz_object.specs.declared.chunk.Kind.{Kind}
 use Rattle.sqz_object.specs.declared.chunk.Kind.TheVariants.{Three, Two, Free, Short}
 use Rattle.sqz_object.specs.Value.{value_of}
-use Rattle.sqz_object.specs.Chunk.{chunk_kind, format, compact_index, fields}
+use Rattle.sqz_object.specs.Chunk.{chunk_kind, fields}
+use Rattle.sqz_object.specs.declared.layout.Layout.{Layout}
+use Rattle.sqz_object.specs.declared.layout.Layout.TheVariants.{Fields, Weak, Context, Words, Bytes, Method}
+use Rattle.sqz_object.specs.Layout.{layout}
 use Rattle.sqz_image.specs.declared.fault.Slot.{Slot}
 use Rattle.sqz_image.specs.declared.fault.Slot.TheVariants.{ClassWord, Field}
-
--- a compact index of the two classes of contexts
-abbrev pub is_context_index : ℕ → Bool
-is_context_index index = index == 13 || index == 14
-
--- a context: format 3 with the compact index of one of the two classes of contexts
-abbrev pub is_context : List ℕ → Bool
-is_context chunk = format chunk == 3 && is_context_index (compact_index chunk)
-
--- a compiled method: the formats 12 to 15
-abbrev pub is_method : List ℕ → Bool
-is_method chunk = nat_le 12 (format chunk)
 
 -- the stack pointer that a word states: the value of an integer, and 0 for any other word
 abbrev pub stack_pointer : Value → ℤ
@@ -50,16 +41,22 @@ method_fields [] = None
 method_fields (header ∷ _) = option_map (λ count. 1 + count) (literals_of header)
 
 -- a stated number, but no more than there are; none where no number is stated
-abbrev pub clipped : Option ℕ → ℕ → ℕ
-clipped None count = 0
-clipped (Some stated) count = min count stated
+abbrev pub clip : Option ℕ → ℕ → ℕ
+clip None count = 0
+clip (Some stated) count = min count stated
+
+-- how many of these fields of an object with a layout are traced, from field 0 on
+abbrev pub traced_of : Layout → List ℕ → ℕ
+traced_of Fields fields = length fields
+traced_of Weak fields = length fields
+traced_of Context fields = clip (context_fields fields) (length fields)
+traced_of Words fields = 0
+traced_of (Bytes unused) fields = 0
+traced_of Method fields = clip (method_fields fields) (length fields)
 
 -- how many fields of an object are traced, from field 0 on
 abbrev pub traced : List ℕ → ℕ
-traced chunk =
-    if is_context chunk then clipped (context_fields (fields chunk)) (length (fields chunk))
-    else (if is_method chunk then clipped (method_fields (fields chunk)) (length (fields chunk))
-    else (if nat_lt (format chunk) 5 then length (fields chunk) else 0))
+traced chunk = traced_of (layout chunk) (fields chunk)
 
 -- the address in a class word, whose low two bits are a header type
 abbrev pub class_address : ℕ → ℕ

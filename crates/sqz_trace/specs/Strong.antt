@@ -4,7 +4,8 @@ use Rattle.std.specs.Prelude.{ℕ, zero, suc, ◌+◌, ◌*◌, ◌/◌, ◌%◌
 use Rattle.std.specs.Prelude.{List, ◌∷◌, length, Option, Some, None, option_and_then}
 use Rattle.sqz_object.specs.declared.chunk.Kind.{Kind}
 use Rattle.sqz_object.specs.declared.chunk.Kind.TheVariants.{Three, Two, Free, Short}
-use Rattle.sqz_object.specs.Chunk.{chunk_kind, format, compact_index, fields}
+use Rattle.sqz_object.specs.Chunk.{chunk_kind, compact_index, fields}
+use Rattle.sqz_object.specs.Layout.{layout, is_weak_layout}
 use Rattle.sqz_image.specs.declared.fault.Slot.TheVariants.{ClassWord, Field}
 use Rattle.sqz_image.specs.Objects.{Memory, chunk_words, find}
 use Rattle.sqz_trace.specs.declared.weak.Weak.{Weak}
@@ -12,10 +13,10 @@ use Rattle.sqz_trace.specs.declared.weak.Weak.TheVariants.{Keep, Clear}
 use Rattle.sqz_trace.specs.Slots.{traced}
 use Rattle.sqz_trace.specs.Targets.{named_in, named_among}
 
--- an object of format 4 is weak, which tells where weak slots are cleared
+-- an object has weak slots if its layout has and these are cleared
 abbrev pub is_weak : Weak → List ℕ → Bool
 is_weak Keep chunk = false
-is_weak Clear chunk = format chunk == 4
+is_weak Clear chunk = is_weak_layout (layout chunk)
 
 -- one less, where there is one
 abbrev pub less_one : ℕ → Option ℕ

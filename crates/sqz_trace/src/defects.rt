@@ -1,4 +1,4 @@
-//! What is wrong with an object.
+//! The defects of an object.
 
 ghost use Rattle.std.specs.Prelude.{◌≡◌, ◌<◌};
 ghost use Rattle.sqz_object.specs.Value.{value_of};
@@ -8,18 +8,18 @@ ghost use Rattle.sqz_trace.specs.Defects.{lacks_class, states_too_many, is_bad_m
 ghost use Rattle.sqz_trace.specs.Defects.{first_bad, bad_slot, defect, lacks_nil};
 
 use crate::classes::class_of;
-use crate::contexts::{context_fields, is_context};
+use crate::contexts::context_fields;
 use crate::fixed::{fixed_by, is_weak};
-use crate::methods::{is_method, method_fields};
+use crate::methods::method_fields;
 use crate::parent::nil;
 use crate::slots::{class_address, traced_fields};
 use crate::weak::Weak;
 use sqz_image::{Fault, Heap, Object, Slot};
-use sqz_object::{Kind, Value, base_of, value_of};
+use sqz_object::{Kind, Layout, Value, base_of, value_of};
 
-/// The first thing that is wrong with an object: `NoClass`, else `BadMethod` or `BadContext`, else, where weak slots are
-/// cleared, `BadWeak`, else `BadPointer` with its first slot, weak or not, that holds neither an integer nor the address
-/// of an object.
+/// The first defect of an object: `NoClass`, else `BadMethod` or `BadContext`, else, if weak slots are
+/// cleared, `BadWeak`, else `BadPointer` with its first slot, weak or not, that holds neither a
+/// SmallInteger nor the address of an object. None if it has no defect.
 pub fn defect(heap: &Heap, weak: Weak, object: u32) -> Option<Fault>
     requires { object < object_count heap.now }
     ensures { result ≡ defect heap.now weak (object_at heap.now object) }
@@ -42,7 +42,7 @@ pub fn defect(heap: &Heap, weak: Weak, object: u32) -> Option<Fault>
     Some(Fault::BadPointer { address, slot })
 }
 
-/// Whether the object's header names no class.
+/// Whether the object's header has neither a class word nor a compact class index.
 fn lacks_class(object: &Object<'_>) -> bool
     ensures { result ≡ lacks_class object.now }
 {
@@ -54,21 +54,22 @@ fn lacks_class(object: &Object<'_>) -> bool
 fn is_bad_method(object: &Object<'_>) -> bool
     ensures { result ≡ is_bad_method object.now }
 {
-    let base = base_of(object.header().base);
     let fields = object.fields();
-    is_method(&base) && states_too_many(method_fields(&fields), fields.len() as u32)
+    matches!(object.layout(), Layout::Method)
+        && states_too_many(method_fields(&fields), fields.len() as u32)
 }
 
 /// Whether the object is a context that states no number of traced fields, or more than it has.
 fn is_bad_context(object: &Object<'_>) -> bool
     ensures { result ≡ is_bad_context object.now }
 {
-    let base = base_of(object.header().base);
     let fields = object.fields();
-    is_context(&base) && states_too_many(context_fields(&fields), fields.len() as u32)
+    matches!(object.layout(), Layout::Context)
+        && states_too_many(context_fields(&fields), fields.len() as u32)
 }
 
-/// Whether the object has weak slots that are cleared, and its class states no number of fixed fields, or more than it has.
+/// Whether the object has weak slots that are cleared, and its class states no number of fixed fields,
+/// or more than it has.
 fn is_bad_weak(heap: &Heap, weak: Weak, object: &Object<'_>) -> bool
     ensures { result ≡ is_bad_weak heap.now weak object.now }
 {
@@ -89,7 +90,7 @@ fn states_too_many(stated: Option<u32>, count: u32) -> bool
     }
 }
 
-/// Whether a word is neither an integer nor the address of an object.
+/// Whether a word is neither a SmallInteger nor the address of an object.
 fn is_bad_word(heap: &Heap, word: u32) -> bool
     ensures { result ≡ is_bad_value heap.now (value_of word) }
 {
@@ -125,7 +126,7 @@ fn bad_field(heap: &Heap, object: &Object<'_>) -> Option<Slot>
     None
 }
 
-/// Whether weak slots are cleared and there is no nil for them to name.
+/// Whether weak slots are cleared and there is no nil to clear them to.
 pub fn lacks_nil(heap: &Heap, weak: Weak) -> bool
     ensures { result ≡ lacks_nil heap.now weak }
 {

@@ -7,21 +7,18 @@ ghost use Rattle.sqz_trace.specs.Strong.{is_weak, fixed_in, fixed_by, unless_abo
 
 use crate::weak::Weak;
 use sqz_image::{Heap, Object};
-use sqz_object::{BitField, base_of};
+use sqz_object::{BitField, Layout};
 
-/// The field of a class that states how many fixed fields its instances have.
+/// The field of a class that states the number of fixed fields of its instances.
 const INSTANCE_SHAPE: usize = 2;
 
-/// The format of weak objects.
-const WEAK: u32 = 4;
-
-/// The bits of the word of a class's field 2 that are the lower ones of one more than its number of fixed fields.
+/// The bits of that field with the lower bits of one more than the number of fixed fields.
 const LOWER_BITS: BitField = BitField {
     lowest: 2,
     width: 6,
 };
 
-/// The bits of that word that are the higher ones.
+/// The bits of that field with the higher ones.
 const HIGHER_BITS: BitField = BitField {
     lowest: 17,
     width: 2,
@@ -33,11 +30,12 @@ pub fn is_weak(weak: Weak, object: &Object<'_>) -> bool
 {
     match weak {
         Weak::Keep => false,
-        Weak::Clear => base_of(object.header().base).format == WEAK,
+        Weak::Clear => matches!(object.layout(), Layout::Weak),
     }
 }
 
-/// How many fixed fields a class states for its instances. None where there is no class, or where it states no number.
+/// The number of fixed fields that a class states for its instances. None if there is no class, or if
+/// it states no number.
 pub(crate) fn fixed_by(heap: &Heap, class: Option<u32>) -> Option<u32>
     requires { IfSome class (λ class. class < object_count heap.now) }
     ensures { result ≡ fixed_by heap.now class }
@@ -46,18 +44,20 @@ pub(crate) fn fixed_by(heap: &Heap, class: Option<u32>) -> Option<u32>
     fixed_in(class.fields().get(INSTANCE_SHAPE)?)
 }
 
-/// The number that the word of a class's field 2 states: an integer whose word has one more in two groups of bits.
+/// The number that the word of a class's field 2 states: a SmallInteger, whose word has one more in two
+/// groups of bits.
 fn fixed_in(word: u32) -> Option<u32>
     ensures { result ≡ fixed_in word }
 {
     if word % 2 != 1 {
         return None;
     }
-    let stated = HIGHER_BITS.of(word) * 64 + LOWER_BITS.of(word);
+    let stated = HIGHER_BITS.get(word) * 64 + LOWER_BITS.get(word);
     stated.checked_sub(1)
 }
 
-/// How many fields of a weak object are fixed, by its class: as many as that states, where there are so many, else none.
+/// The number of fixed fields of a weak object, by its class: the number that the class states, or 0 if
+/// the object has fewer fields.
 pub(crate) fn fixed_of(heap: &Heap, class: Option<u32>, object: &Object<'_>) -> u32
     requires { IfSome class (λ class. class < object_count heap.now) }
     ensures fixed { result ≡ unless_above (length (fields object.now)) (fixed_by heap.now class) }

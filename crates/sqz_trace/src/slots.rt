@@ -1,16 +1,16 @@
-//! The slots of an object, and what they name.
+//! The slots of an object, and what they point to.
 
 ghost use Rattle.std.specs.Prelude.{◌≡◌, ◌<◌, ◌≤◌, length, IfSome};
 ghost use Rattle.sqz_object.specs.Chunk.{fields};
 ghost use Rattle.sqz_image.specs.declared.fault.Slot.TheVariants.{ClassWord};
 ghost use Rattle.sqz_image.specs.Objects.{object_count, chunk_words};
-ghost use Rattle.sqz_trace.specs.Slots.{word_among, slot_word, traced, clipped};
+ghost use Rattle.sqz_trace.specs.Slots.{word_among, slot_word, traced, clip};
 ghost use Rattle.sqz_trace.specs.Targets.{named_by, named_among, target};
 
-use crate::contexts::{context_fields, is_context};
-use crate::methods::{is_method, method_fields};
+use crate::contexts::context_fields;
+use crate::methods::method_fields;
 use sqz_image::{Heap, Object, Slot};
-use sqz_object::{Kind, Value, base_of, value_of};
+use sqz_object::{Kind, Layout, Value, value_of};
 
 /// The address in the object's class word, if its header has one.
 pub fn class_address(object: &Object<'_>) -> Option<u32>
@@ -24,33 +24,30 @@ pub fn class_address(object: &Object<'_>) -> Option<u32>
     Some(word - word % 4)
 }
 
-/// How many fields of the object are traced, from field 0 on. They are no more than it has, also
-/// where a context or a method states more.
+/// The number of traced fields of the object, from field 0 on: no more than it has, even if a context
+/// or a method states more.
 pub fn traced_fields(object: &Object<'_>) -> u32
     ensures traced { result ≡ traced object.now }
     ensures inside { result ≤ length (fields object.now) }
 {
-    let base = base_of(object.header().base);
     let fields = object.fields();
     let count = fields.len() as u32;
-    if is_context(&base) {
-        return clipped(context_fields(&fields), count);
+    match object.layout() {
+        Layout::Fields | Layout::Weak => count,
+        Layout::Context => clip(context_fields(&fields), count),
+        Layout::Method => clip(method_fields(&fields), count),
+        Layout::Words | Layout::Bytes { .. } => 0,
     }
-    if is_method(&base) {
-        return clipped(method_fields(&fields), count);
-    }
-    if base.format < 5 { count } else { 0 }
 }
 
-/// A stated number, but no more than there are; none where no number is stated.
-fn clipped(stated: Option<u32>, count: u32) -> u32
-    ensures { result ≡ clipped stated count }
+/// A stated number, but at most `count`; 0 if no number is stated.
+fn clip(stated: Option<u32>, count: u32) -> u32
+    ensures { result ≡ clip stated count }
 {
     stated.map_or(0, |stated| stated.min(count))
 }
 
-/// The object that a word names, as the word of a slot: a pointer names the object whose address it
-/// is.
+/// The object that the word of a slot points to: the one with this address.
 pub fn named_by(heap: &Heap, word: u32) -> Option<u32>
     ensures named { result ≡ named_by heap.now word }
     ensures inside { IfSome result (λ found. found < object_count heap.now) }
@@ -61,8 +58,8 @@ pub fn named_by(heap: &Heap, word: u32) -> Option<u32>
     }
 }
 
-/// The object that a slot names, among the class word of an object and its first fields, so many of them. None also where
-/// there is no such slot.
+/// The object that a slot points to, among the class word of an object and its first `count` fields.
+/// None also if there is no such slot.
 pub(crate) fn named_among(heap: &Heap, object: &Object<'_>, count: u32, slot: Slot) -> Option<u32>
     requires { count ≤ length (fields object.now) }
     ensures named { result ≡ named_among heap.now count object.now slot }
@@ -71,8 +68,8 @@ pub(crate) fn named_among(heap: &Heap, object: &Object<'_>, count: u32, slot: Sl
     named_by(heap, word_among(object, count, slot)?)
 }
 
-/// The word that a slot holds, of the class word the address in it, among the class word of an object and its first
-/// fields, so many of them.
+/// The word that a slot holds, among the class word of an object and its first `count` fields. For the
+/// class word it is the address in it.
 fn word_among(object: &Object<'_>, count: u32, slot: Slot) -> Option<u32>
     requires { count ≤ length (fields object.now) }
     ensures { result ≡ word_among count object.now slot }
@@ -84,7 +81,7 @@ fn word_among(object: &Object<'_>, count: u32, slot: Slot) -> Option<u32>
     }
 }
 
-/// The object that a slot of an object names; None also where the object has no such slot.
+/// The object that a traced slot of an object points to; None also if the object has no such slot.
 pub fn target(heap: &Heap, object: u32, slot: Slot) -> Option<u32>
     requires { object < object_count heap.now }
     ensures named { result ≡ target heap.now object slot }
@@ -94,7 +91,7 @@ pub fn target(heap: &Heap, object: u32, slot: Slot) -> Option<u32>
     named_among(heap, &object, traced_fields(&object), slot)
 }
 
-/// How many fields of the object are traced, from field 0 on. They are no more than it has.
+/// The number of traced fields of the object, from field 0 on: no more than it has.
 pub fn traced(heap: &Heap, object: u32) -> u32
     requires { object < object_count heap.now }
     ensures traced { result ≡ traced (chunk_words heap.now object) }

@@ -1,0 +1,42 @@
+//! How the fields of an object are laid out.
+
+ghost use Rattle.std.specs.Prelude.{◌≡◌};
+ghost use Rattle.sqz_object.specs.Layout.{layout_of};
+
+use crate::base::Base;
+
+/// How the fields of an object are laid out, by the format and the compact class index of its base
+/// header.
+#[derive(Clone, Copy, Debug, PartialEq, Eq)]
+pub enum Layout {
+    /// Slots alone: formats 0 to 3, but for contexts.
+    Fields,
+    /// Slots, of which those after the fixed ones are weak: format 4.
+    Weak,
+    /// The slots of a context up to the top of its stack: format 3 with compact class index 13 or 14.
+    Context,
+    /// Words that are no slots: formats 5 to 7.
+    Words,
+    /// Bytes, without this many of the last word: formats 8 to 11.
+    Bytes { unused: u32 },
+    /// A method: its header, its literals, and then bytes: formats 12 to 15.
+    Method,
+}
+
+impl Layout {
+    /// The layout by the fields of a base header.
+    pub fn of(base: &Base) -> Layout
+        ensures { result ≡ layout_of base.now }
+    {
+        match base.format {
+            3 if base.compact == 13 || base.compact == 14 => Layout::Context,
+            0..=3 => Layout::Fields,
+            4 => Layout::Weak,
+            5..=7 => Layout::Words,
+            8..=11 => Layout::Bytes {
+                unused: base.format - 8,
+            },
+            _ => Layout::Method,
+        }
+    }
+}
