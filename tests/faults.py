@@ -13,7 +13,7 @@ answer. If other code made the request, which requesters.py finds out, the run e
 There is one exception in each run, and no more: `collect` reserves room for the words of the
 command line, and goes on without it.
 
-The tests of crates/sqz_test_refusals are then run in the same way: each public call that is refused memory is made again
+The tests of crates/sqz_test_allocation are then run in the same way: each public call that is refused memory is made again
 there, and prints its name. So is the test of crates/sqz_test_marks that closes a table on which an image was marked. And so is
 `sqzlook`, which prints its answer whole or not at all, or a front of it where a write failed.
 
@@ -50,7 +50,7 @@ RESERVATIONS = 1
 CHAIN = 500_000
 
 # The tests that make calls again, and all calls that can want memory but the program's own.
-CALLS_AGAIN = os.path.join(ROOT, "crates", "sqz_test_refusals", "out", "sqz_test_refusals_tests")
+CALLS_AGAIN = os.path.join(ROOT, "crates", "sqz_test_allocation", "out", "sqz_test_refusals_tests")
 TESTS_AGAIN = ("reading::reading_serves_again", "stages::stages_serve_again", "tables::mark_table_serves_again", "runs::run_serves_again",
                "runs::run_serves_over_new_devices")
 CALLS = {

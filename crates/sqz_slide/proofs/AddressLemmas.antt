@@ -1,5 +1,5 @@
 -- The new address of what a word names, by a list of places.
--- Serves `moved_objects::piece_of`, `moved_objects::push_strong`, `moved_objects::push_weak`, `piece_sizes::piece_size`
+-- Serves `mover::Mover::piece_of`, `mover::Mover::push_strong`, `mover::Mover::push_weak`, `piece_sizes::piece_size`
 -- and `SizeLemmas`.
 use Rattle.std.proofs.Common.{◌≡◌, ℕ, ◌<◌, Bool, true, false, cond, List, [], ◌∷◌, ◌+◌, ◌++◌, map, length, get_or, take}
 use Rattle.std.proofs.Common.{Option, Some, None, is_some, slice_index_or, refl, sym, ap, ◌∙◌, append_assoc}

@@ -1,5 +1,5 @@
 -- The words of an object after the move: those of its fields. And the words of all live objects up to one.
--- Serves `moved_objects::piece_of`, `moved_words::moved_word` and `PieceLemmas`.
+-- Serves `mover::Mover::piece_of`, `moved_words::moved_word` and `PieceLemmas`.
 use Rattle.std.proofs.Common.{◌≡◌, ℕ, ◌+◌, ◌-◌, ◌<◌, ◌≤◌, Bool, true, false, List, [], ◌++◌, map, length, get_or, take}
 use Rattle.std.proofs.Common.{drop, slice_index, refl, ap, sym, ◌∙◌, arith}
 use Rattle.std.specs.List.{concat}

@@ -1,5 +1,5 @@
 -- The pieces of regions, one region after the other.
--- Serves `moved_objects::piece_of`, `sliding::joined`, `sliding::share` and `sliding::slide`.
+-- Serves `mover::Mover::piece_of`, `shared_regions::SharedRegions::pieces_of_worker`, `sliding::concat_shares` and `sliding::slide`.
 use Rattle.std.proofs.Common.{◌≡◌, ℕ, zero, suc, ◌+◌, ◌-◌, ◌≤◌, Bool, eqb, List, [], ◌∷◌, ◌++◌, map, filter, length}
 use Rattle.std.proofs.Common.{take, slice_index_or, sym, ap, subst, refl, ◌∙◌, arith, add-one, inl, inr}
 use Rattle.std.specs.List.{concat}

@@ -1,5 +1,5 @@
 -- The regions that each worker has.
--- Serves `sliding::joined` and `sliding::share`.
+-- Serves `sliding::concat_shares` and `shared_regions::SharedRegions::pieces_of_worker`.
 use Rattle.std.proofs.Common.{◌≡◌, ◌↔◌, ℕ, ◌*◌, ◌/◌, ◌<◌, ◌≤◌, arith}
 use Rattle.std.proofs.Math.Nat.{div-le_of_le-mul, mul-le-mul_right, mul-div-le, mul-div_cancel_left, le-div_iff_mul-le}
 use Rattle.std.proofs.Math.Nat.{mul_comm}

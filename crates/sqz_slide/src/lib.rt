@@ -1,10 +1,11 @@
 //! The live objects in their new places, moved by workers that share the regions.
 #![tactic(auto)]
 
-mod moved_objects;
 mod moved_words;
+mod mover;
 mod piece_sizes;
 mod pieces;
+mod shared_regions;
 mod sliding;
 
 pub use moved_words::moved_word;

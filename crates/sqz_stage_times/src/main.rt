@@ -5,7 +5,7 @@
 mod stage_printer;
 
 use anyhow::Result;
-use sqz_arguments::{Arguments, read_arguments};
+use sqz_compact_args::{Arguments, read_arguments};
 use sqz_image::{ReadSource, WriteSink};
 use sqz_marks::Workers;
 use sqz_regions::Cut;

@@ -13,8 +13,8 @@ use super::steps::{assert_closed, assert_dead_cycle, close_again, is_same, new_c
 use sqz_image::{Heap, Slot};
 use sqz_marks::{Claim, Closed, MarkTable, Pass, Workers};
 use sqz_regions::{Cut, Regions};
-use sqz_test_images::accepted::DEAD_CYCLE;
-use sqz_test_images::image_of;
+use sqz_fixtures::accepted::DEAD_CYCLE;
+use sqz_fixtures::image_of;
 use sqz_trace::{Parent, Shade, Weak};
 use std::process::Abort;
 use std::test::Fail;

@@ -10,8 +10,8 @@ use super::steps::{assert_closed, assert_dead_cycle, assert_looks, claim, closed
 use sqz_image::{Heap, Slot};
 use sqz_marks::{Claim, Closed, MarkTable, Pass, Workers};
 use sqz_regions::{Cut, Regions};
-use sqz_test_images::accepted::DEAD_CYCLE;
-use sqz_test_images::image_of;
+use sqz_fixtures::accepted::DEAD_CYCLE;
+use sqz_fixtures::image_of;
 use sqz_trace::{Shade, Weak};
 use std::process::Abort;
 use std::test::Fail;

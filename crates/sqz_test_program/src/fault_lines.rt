@@ -1,7 +1,7 @@
 //! The lines of faults that no other test meets, and that of words that are no text, and the exit that goes with each.
 
+use sqz_cli::{refuse, refuse_words};
 use sqz_image::{Fault, MemorySink, Slot};
-use sqz_tool::{refuse, refuse_words};
 use std::process::Abort;
 use std::test::Fail;
 

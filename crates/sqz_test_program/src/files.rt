@@ -2,9 +2,9 @@
 
 use super::images::{compacted_image, whole_image};
 use super::programs::{assert_ended, assert_printed, run_program};
-use sqz_test_images::answers::WEAK_FIELDS_CLEARED;
-use sqz_test_images::with_weak_objects::WEAK_FIELDS;
-use sqz_test_images::{TestImage, file_of};
+use sqz_fixtures::answers::WEAK_FIELDS_CLEARED;
+use sqz_fixtures::with_weak_objects::WEAK_FIELDS;
+use sqz_fixtures::{TestImage, file_of};
 use std::fs::File;
 use std::io::{Read, Write};
 use std::process::Abort;

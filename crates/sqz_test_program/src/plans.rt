@@ -2,8 +2,9 @@
 
 use super::images::whole_image;
 use super::test_files::{Disk, IN, OUT, SOUND, TestFiles};
+use sqz_compact_args::Arguments;
 use sqz_image::MemorySink;
-use sqz_tool::{Arguments, compact};
+use sqz_tool::compact;
 use sqz_workers::{Gate, Phase};
 use std::sync::Wait;
 use std::sync::atomic::{AtomicU64, Ordering};

@@ -3,11 +3,11 @@
 use super::images::whole_image;
 use super::programs::{assert_ended, run_over};
 use super::test_files::{IN, OUT, SOUND};
-use sqz_test_images::accepted::SPECIAL_ARRAY_ALONE;
-use sqz_test_images::unreadable::{MIXED_CLASS_HEADER, NO_OBJECT_AT_SPECIAL, OVERRUN, ZERO_SIZE};
-use sqz_test_images::with_defects::{METHOD_HEADER, NO_CLASS, ODD_FIELD, SHORT_CONTEXT};
-use sqz_test_images::with_weak_objects::WEAK_BAD_CLASS;
-use sqz_test_images::{TestImage, file_of};
+use sqz_fixtures::accepted::SPECIAL_ARRAY_ALONE;
+use sqz_fixtures::unreadable::{MIXED_CLASS_HEADER, NO_OBJECT_AT_SPECIAL, OVERRUN, ZERO_SIZE};
+use sqz_fixtures::with_defects::{METHOD_HEADER, NO_CLASS, ODD_FIELD, SHORT_CONTEXT};
+use sqz_fixtures::with_weak_objects::WEAK_BAD_CLASS;
+use sqz_fixtures::{TestImage, file_of};
 use std::process::Abort;
 use std::sync::Wait;
 use std::test::Fail;

@@ -1,8 +1,8 @@
 //! Censuses of small images.
 
 use super::runs::{Outcome, assert_bytes, run_by_two};
-use sqz_test_images::accepted::{BIG_ENDIAN_CLASS_NAMES, CLASS_NAMES, DEAD_ARRAY, METACLASS};
-use sqz_test_images::{Change, TestImage, file_of};
+use sqz_fixtures::accepted::{BIG_ENDIAN_CLASS_NAMES, CLASS_NAMES, DEAD_ARRAY, METACLASS};
+use sqz_fixtures::{Change, TestImage, file_of};
 use sqz_trace::Weak;
 use std::process::Abort;
 use std::sync::Wait;

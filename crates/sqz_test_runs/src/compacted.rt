@@ -3,14 +3,14 @@
 use super::prefixes::assert_array_left_out;
 use super::runs::assert_compacts;
 use sqz_object::Order;
-use sqz_test_images::Chunk::{Array, Classed, Free, Long, Short, Words};
-use sqz_test_images::accepted::{
+use sqz_fixtures::Chunk::{Array, Classed, Free, Long, Short, Words};
+use sqz_fixtures::accepted::{
     CLASS_EDGE, CLASS_EDGE_OF_THREE_WORDS, CLASS_NAMES, CONTEXT_STACK, CONTEXT_WITH_CLASS_WORD,
     CONTEXT_WITHOUT_STACK_POINTER, DEAD_BAD_CONTEXT, DEAD_BAD_METHOD, DEAD_BAD_POINTER,
     DEAD_WITHOUT_CLASS, FREE_CHUNK, HIGHEST_BASE, INTEGERS, METHOD_LITERALS, NIL_ALONE,
 };
-use sqz_test_images::answers::CLASS_EDGE_ANSWER;
-use sqz_test_images::{EMPTY, NIL, ODD, TestImage, with_word};
+use sqz_fixtures::answers::CLASS_EDGE_ANSWER;
+use sqz_fixtures::{EMPTY, NIL, ODD, TestImage, with_word};
 use sqz_trace::Weak;
 use std::process::Abort;
 use std::sync::Wait;

@@ -3,14 +3,14 @@
 
 use super::runs::assert_image_refused;
 use sqz_image::{Fault, Slot};
-use sqz_test_images::Chunk::{Array, Long, Short};
-use sqz_test_images::accepted::{CONTEXT_STACK, NIL_ALONE};
-use sqz_test_images::with_defects::{
+use sqz_fixtures::Chunk::{Array, Long, Short};
+use sqz_fixtures::accepted::{CONTEXT_STACK, NIL_ALONE};
+use sqz_fixtures::with_defects::{
     ALL_ONES, BAD_CLASS_WORD, BAD_LITERAL, CLASS_WORD_BEFORE_FIELD, CONTEXT_OF_FIVE_FIELDS,
     FIELD_NAMES_CLASS_WORD, FIELD_NAMES_FREE_CHUNK, LOWER_IS_NAMED, LOWER_OF_TWO, METHOD_HEADER,
     METHOD_WITHOUT_CLASS, METHOD_WITHOUT_FIELDS, NO_CLASS, SHORT_CONTEXT, TOO_MANY_LITERALS,
 };
-use sqz_test_images::{Change, EMPTY, NIL, TestImage, with_word};
+use sqz_fixtures::{Change, EMPTY, NIL, TestImage, with_word};
 use sqz_trace::Weak;
 use std::process::Abort;
 use std::sync::Wait;

@@ -3,7 +3,7 @@
 use super::runs::assert_refused;
 use sqz_image::Fault;
 use sqz_object::Order;
-use sqz_test_images::put_words;
+use sqz_fixtures::put_words;
 use sqz_trace::Weak;
 use std::alloc::{AllocError, Global};
 use std::process::Abort;

@@ -1,9 +1,9 @@
 //! Runs by workers of whom one is held: they write the same as those by workers of whom none is.
 
 use super::runs::{Outcome, SOUND, assert_bytes_by, plan_by, run_over, run_past};
-use sqz_test_images::accepted::DEAD_CYCLE;
-use sqz_test_images::answers::DEAD_CYCLE_ANSWER;
-use sqz_test_images::file_of;
+use sqz_fixtures::accepted::DEAD_CYCLE;
+use sqz_fixtures::answers::DEAD_CYCLE_ANSWER;
+use sqz_fixtures::file_of;
 use sqz_tool::Plan;
 use sqz_trace::Weak;
 use sqz_workers::{Gate, Phase};

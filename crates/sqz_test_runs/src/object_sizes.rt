@@ -1,9 +1,9 @@
 //! The largest object that a short header can state, and an object one word larger.
 
 use super::compacted::assert_left;
-use sqz_test_images::Chunk::{Array, Long};
-use sqz_test_images::accepted::{LARGEST_SHORT_OBJECT, THREE_WORD_HEADER};
-use sqz_test_images::{EMPTY, NIL, TestImage};
+use sqz_fixtures::Chunk::{Array, Long};
+use sqz_fixtures::accepted::{LARGEST_SHORT_OBJECT, THREE_WORD_HEADER};
+use sqz_fixtures::{EMPTY, NIL, TestImage};
 use std::test::Fail;
 
 /// What `THREE_WORD_HEADER` is compacted to.

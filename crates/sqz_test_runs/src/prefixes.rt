@@ -6,8 +6,8 @@ use super::runs::{
 use super::weak_censuses::{WEAK_CLASS, WEAK_CLASS_CENSUS, WEAK_CLASS_CLEARED};
 use sqz_image::{Fault, Image, MemorySink, read_image, write_image};
 use sqz_object::Order;
-use sqz_test_images::accepted::{DEAD_ARRAY, NIL_ALONE};
-use sqz_test_images::{EMPTY, TestImage, file_in, file_of, put_words};
+use sqz_fixtures::accepted::{DEAD_ARRAY, NIL_ALONE};
+use sqz_fixtures::{EMPTY, TestImage, file_in, file_of, put_words};
 use sqz_tool::{Plan, Summary};
 use sqz_trace::Weak;
 use std::alloc::{AllocError, Global};

@@ -4,7 +4,7 @@ use sqz_image::{Fault, MemorySink, MemorySource};
 use sqz_marks::Workers;
 use sqz_object::Order;
 use sqz_regions::Cut;
-use sqz_test_images::{TestImage, file_in};
+use sqz_fixtures::{TestImage, file_in};
 use sqz_tool::{Plan, Summary, run};
 use sqz_trace::Weak;
 use sqz_workers::{Gate, OpenGate};

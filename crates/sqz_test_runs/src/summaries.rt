@@ -3,8 +3,8 @@
 use super::prefixes::with_tail;
 use super::runs::assert_writes;
 use sqz_object::Order;
-use sqz_test_images::accepted::{DEAD_ARRAY, NIL_ALONE};
-use sqz_test_images::file_in;
+use sqz_fixtures::accepted::{DEAD_ARRAY, NIL_ALONE};
+use sqz_fixtures::file_in;
 use sqz_tool::Summary;
 use sqz_trace::Weak;
 use std::process::Abort;

@@ -5,8 +5,8 @@ use super::runs::{Outcome, SOUND, assert_bytes, assert_writes, run_by_two, run_o
 use sqz_image::Fault;
 use sqz_marks::Workers;
 use sqz_regions::Cut;
-use sqz_test_images::accepted::NIL_ALONE;
-use sqz_test_images::{IMAGES, TestImage, file_of};
+use sqz_fixtures::accepted::NIL_ALONE;
+use sqz_fixtures::{IMAGES, TestImage, file_of};
 use sqz_tool::{Plan, Summary};
 use sqz_trace::Weak;
 use std::alloc::{AllocError, Global};

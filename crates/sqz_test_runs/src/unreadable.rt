@@ -2,14 +2,14 @@
 
 use super::runs::assert_image_refused;
 use sqz_image::Fault;
-use sqz_test_images::unreadable::{
+use sqz_fixtures::unreadable::{
     FIRST_UNREADABLE_CHUNK, FREE_CHUNK_AT_SPECIAL, FREE_OVERRUN, FREE_ZERO_SIZE, HEADER_OVERRUN,
     HEADER_OVERRUN_BEFORE_MIXED, LONE_CLASS_WORD, LONE_SIZE_WORD, MIXED_BEFORE_OVERRUN,
     MIXED_BEFORE_SIZE, MIXED_CLASS_HEADER, MIXED_HEADER, MIXED_SECOND_HEADER, NO_OBJECT_AT_SPECIAL,
     OVERRUN, OVERRUN_OF_THREE, OVERRUN_OF_TWO, UNREADABLE_BEFORE_SPECIAL, ZERO_SIZE,
     ZERO_SIZE_OF_THREE, ZERO_SIZE_OF_TWO,
 };
-use sqz_test_images::{EMPTY, TestImage};
+use sqz_fixtures::{EMPTY, TestImage};
 use sqz_trace::Weak;
 use std::process::Abort;
 use std::sync::Wait;

@@ -1,8 +1,8 @@
 //! Censuses of images with weak objects.
 
 use super::censuses::assert_census;
-use sqz_test_images::Chunk::{Array, Classed, LongArray, Short};
-use sqz_test_images::{EMPTY, NIL, TestImage};
+use sqz_fixtures::Chunk::{Array, Classed, LongArray, Short};
+use sqz_fixtures::{EMPTY, NIL, TestImage};
 use sqz_trace::Weak;
 use std::test::Fail;
 

@@ -1,13 +1,13 @@
 //! Images with weak objects, and what is left of them where weak slots are cleared and where they are kept.
 
 use super::runs::assert_compacts;
-use sqz_test_images::Chunk::{Array, Classed, Long, LongArray, Short};
-use sqz_test_images::answers::WEAK_FIELDS_CLEARED;
-use sqz_test_images::with_weak_objects::{
+use sqz_fixtures::Chunk::{Array, Classed, Long, LongArray, Short};
+use sqz_fixtures::answers::WEAK_FIELDS_CLEARED;
+use sqz_fixtures::with_weak_objects::{
     WEAK_COMPACT_CLASS, WEAK_FIELDS, WEAK_FIXED_FIELD, WEAK_OWN_CLASS, WEAK_SIXTY_FOUR_FIXED,
     WEAK_SLOT_OF_LIVE_OBJECT, WEAK_SPECIAL_WITH_CLASS_WORD, WEAK_WEAK_CLASS,
 };
-use sqz_test_images::{EMPTY, NIL, TestImage};
+use sqz_fixtures::{EMPTY, NIL, TestImage};
 use sqz_trace::Weak;
 use std::process::Abort;
 use std::sync::Wait;

@@ -2,8 +2,8 @@
 
 use sqz_image::{Heap, image_of_file, read_image};
 use sqz_object::{Chunk, Kind, Order, Words, chunk_in};
-use sqz_test_images::accepted::{BIG_ENDIAN_CLASS_NAMES, CLASS_NAMES};
-use sqz_test_images::{TestImage, file_of};
+use sqz_fixtures::accepted::{BIG_ENDIAN_CLASS_NAMES, CLASS_NAMES};
+use sqz_fixtures::{TestImage, file_of};
 use std::process::Abort;
 use std::test::Fail;
 

@@ -4,9 +4,9 @@ ghost use Rattle.std.specs.Prelude.{◌<◌};
 
 use sqz_image::{Image, read_image};
 use sqz_object::Order;
-use sqz_test_images::Chunk::{Array, Classed, Free, Long, LongArray, Short, Words};
-use sqz_test_images::accepted::DEAD_CYCLE;
-use sqz_test_images::{EMPTY, NIL, ODD, TestImage, image_of, put_header, put_words};
+use sqz_fixtures::Chunk::{Array, Classed, Free, Long, LongArray, Short, Words};
+use sqz_fixtures::accepted::DEAD_CYCLE;
+use sqz_fixtures::{EMPTY, NIL, ODD, TestImage, image_of, put_header, put_words};
 use std::alloc::Global;
 use std::test::Fail;
 

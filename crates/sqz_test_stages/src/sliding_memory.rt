@@ -6,7 +6,7 @@ use super::sliding_gates::assert_turns;
 use sqz_image::{Image, read_image};
 use sqz_object::Order;
 use sqz_regions::Cut;
-use sqz_test_images::{put_header, put_words};
+use sqz_fixtures::{put_header, put_words};
 use sqz_trace::Weak;
 use sqz_workers::{Gate, Phase};
 use std::alloc::Global;

@@ -10,7 +10,7 @@ use super::tracing::{DEAD_CYCLE_MARKS, assert_all, flags_of};
 use sqz_image::Image;
 use sqz_marks::Workers;
 use sqz_regions::{Cut, Regions};
-use sqz_test_images::image_of;
+use sqz_fixtures::image_of;
 use sqz_trace::Weak;
 use sqz_workers::{Gate, Marked, OpenGate, Phase, mark};
 use std::alloc::{AllocError, Global};

@@ -10,9 +10,9 @@ use Rattle.sqz_image.specs.Devices.{SinkState}
 use Rattle.sqz_image.specs.Numbers.{number_of_fault}
 use Rattle.sqz_tool.specs.declared.summary.Summary.{Summary}
 use Rattle.sqz_tool.specs.Endings.{AsksFor, EndsWhole, EndsRefused, MayStopEarly, EndsFaulty}
-use Rattle.sqz_command.specs.Exits.{exit_of, exit_of_number}
+use Rattle.sqz_cli.specs.Exits.{exit_of, exit_of_number}
 use Rattle.sqz_tool.specs.FileRuns.{Views, CompactsFiles, StopsFiles}
-use Rattle.sqz_command.specs.Lines.{PrintsFault}
+use Rattle.sqz_cli.specs.Lines.{PrintsFault}
 use Rattle.sqz_tool.specs.Plans.{weak_of}
 
 -- no fault ends the program as done

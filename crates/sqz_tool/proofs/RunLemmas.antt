@@ -17,14 +17,14 @@ use Rattle.sqz_trace.proofs.DefectLemmas.{IsOfImage, first_defect-number}
 use Rattle.sqz_tool.specs.declared.summary.Summary.{Summary}
 use Rattle.sqz_tool.specs.Compacted.{compacted}
 use Rattle.sqz_tool.specs.Verdict.{IsAccepted, IsRefused}
-use Rattle.sqz_command.specs.Exits.{exit_of}
+use Rattle.sqz_cli.specs.Exits.{exit_of}
 use Rattle.sqz_tool.specs.Headline.{IsReport, IsReportIfAsked, IsCompaction, LacksNilIn, HasDefectIn, Sinks, sinks, Reports}
 use Rattle.sqz_tool.specs.Headline.{Compacts, RefusesFile}
 use Rattle.sqz_tool.specs.Headline.{StopsAtImage, StopsAtCensus, Refuses}
 use Rattle.sqz_tool.proofs.FixedPointLemmas.{IsFixedPoint-accepted}
 use Rattle.clap.specs.Words.{Text}
 use Rattle.sqz_tool.specs.FileRuns.{Views, RunsFiles}
-use Rattle.sqz_command.specs.OutputFiles.{new_output}
+use Rattle.sqz_cli.specs.OutputFiles.{new_output}
 
 -- ---- the refusals of a file
 

@@ -5,10 +5,10 @@ use Rattle.sqz_image.specs.declared.fault.Fault.{Fault}
 use Rattle.sqz_image.specs.declared.fault.Fault.TheVariants.{OutOfMemory, ReadFailed, WriteFailed, BadWorkers, BadCut}
 use Rattle.sqz_image.specs.Devices.{SinkState}
 use Rattle.sqz_tool.specs.declared.summary.Summary.{Summary}
-use Rattle.sqz_arguments.specs.CommandLine.{command_line}
-use Rattle.sqz_command.specs.Exits.{exit_of}
+use Rattle.sqz_compact_args.specs.CommandLine.{command_line}
+use Rattle.sqz_cli.specs.Exits.{exit_of}
 use Rattle.sqz_tool.specs.FileRuns.{Views, CompactsFiles, RefusesFiles}
-use Rattle.sqz_command.specs.Lines.{PrintsFault}
+use Rattle.sqz_cli.specs.Lines.{PrintsFault}
 use Rattle.sqz_tool.specs.Plans.{weak_of, AsksToClear, AsksForCensus}
 
 -- the words were taken

@@ -4,7 +4,7 @@ use Rattle.clap.specs.Words.{Text}
 use Rattle.sqz_image.specs.declared.fault.Fault.{Fault}
 use Rattle.sqz_image.specs.declared.fault.Fault.TheVariants.{ReadFailed}
 use Rattle.sqz_image.specs.Devices.{SourceState, SinkState, new_source}
-use Rattle.sqz_command.specs.OutputFiles.{new_output}
+use Rattle.sqz_cli.specs.OutputFiles.{new_output}
 use Rattle.sqz_trace.specs.declared.weak.Weak.{Weak}
 use Rattle.sqz_tool.specs.declared.summary.Summary.{Summary}
 use Rattle.sqz_tool.specs.Headline.{Compacts, Refuses, Sinks, sinks}

@@ -7,8 +7,8 @@ ghost use Rattle.sqz_tool.specs.Plans.{IsWorkers, IsRegion, weak_of};
 
 use crate::opened::Opened;
 use crate::summary::Summary;
-use sqz_arguments::Arguments;
-use sqz_command::OutputFile;
+use sqz_cli::OutputFile;
+use sqz_compact_args::Arguments;
 use sqz_image::{Fault, Sink};
 use sqz_workers::Gate;
 use std::alloc::Global;

@@ -2,16 +2,16 @@
 
 ghost use Rattle.std.specs.Prelude.{◌≡◌, ◌≢◌, ◌⊎◌, ◌<◌, ◌≤◌, [], map, string_bytes, IfErr, IsOk, MatchResult};
 ghost use Rattle.clap.specs.Words.{fault_of, matches_of};
-ghost use Rattle.sqz_arguments.specs.CommandLine.{command_line};
-ghost use Rattle.sqz_command.specs.Exits.{IsExitBy, exit_of};
-ghost use Rattle.sqz_command.specs.Lines.{PrintsFault};
+ghost use Rattle.sqz_compact_args.specs.CommandLine.{command_line};
+ghost use Rattle.sqz_cli.specs.Exits.{IsExitBy, exit_of};
+ghost use Rattle.sqz_cli.specs.Lines.{PrintsFault};
 ghost use Rattle.sqz_tool.specs.Endings.{AreTaken, EndsFaulty, EndsWhole};
 ghost use Rattle.sqz_tool.specs.Plans.{AsksForCensus, AsksForPlan};
 
 use crate::compact_files::compact;
 use crate::summary::Summary;
-use sqz_arguments::read_arguments;
-use sqz_command::{DONE, OutputFile, explain, refuse};
+use sqz_cli::{DONE, OutputFile, explain, refuse};
+use sqz_compact_args::read_arguments;
 use sqz_image::{Fault, Sink};
 use sqz_workers::OpenGate;
 use std::alloc::Global;

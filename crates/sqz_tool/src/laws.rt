@@ -11,7 +11,7 @@ ghost use Rattle.sqz_tool.specs.Correspondence.{HasMovedObjects};
 ghost use Rattle.sqz_tool.specs.Verdict.{IsAccepted, IsRefused};
 ghost use Rattle.sqz_tool.specs.FixedPoint.{IsFixedPoint};
 
-pub use sqz_arguments::laws::worked_options;
+pub use sqz_compact_args::laws::worked_options;
 
 /// A file is accepted with one image and one set of live objects at most, so it has one compaction.
 pub fn one_answer()

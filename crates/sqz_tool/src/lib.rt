@@ -19,6 +19,4 @@ pub use observer::{NoObserver, Stage, StageObserver};
 pub use plan::Plan;
 pub use running::{run, run_observed};
 pub use session::Session;
-pub use sqz_arguments::Arguments;
-pub use sqz_command::{refuse, refuse_words};
 pub use summary::Summary;

@@ -4,15 +4,15 @@ ghost use Rattle.std.specs.Prelude.{◌≡◌, ◌⊎◌, true, IfOk, IfErr};
 ghost use Rattle.sqz_image.specs.declared.fault.Fault.TheVariants.{ReadFailed, BadWorkers, BadCut};
 ghost use Rattle.sqz_image.specs.Devices.{new_source};
 ghost use Rattle.sqz_regions.specs.Regions.{Every};
-ghost use Rattle.sqz_command.specs.OutputFiles.{new_output};
+ghost use Rattle.sqz_cli.specs.OutputFiles.{new_output};
 ghost use Rattle.sqz_tool.specs.Headline.{Compacts, Refuses, sinks};
 ghost use Rattle.sqz_tool.specs.Plans.{IsWorkers, IsRegion, weak_of};
 
 use crate::plan::Plan;
 use crate::running::run;
 use crate::summary::Summary;
-use sqz_arguments::Arguments;
-use sqz_command::OutputFile;
+use sqz_cli::OutputFile;
+use sqz_compact_args::Arguments;
 use sqz_image::{Fault, ReadSource, Sink, Source};
 use sqz_workers::Gate;
 use std::alloc::Global;

@@ -5,7 +5,7 @@ ghost use Rattle.sqz_image.specs.declared.fault.Fault.TheVariants.{BadWorkers, B
 ghost use Rattle.sqz_regions.specs.Regions.{Every};
 ghost use Rattle.sqz_tool.specs.Plans.{IsWorkers, IsRegion, weak_of};
 
-use sqz_arguments::Arguments;
+use sqz_compact_args::Arguments;
 use sqz_image::Fault;
 use sqz_marks::Workers;
 use sqz_regions::Cut;

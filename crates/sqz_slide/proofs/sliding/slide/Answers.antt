@@ -5,8 +5,8 @@ use Rattle.sqz_slide.proofs.PieceLemmas.{concat-pieces}
 use Rattle.sqz_slide.proofs.sliding.slide.Goals as goal
 use Rattle.sqz_slide.proofs.sliding.slide.Goals.{After-new}
 
-pub joined-requires : goal.joined-requires
-joined-requires g c =
+pub concat_shares-requires : goal.concat_shares-requires
+concat_shares-requires g c =
     record { some = omega (arith, c.in_ok-shares.shares.ok.0, c.in_ok-shares.ensures.len, c.number.ensures.some) }
 
 -- the workers' pieces are those of all regions
@@ -20,7 +20,7 @@ are_pieces g c marks places =
     (let given = rw (← is) at (c.in_ok-shares.ensures.each worker (Ok pieces) (omega (arith, lt, count))).1.met in
     subst (λ (n : ℕ). IsShareOf c.args.regions.now c.args.weak marks n worker (map (λ piece. piece.items) pieces.items))
     (sym (count ∙ c.number.ensures.number)) (given marks places)) in
-    rw c.new.ensures (c.in_ok-joined.ensures c.args.regions.now c.args.weak marks are)
+    rw c.new.ensures (c.in_ok-concat_shares.ensures c.args.regions.now c.args.weak marks are)
 
 pub returns-clause-pieces : goal.returns-clause-pieces
 returns-clause-pieces g c marks places = are_pieces g c marks places

@@ -1,6 +1,6 @@
 use Rattle.std.proofs.Common.{true, ap, inr}
 use Rattle.std.proofs.lemmas.Result.{IfErr-weaker, IfOk-weaker}
-use Rattle.sqz_command.specs.Exits.{exit_of}
+use Rattle.sqz_cli.specs.Exits.{exit_of}
 use Rattle.sqz_tool.specs.Headline.{Compacts, Refuses}
 use Rattle.sqz_tool.proofs.RunLemmas.{Refuses-exit, runs_files}
 use Rattle.sqz_tool.proofs.compact_files.compact.Goals as goal

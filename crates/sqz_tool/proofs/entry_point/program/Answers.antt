@@ -2,7 +2,7 @@ use Rattle.std.proofs.Common.{◌≡◌, inl, inr, ap, ◌∙◌}
 use Rattle.std.proofs.lemmas.Bool.{false_from_ne_true}
 use Rattle.clap.specs.Words.{kind_of}
 use Rattle.clap.specs.declared.error.kind.ErrorKind.TheVariants.{OutOfMemory}
-use Rattle.sqz_command.specs.Exits.{exit_of_kind}
+use Rattle.sqz_cli.specs.Exits.{exit_of_kind}
 use Rattle.sqz_tool.proofs.EndingLemmas.{ends_whole, ends_faulty, ends_without_memory}
 use Rattle.sqz_tool.proofs.entry_point.program.Goals as goal
 

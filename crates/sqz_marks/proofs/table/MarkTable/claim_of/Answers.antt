@@ -1,10 +1,11 @@
-use Rattle.std.proofs.Common.{◌≡◌, Some, sym, ap, subst, ◌∙◌, rules, arith}
-use Rattle.std.proofs.lemmas.Grind.{common_steps}
+use Rattle.std.proofs.Common.{◌≡◌, ℕ, Some, sym, ap, subst, ◌∙◌, rules}
 use Rattle.sqz_image.specs.Objects.{Memory}
 use Rattle.sqz_trace.specs.Edges.{strong_named}
-use Rattle.sqz_marks.specs.Table.{SharedMarks}
+use Rattle.sqz_marks.specs.declared.view.View.{View}
+use Rattle.sqz_marks.specs.Table.{SharedMarks, HeldPass, IsNewTo}
 use Rattle.sqz_marks.proofs.CallLemmas.{claim_owes}
 use Rattle.sqz_marks.proofs.table.MarkTable.claim_of.Goals as goal
+use Rattle.sqz_marks.proofs.table.MarkTable.claim_of.Goals.{in-0, in_default-fetch_max}
 
 pub fetch_max-requires : goal.fetch_max-requires
 fetch_max-requires c =
@@ -20,4 +21,13 @@ pub returns-clause-claim : goal.returns-clause-claim
 returns-clause-claim c = search rules
 
 pub returns-clause-new : goal.returns-clause-new
-returns-clause-new c = grind (arith, common_steps)
+returns-clause-new c object won =
+    elim c.match-fetch_max.branch [
+      | in-0 w ↦
+          let same : c.in-Some.object ≡ object = cc in
+          let new = c.fetch_max.ensures.2.new w.in-0.is in
+          let here = ap (λ (pass : HeldPass). pass.view) c.pass.view_is in
+          subst (λ (view : View). IsNewTo view object) here
+          (subst (λ (found : ℕ). IsNewTo c.pass.inside.seat.me.0 found) same new)
+      | in_default-fetch_max w ↦ absurd cc
+    ]

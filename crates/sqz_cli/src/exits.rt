@@ -1,0 +1,33 @@
+//! What the program ends with.
+
+ghost use Rattle.std.specs.Prelude.{◌≡◌};
+ghost use Rattle.sqz_cli.specs.Exits.{exit_of};
+
+use sqz_image::Fault;
+
+/// The image was written.
+pub const DONE: u8 = 0;
+
+/// The image is at fault.
+pub const BAD_IMAGE: u8 = 1;
+
+/// The words of the command line are at fault.
+pub const BAD_ARGUMENTS: u8 = 2;
+
+/// A file could not be read or written.
+pub(crate) const DEVICE_FAILED: u8 = 3;
+
+/// Memory was refused.
+pub(crate) const OUT_OF_MEMORY: u8 = 4;
+
+/// What the program ends with where this fault stopped it.
+pub(crate) fn exit_of(fault: &Fault) -> u8
+    ensures { result ≡ exit_of fault.now }
+{
+    match fault {
+        Fault::OutOfMemory => OUT_OF_MEMORY,
+        Fault::ReadFailed | Fault::WriteFailed => DEVICE_FAILED,
+        Fault::BadWorkers | Fault::BadCut => BAD_ARGUMENTS,
+        _ => BAD_IMAGE,
+    }
+}

@@ -1,0 +1,44 @@
+//! What the program prints and ends with where a fault or its words stop it.
+
+ghost use Rattle.std.specs.Prelude.{◌≡◌, ◌<◌};
+ghost use Rattle.clap.specs.Words.{kind_of};
+ghost use Rattle.clap.specs.declared.error.kind.ErrorKind.TheVariants as kinds;
+ghost use Rattle.sqz_image.specs.declared.fault.Fault.TheVariants.{OutOfMemory};
+ghost use Rattle.sqz_cli.specs.Exits.{exit_of, exit_of_kind};
+ghost use Rattle.sqz_cli.specs.Lines.{PrintsFault};
+
+use crate::exits::{BAD_ARGUMENTS, DONE, exit_of};
+use crate::fault_line::fault_line;
+use crate::printing::{print, print_error};
+use clap::Error;
+use clap::error::ErrorKind;
+use sqz_image::{Fault, Sink};
+
+/// Prints the line of a fault, and answers what the program is to end with.
+pub fn refuse<E: Sink>(fault: &Fault, err: &mut E) -> u8
+    ensures exit { result ≡ exit_of fault.now }
+    ensures line { PrintsFault (E.state err.old) (E.state err.new) fault.now }
+{
+    print(err, fault_line(fault).as_slice());
+    exit_of(fault)
+}
+
+/// Prints what is said in place of arguments, and answers what the program is to end with.
+pub fn explain<C: Sink, E: Sink>(error: &Error, out: &mut C, err: &mut E) -> u8
+    ensures exit { result ≡ exit_of_kind (kind_of error.now) }
+    ensures memory { kind_of error.now ≡ kinds.OutOfMemory → PrintsFault (E.state err.old) (E.state err.new) OutOfMemory }
+    ensures silent { result ≡ 0 → err.new ≡ err.old }
+    ensures quiet { 0 < result → out.new ≡ out.old }
+{
+    match error.kind() {
+        ErrorKind::OutOfMemory => refuse(&Fault::OutOfMemory, err),
+        ErrorKind::DisplayHelp | ErrorKind::DisplayVersion => {
+            print_error(out, error);
+            DONE
+        }
+        _ => {
+            print_error(err, error);
+            BAD_ARGUMENTS
+        }
+    }
+}

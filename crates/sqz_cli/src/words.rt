@@ -1,0 +1,32 @@
+//! The words of a command line.
+
+ghost use Rattle.std.specs.Prelude.{◌⊎◌, ◌≡◌, IfErr, IsOk};
+
+use crate::refusals::refuse;
+use crate::wrong_words::refuse_words;
+use sqz_image::{Fault, Sink};
+use std::io::ErrorKind;
+use std::rt::Env;
+use std::{env, io};
+
+/// The words of the command line, of which the first is the program's name.
+///
+/// If there is no memory for them, or one of them is no text, one line on `err` says so, and the error
+/// is the exit of the program.
+pub fn words_or_exit<R: Env + AllocGlobal, E: Sink>(rt: &R, err: &mut E) -> Result<Vec<String>, u8>
+    ensures exit { IfErr result (λ exit. (exit ≡ 4) ⊎ (exit ≡ 2)) }
+    ensures silent { IsOk result → err.new ≡ err.old }
+{
+    match words(rt) {
+        Ok(words) => Ok(words),
+        Err(error) if error.kind() == ErrorKind::OutOfMemory => {
+            Err(refuse(&Fault::OutOfMemory, err))
+        }
+        Err(_) => Err(refuse_words(err)),
+    }
+}
+
+/// The words of the command line. Fails if a word is no text or there is no memory for it.
+fn words<R: Env + AllocGlobal>(rt: &R) -> io::Result<Vec<String>> {
+    Ok(env::args(rt)?.collect(rt.alloc())?)
+}

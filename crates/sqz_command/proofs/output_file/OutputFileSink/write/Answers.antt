@@ -1,5 +1,0 @@
-use Rattle.std.proofs.Common.{rules}
-use Rattle.sqz_command.proofs.output_file.OutputFileSink.write.Goals as goal
-
-pub returns : goal.returns
-returns g c = search rules

@@ -1,9 +1,0 @@
-use Rattle.std.proofs.Common.{◌≡◌, Bool, List, ◌++◌, map, take}
-use Rattle.sqz_regions.specs.Bases.{ArePlacesOf}
-use Rattle.sqz_slide.specs.Moved.{moved_field}
-use Rattle.sqz_slide.proofs.moved_objects.push_strong.Given as goal
-
-abbrev pub invariant-loop-index : goal.invariant-loop-index
-invariant-loop-index l =
-    (marks : List Bool) → ArePlacesOf l.heap marks l.forward
-    → l.words.items ≡ l.fn.words.items ++ map (moved_field l.heap marks) (take l.index l.fields)

@@ -1,5 +1,0 @@
-use Rattle.std.proofs.Common.{◌≡◌, ◌++◌, take}
-use Rattle.sqz_slide.proofs.moved_objects.push_untraced.Given as goal
-
-abbrev pub invariant-loop-index : goal.invariant-loop-index
-invariant-loop-index l = l.words.items ≡ l.fn.words.items ++ take l.index l.fields
