@@ -1,4 +1,4 @@
-//! The place of each live object.
+//! The new address of each live object.
 
 ghost use Rattle.std.specs.Prelude.{◌≡◌, ◌+◌, ◌*◌, ◌^◌, ◌<◌, ◌≤◌, None, length, slice_index_or, IfOk, IfErr, IfSome};
 ghost use Rattle.std.specs.List.{concat, flat_map};
@@ -15,16 +15,17 @@ use sqz_image::{Fault, Heap};
 use sqz_trace::Marks;
 use std::alloc::{AllocError, Global};
 use std::marker::Model;
+use std::ops::Range;
 use std::thread::Threads;
 
 /// The entry of an object that is not marked. No address is odd.
 const DEAD: u32 = u32::MAX;
 
-/// How many objects a range has, before its ends are moved to the first objects of their regions.
+/// The number of objects of a range, before its ends are moved to the first objects of their regions.
 const RANGE: u32 = 4096;
 
-/// The place of each marked object in the compacted memory. Contracts see it as a list with an entry for each object: the
-/// address of its base header there, or none.
+/// The place of each marked object: its new address (the forwarding address) in the compacted memory.
+/// Contracts see a list with an entry for each object: the new address of its base header, or none.
 #[derive(Drop)]
 pub struct Forward {
     /// The address for each object; `DEAD` where it has none. Addresses are multiples of four.
@@ -44,8 +45,9 @@ impl Model for Forward {
 }
 
 impl Forward {
-    /// The places of the marked objects, by the bases of their regions. Where there are more than 4096 objects, and more
-    /// than one region, several threads build them: each takes whole regions. Fails for want of memory alone.
+    /// The new addresses of the marked objects, by the bases of their regions. Several threads build them
+    /// if there are more than 4096 objects and more than one region: each takes whole regions. Fails only
+    /// if out of memory.
     pub fn build(
         rt: &(impl Threads + Sync),
         alloc: Global,
@@ -66,16 +68,16 @@ impl Forward {
             .with_min_len(1)
             .map(
                 |range: u32| -> Result<Vec<u32>, AllocError>
-                    requires inside { range * RANGE < object_count heap.now }
-                    requires regions { regions.now.memory ≡ heap.now }
-                    requires sized { length marks.now ≡ object_count heap.now }
+                    requires inside { range * RANGE < object_count regions.now.memory }
+                    requires sized { length marks.now ≡ object_count regions.now.memory }
                     requires bases { AreBasesOf regions.now marks.now bases.now }
                     ensures { IfOk result (λ places.
-                        AreEntriesOfRange regions.entry.now.cut heap.entry.now marks.entry.now range places.items) }
-                { range_places(alloc, heap, regions, marks, bases, range) },
+                        AreEntriesOfRange regions.entry.now.cut regions.entry.now.memory
+                        marks.entry.now range places.items) }
+                { range_places(alloc, regions, marks, bases, range) },
             )
             .collect::<Result<Vec<Vec<u32>>, AllocError>>(rt, alloc)??;
-        let places = joined(alloc, heap.len(), &parts)?;
+        let places = concat_parts(alloc, heap.len(), &parts)?;
         Ok(Forward { places })
     }
 
@@ -90,8 +92,8 @@ impl Forward {
     }
 }
 
-/// The first object of the range with this number: the first one of the region of object `range * RANGE`. Behind the last
-/// range it is the number of objects.
+/// The first object of the range with this number: the first one of the region of object
+/// `range * RANGE`. After the last range it is the number of objects.
 fn first_of_range(regions: &Regions<'_>, objects: u32, range: u32) -> u32
     requires objects { objects ≡ object_count regions.now.memory }
     requires few { range * RANGE < 2 ^ 32 }
@@ -108,42 +110,43 @@ fn first_of_range(regions: &Regions<'_>, objects: u32, range: u32) -> u32
 /// The entries of the objects of the range with this number.
 fn range_places(
     alloc: Global,
-    heap: &Heap,
     regions: &Regions<'_>,
     marks: &Marks,
     bases: &[u64],
     range: u32,
 ) -> Result<Vec<u32>, AllocError>
-    requires inside { range * RANGE < object_count heap.now }
-    requires regions { regions.now.memory ≡ heap.now }
-    requires sized { length marks.now ≡ object_count heap.now }
+    requires inside { range * RANGE < object_count regions.now.memory }
+    requires sized { length marks.now ≡ object_count regions.now.memory }
     requires bases { AreBasesOf regions.now marks.now bases.now }
-    ensures { IfOk result (λ places. AreEntriesOfRange regions.now.cut heap.now marks.now range places.items) }
+    ensures { IfOk result (λ places.
+        AreEntriesOfRange regions.now.cut regions.now.memory marks.now range places.items) }
 {
+    let heap = regions.heap();
     let objects = heap.len();
     let region = regions.region(range * RANGE);
     let (from, _) = regions.objects(region);
     let to = first_of_range(regions, objects, range + 1);
-    heap_bounds(heap);
-    places_between(alloc, heap, marks, from, to, bases[region as usize])
+    heap_bounds(heap); // all words have addresses up to 2^32
+    places_between(alloc, heap, marks, from..to, bases[region as usize])
 }
 
-/// The entries of the objects `from..to`, where the live words from object `from` on go to an address.
+/// The entries of these objects, of which the first live one goes to an address.
 fn places_between(
     alloc: Global,
     heap: &Heap,
     marks: &Marks,
-    from: u32,
-    to: u32,
+    objects: Range<u32>,
     address: u64,
 ) -> Result<Vec<u32>, AllocError>
-    requires ordered { from ≤ to }
-    requires inside { to ≤ object_count heap.now }
+    requires ordered { objects.start ≤ objects.end }
+    requires inside { objects.end ≤ object_count heap.now }
     requires sized { length marks.now ≡ object_count heap.now }
-    requires begins { address ≡ heap.now.base + 4 * live_words_below heap.now marks.now from }
+    requires begins { address ≡ heap.now.base + 4 * live_words_below heap.now marks.now objects.start }
     requires within { heap.now.base + 4 * length (concat heap.now.chunks) ≤ 2 ^ 32 }
-    ensures { IfOk result (λ places. AreEntriesOf heap.now marks.now from to places.items) }
+    ensures { IfOk result (λ places. AreEntriesOf heap.now marks.now objects.start objects.end places.items) }
 {
+    let from = objects.start;
+    let to = objects.end;
     let mut places = Vec::with_capacity(alloc, (to - from) as usize)?;
     let mut next = address;
     for object in from..to {
@@ -159,7 +162,7 @@ fn places_between(
 }
 
 /// The entries of all ranges, in one list.
-fn joined(alloc: Global, objects: u32, parts: &[Vec<u32>]) -> Result<Vec<u32>, AllocError>
+fn concat_parts(alloc: Global, objects: u32, parts: &[Vec<u32>]) -> Result<Vec<u32>, AllocError>
     ensures { IfOk result (λ places. places.items ≡ flat_map (λ part. part.items) parts.now) }
 {
     let mut places = Vec::with_capacity(alloc, objects as usize)?;

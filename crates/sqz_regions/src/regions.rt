@@ -15,7 +15,7 @@ use std::marker::Model;
 pub struct Regions<'a> {
     heap: &'a Heap,
     cut: &'a Cut,
-    /// For each region how many objects there are in it and in those before.
+    /// For each region the number of objects in it and in those before.
     ends: Vec<u32>,
 }
 
@@ -31,7 +31,7 @@ impl<'a> Model for Regions<'a> {
 }
 
 impl<'a> Regions<'a> {
-    /// The regions of the heap under this cut. Fails for want of memory alone. Linear in objects plus regions.
+    /// The regions of the heap under this cut. Fails only if out of memory. Linear in objects plus regions.
     pub fn of(alloc: Global, heap: &'a Heap, cut: &'a Cut) -> Result<Self, Fault>
         ensures regions { IfOk result (λ regions. regions ≡ record { cut = cut.now; memory = heap.now }) }
         ensures refused { IfErr result (λ fault. fault ≡ OutOfMemory) }
@@ -46,7 +46,14 @@ impl<'a> Regions<'a> {
         Ok(Regions { heap, cut, ends })
     }
 
-    /// How many regions there are. Each object is in one of them.
+    /// The heap that is cut.
+    pub fn heap(&self) -> &'a Heap
+        ensures { result.now ≡ self.now.memory }
+    {
+        self.heap
+    }
+
+    /// The number of regions. Each object is in one of them.
     pub fn count(&self) -> u32
         ensures count { result ≡ region_count self.now.cut self.now.memory }
         ensures all { objects_before self.now.cut self.now.memory result ≡ object_count self.now.memory }
@@ -54,8 +61,8 @@ impl<'a> Regions<'a> {
         self.cut.count(self.heap)
     }
 
-    /// The object's region: the number of cut points that are not above its chunk's first word. Constant time for a cut by
-    /// `every`, a binary search for one by `at`.
+    /// The object's region: the number of cut points that are not above its chunk's first word. Takes
+    /// constant time for a cut by `every`, and a binary search for one by `at`.
     pub fn region(&self, object: u32) -> u32
         requires { object < object_count self.now.memory }
         ensures region { result ≡ region_at self.now.cut self.now.memory object }
@@ -64,8 +71,8 @@ impl<'a> Regions<'a> {
         self.cut.region(self.heap.first(object))
     }
 
-    /// The objects of a region: the index of the first, and that behind the last. The objects from the one up to the other
-    /// are those whose region it is. Of a region without objects both are the number of objects in the regions before.
+    /// The objects of a region: the index of the first, and the one after the last. For a region without
+    /// objects both are the number of objects in the regions before.
     pub fn objects(&self, region: u32) -> (u32, u32)
         requires { region < region_count self.now.cut self.now.memory }
         ensures first { result.0 ≡ objects_before self.now.cut self.now.memory region }
@@ -79,7 +86,7 @@ impl<'a> Regions<'a> {
         (self.before(region), self.before(region + 1))
     }
 
-    /// How many objects are in the regions before this one, or in all where it is behind the last.
+    /// The number of objects in the regions before this one, or in all if it is the one after the last.
     fn before(&self, region: usize) -> u32
         requires { region ≤ region_count self.now.cut self.now.memory }
         ensures { result ≡ objects_before self.now.cut self.now.memory region }
@@ -92,7 +99,7 @@ impl<'a> Regions<'a> {
     }
 }
 
-/// How many objects are in this region and in those before, of which those before are known: they are not looked at again.
+/// The number of objects in this region and in those before, if the number in those before is known.
 fn end_of(heap: &Heap, cut: &Cut, region: u32, known: u32) -> u32
     requires { known ≡ objects_before cut.now heap.now region }
     ensures { result ≡ objects_before cut.now heap.now (region + 1) }

@@ -43,7 +43,7 @@ loop-object-preserved c =
           placed memory marks object c.loop-object.next w.chunk-chunk.result
           lt is w.chunk-chunk.ensures.described w.chunk-chunk.ensures.headed c.requires.within so_far.next in
           let pushed =
-          AreEntriesOf-push_marked memory marks c.args.from object (c.loop-object.next + 4 * w.from.result)
+          AreEntriesOf-push_marked memory marks c.args.objects.start object (c.loop-object.next + 4 * w.from.result)
           c.loop-object.places.items (omega arith) is (omega (arith, at.0)) at.1 so_far.entries in
           record {
             entries = rw (w.places-is, w.in_ok-push.ensures.items) pushed;
@@ -53,7 +53,7 @@ loop-object-preserved c =
           let is = sym c.has.ensures ∙ w.if-has.false in
           let entries = c.loop-object.places.items in
           let pushed =
-          AreEntriesOf-push_unmarked memory marks c.args.from object entries (omega arith) is so_far.entries in
+          AreEntriesOf-push_unmarked memory marks c.args.objects.start object entries (omega arith) is so_far.entries in
           record {
             entries = rw (w.places-is, w.in_ok-push-2.ensures.items) pushed;
             next = omega (arith, live_words_more_no memory marks object lt is);

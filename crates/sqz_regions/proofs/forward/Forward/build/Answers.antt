@@ -3,7 +3,7 @@ use Rattle.std.specs.Prelude.{Result}
 use Rattle.std.specs.Int.{div_ceil}
 use Rattle.std.specs.List.{AllZip, range_with_len}
 use Rattle.std.specs.declared.alloc.AllocError.{AllocError}
-use Rattle.sqz_image.specs.Objects.{object_count}
+use Rattle.sqz_image.specs.Objects.{Memory, object_count}
 use Rattle.rayon.specs.Numbers.{nat_range}
 use Rattle.rayon.proofs.ToStd.{nat_range-All}
 use Rattle.sqz_regions.specs.Bases.{AreBasesOf}
@@ -15,19 +15,19 @@ use Rattle.sqz_regions.proofs.forward.Forward.build.Goals.{In_ok-places}
 
 pub collect-requires-clause-ready : goal.collect-requires-clause-ready
 collect-requires-clause-ready g c κs within =
-    let heap = c.args.heap.now in
     let regions = c.args.regions.now in
     let marks = c.args.marks.now in
     let ends = c.into_par_iter.ensures in
-    let many = c.div_ceil-ranges.ensures ∙ ap (λ n. div_ceil n 4096) c.len.ensures.objects in
+    let same = ap object_count (sym c.requires.regions) in
+    let many = c.div_ceil-ranges.ensures ∙ ap (λ n. div_ceil n 4096) (c.len.ensures.objects ∙ same) in
     let inside = nat_range-All
     (λ range.
-    (range * 4096 < object_count heap)
-    × ((regions.memory ≡ heap) × ((length marks ≡ object_count heap) × AreBasesOf regions marks c.args.bases.now)))
+    (range * 4096 < object_count regions.memory)
+    × ((length marks ≡ object_count regions.memory) × AreBasesOf regions marks c.args.bases.now))
     0 c.div_ceil-ranges.result
     (λ range low high.
-    let begins = range_begins (object_count heap) range (rw many at high) in
-    (begins, (c.requires.regions, (c.requires.sized, c.requires.bases)))) in
+    let begins = range_begins (object_count regions.memory) range (rw many at high) in
+    (begins, (c.requires.sized ∙ same, c.requires.bases))) in
     rw (c.map.ensures.base, c.map.ensures.f, c.with_min_len.ensures.base, ends.0, ends.1)
     (λ k d lt. (inside k d lt, λ y p. tt))
 
@@ -36,7 +36,7 @@ are_entries : (g : _) (c : In_ok-places g)
     → AreEntriesOf c.args.heap.now c.args.marks.now 0 (object_count c.args.heap.now) c.in_ok-places.places.items
 are_entries g c =
     let cut = c.args.regions.now.cut in
-    let memory = c.args.heap.now in
+    let memory = c.args.regions.now.memory in
     let marks = c.args.marks.now in
     let count = c.div_ceil-ranges.result in
     let ends = c.into_par_iter.ensures in
@@ -53,9 +53,11 @@ are_entries g c =
     let zipped =
     subst (λ (results : List (Result (Vec ℕ Global) AllocError)). AllZip is_part (range_with_len 0 count) results) each
     (subst (λ (ranges : List ℕ). AllZip is_part ranges done.0) ranges of_ranges) in
-    let many = c.div_ceil-ranges.ensures ∙ ap (λ n. div_ceil n 4096) c.len.ensures.objects in
+    let same = ap object_count (sym c.requires.regions) in
+    let many = c.div_ceil-ranges.ensures ∙ ap (λ n. div_ceil n 4096) (c.len.ensures.objects ∙ same) in
     let all = AreEntriesOf-all_ranges AllocError items cut memory marks count parts many zipped in
-    rw (c.in_ok-places.ensures, c.deref.ensures.value) all
+    subst (λ (memory : Memory). AreEntriesOf memory marks 0 (object_count memory) c.in_ok-places.places.items) c.requires.regions
+    (rw (c.in_ok-places.ensures, c.deref.ensures.value) all)
 
 pub invariant_of-result : goal.invariant_of-result
 invariant_of-result g c =
