@@ -9,13 +9,13 @@ use Rattle.sqz_image.specs.declared.fault.Slot.{Slot}
 use Rattle.sqz_image.specs.Objects.{objects, object_count, chunk_words, find}
 use Rattle.sqz_image.proofs.ObjectLemmas.{find_in-lt}
 use Rattle.sqz_trace.specs.declared.weak.Weak.{Weak}
-use Rattle.sqz_trace.specs.Edges.{Parent, strong_named, HasEdge}
+use Rattle.sqz_trace.specs.Edges.{OutEdges, edge_target, HasEdge}
 use Rattle.sqz_trace.proofs.EdgeLemmas.{named_among-lt}
 use Rattle.sqz_trace.proofs.TargetLemmas.{HasEdge-slot}
 use Rattle.sqz_regions.specs.Regions.{Regioning, region_at, region_count}
 use Rattle.sqz_marks.specs.declared.view.View.{View}
 use Rattle.sqz_marks.specs.Core.{Marking, times, HasWon, HasSeen, kept_of, part_of, joined, spent}
-use Rattle.sqz_marks.specs.Table.{SharedMarks, HeldPass, IsPassOf, IsSeenParent, IsKept, start_of, marking_in, Looked}
+use Rattle.sqz_marks.specs.Table.{SharedMarks, HeldPass, IsPassOf, AreEdgesOfSeen, IsKept, start_of, marking_in, Looked}
 use Rattle.sqz_marks.specs.Table.{Claimed, Counted, Blackened, Weighed}
 use Rattle.sqz_marks.proofs.StepLemmas.{look_allowed, claim_allowed, count_allowed, blacken_allowed, split_allowed}
 use Rattle.sqz_marks.proofs.StepLemmas.{join_allowed, weigh_allowed}
@@ -94,11 +94,13 @@ module _
             (targets target (table_edge object target edge))),
       )
 
-    -- a claim of what a strong slot of a parent names
-    module _ (parent : Parent) (slot : Slot) (object : ℕ) (seen : IsSeenParent marks.heap.memory marks.weak pass.view parent)
-        (names : strong_named marks.heap.memory parent slot ≡ Some object) where
+    -- a claim of the object that a strong slot points to
+    module _ (edges : OutEdges) (slot : Slot) (object : ℕ) (seen : AreEdgesOfSeen marks.heap.memory marks.weak pass.view edges)
+        (names : edge_target edges slot ≡ Some object) where
       is_inside : object < object_count marks.heap.memory
-      is_inside = named_among-lt marks.heap.memory parent.strong parent.words slot object names
+      is_inside =
+          subst (λ (it : OutEdges). object < object_count it.memory) seen.its
+          (named_among-lt edges.memory edges.strong edges.words slot object names)
 
       pub claim_owes : Owes (marking_in key key_weak key_workers) id seat number me object (λ n. max n 1)
           (Claimed (step id.slots object 1 0 none) me)
@@ -108,7 +110,7 @@ module _
         claim_allowed marking id.slots number me seen.object object (in_key object is_inside)
             (subst (λ (v : View). HasSeen v seen.object) (sym same_view) seen.seen)
             (keyed_edge seen.object object
-            (HasEdge-slot marks.heap.memory marks.weak seen.object parent seen.its slot object seen.inside names)),
+            (HasEdge-slot marks.heap.memory marks.weak seen.object edges seen.its slot object seen.inside names)),
       )
 
 -- a count

@@ -7,7 +7,7 @@ use Rattle.sqz_image.specs.Objects.{Memory, object_count, find}
 use Rattle.sqz_trace.specs.declared.weak.Weak.{Weak}
 use Rattle.sqz_trace.specs.declared.shades.Shade.{Shade}
 use Rattle.sqz_trace.specs.declared.shades.Shade.TheVariants.{White, Grey, Black}
-use Rattle.sqz_trace.specs.Edges.{Parent, parent_at}
+use Rattle.sqz_trace.specs.Edges.{OutEdges, out_edges}
 use Rattle.sqz_trace.specs.Graph.{is_marked}
 use Rattle.sqz_trace.specs.Shades.{shade_at, marks_of, AreLawfulOf}
 use Rattle.sqz_regions.specs.Regions.{Regioning}
@@ -48,12 +48,12 @@ IsNewTo view object = (times object view.seen ≡ 0) × (times object view.count
 abbrev pub HasCountedAll : View → Type 0
 HasCountedAll view = (object : ℕ) → HasWon view object → HasCounted view object
 
--- this is an object that the pass has seen
-pub record IsSeenParent (memory : Memory) (weak : Weak) (view : View) (parent : Parent) : Type 0 where
+-- these are the edges of an object that the pass has seen
+pub record AreEdgesOfSeen (memory : Memory) (weak : Weak) (view : View) (edges : OutEdges) : Type 0 where
   pub object : ℕ
   pub inside : object < object_count memory
   pub seen : HasSeen view object
-  pub its : parent ≡ parent_at memory weak object
+  pub its : edges ≡ out_edges memory weak object
 
 -- the special objects array
 abbrev pub start_of : Memory → ℕ

@@ -9,13 +9,9 @@
 //! won.push(heap.special())?;
 //! for _ in 0..heap.len() {
 //!     let Some(object) = won.pop() else { break };
-//!     let parent = table.parent(object);
-//!     if let Claim::Won(found) = table.claim_of(&mut pass, &parent, Slot::ClassWord) {
-//!         table.count(&mut pass, found);
-//!         won.push(found)?;
-//!     }
-//!     for k in 0..parent.strong() {
-//!         if let Claim::Won(found) = table.claim_of(&mut pass, &parent, Slot::Field(k)) {
+//!     let edges = table.edges(object);
+//!     for slot in edges.slots() {
+//!         if let Claim::Won(found) = table.claim_of(&mut pass, &edges, slot) {
 //!             table.count(&mut pass, found);
 //!             won.push(found)?;
 //!         }

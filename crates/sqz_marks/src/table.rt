@@ -5,14 +5,14 @@ ghost use Rattle.std.specs.Slots.{slots_items, slots_len, IsFull};
 ghost use Rattle.sqz_image.specs.declared.fault.Fault.TheVariants.{OutOfMemory};
 ghost use Rattle.sqz_image.specs.Objects.{object_count, chunk_words};
 ghost use Rattle.sqz_trace.specs.declared.shades.Shade.TheVariants.{White, Grey, Black};
-ghost use Rattle.sqz_trace.specs.Edges.{parent_at, strong_named, strong_target, HasEdge};
+ghost use Rattle.sqz_trace.specs.Edges.{out_edges, edge_target, strong_target, HasEdge};
 ghost use Rattle.sqz_trace.specs.Shades.{marks_of};
 ghost use Rattle.sqz_regions.specs.Bases.{AreSums};
 ghost use Rattle.sqz_regions.specs.Places.{live_words};
 ghost use Rattle.sqz_regions.specs.Regions.{region_at, region_count};
 ghost use Rattle.sqz_marks.specs.declared.claim.Claim.TheVariants.{Won};
 ghost use Rattle.sqz_marks.specs.Core.{times, HasWon, HasSeen, HasBlackened, first_view, looked, counted, blackened, kept_of, part_of, joined};
-ghost use Rattle.sqz_marks.specs.Table.{IsPassOf, knowing, KeepsSeen, IsNewTo, HasCountedAll, IsSeenParent, start_of, shade_of, AreClosed};
+ghost use Rattle.sqz_marks.specs.Table.{IsPassOf, knowing, KeepsSeen, IsNewTo, HasCountedAll, AreEdgesOfSeen, start_of, shade_of, AreClosed};
 ghost use Rattle.sqz_marks.specs.Claims.{IsClaim};
 
 use crate::claim::Claim;
@@ -27,7 +27,7 @@ use atomic_table::{Seat, Table};
 use sqz_image::laws::heap_bounds;
 use sqz_image::{Fault, Heap, Slot};
 use sqz_regions::Regions;
-use sqz_trace::{Parent, Shade, Shades, Weak};
+use sqz_trace::{OutEdges, Shade, Shades, Weak};
 use std::alloc::Global;
 use std::marker::{Brand, Model};
 use std::snapshot::Snapshot;
@@ -130,8 +130,8 @@ impl<'a> MarkTable<'a> {
         )
     }
 
-    /// Makes the object that a strong slot of a parent names grey, if it is white. The pass has seen the parent marked. What it
-    /// wins it had neither seen nor counted.
+    /// Makes the object that a strong slot of a parent points to grey, if it is white. The pass has
+    /// seen the parent marked. An object that it wins it had neither seen nor counted.
     pub fn claim(&self, pass: &mut Pass, parent: u32, slot: Slot) -> Claim
         requires of { IsPassOf self.now pass.old }
         requires inside { parent < object_count self.now.heap.memory }
@@ -141,27 +141,29 @@ impl<'a> MarkTable<'a> {
         ensures new { (object : ℕ) → result ≡ Won object → IsNewTo pass.old.view object }
         ensures keeps { KeepsSeen pass.old.view pass.new.view }
     {
-        self.claim_of(pass, &self.parent(parent), slot)
+        self.claim_of(pass, &self.edges(parent), slot)
     }
 
-    /// An object whose slots are to be claimed. Its header is read here, and not again.
-    pub fn parent(&self, object: u32) -> Parent<'_>
+    /// The outgoing edges of an object, by which its targets are claimed. The header of the object
+    /// is read here, and not again.
+    pub fn edges(&self, object: u32) -> OutEdges<'_>
         requires { object < object_count self.now.heap.memory }
-        ensures { result ≡ parent_at self.now.heap.memory self.now.weak object }
+        ensures { result ≡ out_edges self.now.heap.memory self.now.weak object }
     {
-        Parent::of(self.heap, self.weak, object)
+        OutEdges::of(self.heap, self.weak, object)
     }
 
-    /// The same of a parent whose header was read once.
-    pub fn claim_of(&self, pass: &mut Pass, parent: &Parent<'_>, slot: Slot) -> Claim
+    /// Makes the object that a strong slot points to grey, if it is white. The pass has seen marked
+    /// the object whose edges these are. An object that it wins it had neither seen nor counted.
+    pub fn claim_of(&self, pass: &mut Pass, edges: &OutEdges<'_>, slot: Slot) -> Claim
         requires of { IsPassOf self.now pass.old }
-        requires seen { IsSeenParent self.now.heap.memory self.now.weak pass.old.view parent.now }
-        ensures claim { IsClaim (strong_named self.now.heap.memory parent.now slot) pass.old pass.new result }
+        requires seen { AreEdgesOfSeen self.now.heap.memory self.now.weak pass.old.view edges.now }
+        ensures claim { IsClaim (edge_target edges.now slot) pass.old pass.new result }
         ensures inside { (object : ℕ) → result ≡ Won object → object < object_count self.now.heap.memory }
         ensures new { (object : ℕ) → result ≡ Won object → IsNewTo pass.old.view object }
         ensures keeps { KeepsSeen pass.old.view pass.new.view }
     {
-        let Some(object) = parent.target(self.heap, slot) else {
+        let Some(object) = edges.target(slot) else {
             return Claim::Nothing;
         };
         match self

@@ -1,3 +1,4 @@
 pub mod Paths
 pub mod Search
+pub mod Searching
 pub mod Members

@@ -3,20 +3,22 @@
 ghost use Rattle.std.specs.Prelude.{◌≡◌, ◌<◌, ◌≤◌, length, slice_index, IfOk, IfErr, IfSome, IfNone};
 ghost use Rattle.sqz_image.specs.declared.fault.Fault.TheVariants.{OutOfMemory};
 ghost use Rattle.sqz_paths.specs.Paths.{IsShortestPath, IsUnreachable};
-ghost use Rattle.sqz_paths.specs.Search.{IsPathBack, IsSearchOf};
+ghost use Rattle.sqz_paths.specs.Search.{IsPathBack};
+ghost use Rattle.sqz_paths.specs.Searching.{IsSearching};
 
 use crate::search::Search;
 use crate::slots_between::slot_between;
 use sqz_image::{Fault, Heap, Slot};
-use sqz_trace::Weak;
+use sqz_trace::{OutEdges, Weak};
 use std::alloc::{AllocError, Global};
 
-/// A step of a path: from the object before, by a strong slot of it, to the object that the slot names.
+/// A step of a path: from the object before, by a strong slot of it, to the object that the slot
+/// points to.
 #[derive(Clone, Copy, Debug, PartialEq, Eq)]
 pub struct Step {
     /// The slot of the object before.
     pub slot: Slot,
-    /// The index of the object that it names.
+    /// The index of the object that it points to.
     pub object: u32,
 }
 
@@ -27,47 +29,45 @@ pub struct Path {
     pub steps: Vec<Step>,
 }
 
-/// A shortest path along strong slots from the special objects array to the object with this index; None exactly where no path
-/// leads to it. A step goes by the first slot of its object that names the next one, the class word before the fields.
+/// A shortest path along strong slots from the special objects array to the object with this index;
+/// None exactly if no path leads to it. A step goes by the first slot of its object that points to
+/// the next one, the class word before the fields.
 ///
-/// Objects are looked at in the order in which they are found, those nearest to the special objects array first, until this one
-/// comes. That is linear in the words, and takes two numbers for each object. Fails for want of memory alone.
+/// Objects are looked at in the order in which they are found, those nearest to the special objects
+/// array first, until this one comes. That is linear in the words, and takes two numbers for each
+/// object. Fails only if it is out of memory.
 pub fn path_to(alloc: Global, heap: &Heap, weak: Weak, object: u32) -> Result<Option<Path>, Fault>
     ensures path { IfOk result (λ found. IfSome found (λ path. IsShortestPath heap.now weak object path.steps.items)) }
     ensures none { IfOk result (λ found. IfNone found (IsUnreachable heap.now weak object)) }
     ensures refused { IfErr result (λ fault. fault ≡ OutOfMemory) }
 {
-    let mut search = Search::new(alloc, heap)?;
+    let mut search = Search::new(alloc, heap, weak)?;
     let mut place = 0;
     while place < search.found.len() {
         if search.found[place] == object {
-            let path = path_back(alloc, heap, weak, &search, place)?;
+            let path = path_back(alloc, &search, place)?;
             return Ok(Some(path));
         }
-        search.follow(heap, weak, place)?;
+        search.follow(place)?;
         place += 1;
     }
     Ok(None)
 }
 
 /// The path to the object that was found at a place: back from there, by those that led to each.
-fn path_back(
-    alloc: Global,
-    heap: &Heap,
-    weak: Weak,
-    search: &Search,
-    place: usize,
-) -> Result<Path, AllocError>
-    requires searching { IsSearchOf heap.now weak search.now.found.items search.now.from.items place }
+fn path_back(alloc: Global, search: &Search<'_>, place: usize) -> Result<Path, AllocError>
+    requires searching { IsSearching search.now place }
     requires inside { place < length search.now.found.items }
-    ensures { IfOk result (λ path. IsPathBack heap.now weak search.now.found.items search.now.from.items place path.steps.items) }
+    ensures { IfOk result (λ path. IsPathBack search.now.heap.now search.now.weak search.now.found.items search.now.from.items
+        place path.steps.items) }
 {
     let mut steps = Vec::new(alloc);
     let mut next = place;
     while next > 0 {
         let object = search.found[next];
         next = search.from[object as usize] as usize;
-        match slot_between(heap, weak, search.found[next], object) {
+        let edges = OutEdges::of(search.heap, search.weak, search.found[next]);
+        match slot_between(&edges, object) {
             Some(slot) => steps.push(Step { slot, object })?,
             None => unreachable!(),
         }

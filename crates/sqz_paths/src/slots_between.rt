@@ -1,25 +1,20 @@
 //! The slot by which one object leads to another.
 
-ghost use Rattle.std.specs.Prelude.{◌≡◌, ◌<◌, IfSome, IfNone, Some};
-ghost use Rattle.sqz_image.specs.Objects.{object_count};
-ghost use Rattle.sqz_trace.specs.Edges.{strong_target, HasEdge};
+ghost use Rattle.std.specs.Prelude.{◌≡◌, IfSome, IfNone, Some};
+ghost use Rattle.sqz_trace.specs.Edges.{strong_slots, edge_target, IsTargetAmong};
 
-use sqz_image::{Heap, Slot};
-use sqz_trace::{Parent, Weak};
+use sqz_image::Slot;
+use sqz_trace::OutEdges;
 
-/// The first strong slot of an object that names another: its class word, or else the first of its fields.
-pub(crate) fn slot_between(heap: &Heap, weak: Weak, from: u32, to: u32) -> Option<Slot>
-    requires { from < object_count heap.now }
-    ensures names { IfSome result (λ slot. strong_target heap.now weak from slot ≡ Some to) }
-    ensures none { IfNone result (HasEdge heap.now weak from to → ⊥) }
+/// The first strong slot of an object that points to another: its class word, or else the first of
+/// its fields.
+pub(crate) fn slot_between(edges: &OutEdges<'_>, to: u32) -> Option<Slot>
+    ensures names { IfSome result (λ slot. edge_target edges.now slot ≡ Some to) }
+    ensures none { IfNone result (IsTargetAmong edges.now (strong_slots edges.now) to → ⊥) }
 {
-    let parent = Parent::of(heap, weak, from);
-    if parent.target(heap, Slot::ClassWord) == Some(to) {
-        return Some(Slot::ClassWord);
-    }
-    for field in 0..parent.strong() {
-        if parent.target(heap, Slot::Field(field)) == Some(to) {
-            return Some(Slot::Field(field));
+    for slot in edges.slots() {
+        if edges.target(slot) == Some(to) {
+            return Some(slot);
         }
     }
     None

@@ -1,24 +1,22 @@
 -- Shades that change as an object is looked at.
 -- Serves `finishing::blacken`, `finishing::grey_target`, `greying::grey_white_target`, `turns::blacken_listed` and
 -- `TurnLemmas`.
-use Rattle.std.proofs.Common.{◌≡◌, ◌⊎◌, ℕ, ◌+◌, ◌<◌, true, List, length, set, min, Some}
+use Rattle.std.proofs.Common.{◌≡◌, ◌⊎◌, ℕ, ◌<◌, true, List, [], ◌∷◌, ◌++◌, length, set, min, Some}
 use Rattle.std.proofs.Common.{refl, sym, ap, subst, ◌∙◌, arith, inl, inr}
 use Rattle.std.proofs.lemmas.Bool.{cases_order, cases_lt}
 use Rattle.std.proofs.lemmas.List.{length-set, get_or-set_same, get_or-set_other}
-use Rattle.sqz_image.specs.declared.fault.Slot.TheVariants.{ClassWord}
+use Rattle.sqz_image.specs.declared.fault.Slot.{Slot}
 use Rattle.sqz_image.specs.Objects.{Memory, object_count}
 use Rattle.sqz_trace.specs.declared.shades.Shade.{Shade}
 use Rattle.sqz_trace.specs.declared.shades.Shade.TheVariants.{White, Grey, Black}
 use Rattle.sqz_trace.specs.declared.weak.Weak.{Weak}
-use Rattle.sqz_trace.specs.Edges.{Parent, parent_at, HasEdge}
+use Rattle.sqz_trace.specs.Edges.{OutEdges, out_edges, strong_slots, edge_target, IsTargetAmong, HasEdge}
 use Rattle.sqz_trace.specs.Graph.{is_marked}
 use Rattle.sqz_trace.specs.Shades.{shade_at, marks_of}
-use Rattle.sqz_trace.specs.Targets.{named_in, IsTargetBelow}
 use Rattle.sqz_trace.specs.Greying.{Greys, Blackens, BecameGrey, IsLowest}
 use Rattle.sqz_trace.proofs.ShadeLemmas.{white-grey, marked-by, marked-same}
-use Rattle.sqz_trace.proofs.TargetLemmas.{IsTargetOf, IsTargetBelow-next, IsTargetBelow-more, IsTargetBelow-field}
-use Rattle.sqz_trace.proofs.TargetLemmas.{IsTargetBelow-none}
-use Rattle.sqz_trace.proofs.TargetLemmas.{IsTargetBelow-edge, HasEdge-below}
+use Rattle.sqz_trace.proofs.TargetLemmas.{IsTargetAmong-next, IsTargetAmong-before, IsTargetAmong-last}
+use Rattle.sqz_trace.proofs.TargetLemmas.{IsTargetAmong-edge, HasEdge-among}
 
 -- ---- targets that become grey
 
@@ -208,37 +206,22 @@ module _ (next : ℕ) (old shades : List Shade) (low : ℕ) (lowest : IsLowest n
 
 -- ---- the slots of an object, one after the other
 
-module _ (memory : Memory) (chunk : List ℕ) where
-  -- the target of the class word became grey
-  pub Greys-class_word : (old new : List Shade) → Greys (λ index. named_in memory chunk ClassWord ≡ Some index) old new
-      → Greys (IsTargetBelow memory chunk 0) old new
-  Greys-class_word old new greys =
-      record {
-        sized = greys.sized;
-        targets = λ index target. greys.targets index (IsTargetBelow-none memory chunk index target);
-        only = λ index. elim (greys.only index) [
-          | inl same ↦ inl same
-          | inr (names, white, grey) ↦ inr (record { slot = ClassWord; names = names }, white, grey)
-        ];
-      }
+module _ (edges : OutEdges) where
+  -- the targets of the slots before became grey, and then that of the next slot
+  pub Greys-next_slot : (slots : List Slot) (slot : Slot) (old shades new : List Shade)
+      → Greys (IsTargetAmong edges slots) old shades → Greys (λ index. edge_target edges slot ≡ Some index) shades new
+      → Greys (IsTargetAmong edges (slots ++ slot ∷ [])) old new
+  Greys-next_slot slots slot old shades new first second =
+      Greys-then (IsTargetAmong edges slots) (λ index. edge_target edges slot ≡ Some index)
+      (IsTargetAmong edges (slots ++ slot ∷ [])) (IsTargetAmong-next edges slots slot) (IsTargetAmong-before edges slots slot)
+      (IsTargetAmong-last edges slots slot) old shades new first second
 
-  -- the targets of the slots before became grey, and then that of the next field
-  pub Greys-next_field : (count k : ℕ) (old shades new : List Shade) → k < count → Greys (IsTargetBelow memory chunk k) old shades
-      → Greys (IsTargetOf memory chunk count k) shades new → Greys (IsTargetBelow memory chunk (k + 1)) old new
-  Greys-next_field count k old shades new lt first second =
-      Greys-then (IsTargetBelow memory chunk k) (IsTargetOf memory chunk count k) (IsTargetBelow memory chunk (k + 1))
-      (λ index. IsTargetBelow-next memory chunk count k index lt) (IsTargetBelow-more memory chunk k)
-      (IsTargetBelow-field memory chunk count k) old shades new first second
-
-module _ (memory : Memory) (weak : Weak) (object : ℕ) (parent : Parent) (its : parent ≡ parent_at memory weak object) where
   -- the targets of all strong slots became grey, and then the object black
-  pub Blackens-after_slots : (count : ℕ) (old shades : List Shade) → object < object_count memory
-      → length old ≡ object_count memory → count ≡ parent.strong
-      → Greys (IsTargetBelow memory parent.words count) old shades
+  pub Blackens-after_slots : (memory : Memory) (weak : Weak) (object : ℕ) → edges ≡ out_edges memory weak object
+      → (slots : List Slot) → slots ≡ strong_slots edges → (old shades : List Shade) → object < object_count memory
+      → length old ≡ object_count memory → Greys (IsTargetAmong edges slots) old shades
       → Blackens (HasEdge memory weak object) object old (set shades object Black)
-  Blackens-after_slots count old shades inside sized all greys =
-      Blackens-after (IsTargetBelow memory parent.words count) (HasEdge memory weak object) object old shades
-      (omega (arith, greys.sized, sized, inside))
-      (λ index edge.
-      subst (λ (k : ℕ). IsTargetBelow memory parent.words k index) (sym all) (IsTargetBelow-edge memory weak object parent its index edge))
-      (λ index. HasEdge-below memory weak object parent its count index inside all) greys
+  Blackens-after_slots memory weak object its slots all old shades inside sized greys =
+      Blackens-after (IsTargetAmong edges slots) (HasEdge memory weak object) object old shades
+      (omega (arith, greys.sized, sized, inside)) (IsTargetAmong-edge memory weak object edges its slots all)
+      (λ index. HasEdge-among memory weak object edges its slots index inside) greys

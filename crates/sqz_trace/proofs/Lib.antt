@@ -3,7 +3,6 @@ pub mod SlotLemmas
 pub mod StrongLemmas
 pub mod CompactClassLemmas
 pub mod EdgeLemmas
-pub mod NamedLemmas
 pub mod ReachabilityLemmas
 pub mod MarkingLemmas
 pub mod DefectLemmas

@@ -1,19 +1,25 @@
--- The slots of an object, one after the other, and what they name.
--- Serves `GreyingLemmas`, `NamedLemmas` and `StrongLemmas`; `CallLemmas` of `sqz_marks`; `claiming::mark_slots` and
--- `GainLemmas` of `sqz_workers`; `targets::mark_targets` of `sqz_test_marks`.
-use Rattle.std.proofs.Common.{◌≡◌, ◌⊎◌, ℕ, ◌+◌, ◌<◌, ◌≤◌, cond, List, slice_index, ltb, Some, None, sym, ap, subst, ◌∙◌}
-use Rattle.std.proofs.Common.{arith, inl, inr}
-use Rattle.std.specs.Prelude.{option_and_then}
-use Rattle.std.proofs.lemmas.Bool.{cases_lt, lt-ltb, ltb-true}
+-- The slots of an object, one after the other, and the objects that they point to.
+-- Serves `edge_slots::StrongSlots::next`, `marking::mark_targets`, `GreyingLemmas` and `StrongLemmas`; `CallLemmas` of
+-- `sqz_marks`; `search::Search::follow` and `slots_between::slot_between` of `sqz_paths`; `claiming::mark_slots` of
+-- `sqz_workers`; `targets::mark_targets` of `sqz_test_marks`.
+use Rattle.std.proofs.Common.{◌≡◌, ◌⊎◌, ℕ, zero, suc, ◌+◌, ◌-◌, ◌<◌, ◌≤◌, cond, List, [], ◌∷◌, ◌++◌}
+use Rattle.std.proofs.Common.{slice_index, ltb, Option, Some, None, refl, sym, ap, subst, ◌∙◌, arith, inl, inr}
+use Rattle.std.specs.Prelude.{option_and_then, Contains}
+use Rattle.std.specs.Iterator.{Yields, YieldsFirst}
+use Rattle.std.proofs.lemmas.Bool.{lt-ltb, ltb-true}
 use Rattle.std.proofs.lemmas.Option.{cond_some, option_and_then_some}
+use Rattle.std.proofs.lemmas.List.{map-id}
+use Rattle.std.proofs.lemmas.List.Elements.{Contains-push, Contains-push_cases, Contains-append_left}
+use Rattle.std.proofs.lemmas.Iterator.Consumers.{YieldsList-from_first, YieldsList-end}
 use Rattle.sqz_object.specs.Chunk.{fields}
 use Rattle.sqz_image.specs.declared.fault.Slot.{Slot}
 use Rattle.sqz_image.specs.declared.fault.Slot.TheVariants.{ClassWord, Field}
 use Rattle.sqz_image.specs.Objects.{Memory, object_count}
 use Rattle.sqz_trace.specs.declared.weak.Weak.{Weak}
-use Rattle.sqz_trace.specs.Slots.{word_among}
-use Rattle.sqz_trace.specs.Targets.{named_by, named_among, named_in, IsTargetBelow}
-use Rattle.sqz_trace.specs.Edges.{Parent, parent_at, strong_named, HasEdge}
+use Rattle.sqz_trace.specs.Slots.{word_among, field_slots}
+use Rattle.sqz_trace.specs.Targets.{named_by, named_among}
+use Rattle.sqz_trace.specs.Edges.{OutEdges, out_edges, slots_from, strong_slots, edge_target, IsTargetAmong, HasEdge}
+use Rattle.sqz_trace.proofs.SlotLemmas.{field_slots-more}
 
 module _ (memory : Memory) (chunk : List ℕ) where
   -- the word of a field names the object
@@ -41,71 +47,99 @@ module _ (memory : Memory) (chunk : List ℕ) where
       let its = named_among-cases count k index names in
       named_among-field more k index (omega (arith, its.0)) its.1
 
-  -- without a field there is the class word alone
-  pub IsTargetBelow-none : (index : ℕ) → IsTargetBelow memory chunk 0 index → named_in memory chunk ClassWord ≡ Some index
-  IsTargetBelow-none index named = by_slot named.slot named.names
-    where
-      by_slot : (slot : Slot) → named_among memory 0 chunk slot ≡ Some index → named_in memory chunk ClassWord ≡ Some index
-      by_slot ClassWord names = names
-      by_slot (Field k) names = absurd (let its = named_among-cases 0 k index names in omega (arith, its.0))
+-- ---- the slots in their order
 
-  -- a slot before is one before the next
-  pub IsTargetBelow-more : (k index : ℕ) → IsTargetBelow memory chunk k index → IsTargetBelow memory chunk (k + 1) index
-  IsTargetBelow-more k index named =
-      record { slot = named.slot; names = named_among-more k (k + 1) named.slot index (omega arith) named.names }
+-- the strong fields from one on: it comes first, and then those after it
+pub slots_from-field : (index strong : ℕ) → index < strong
+    → slots_from (Field index) strong ≡ Field index ∷ slots_from (Field (index + 1)) strong
+slots_from-field index strong lt = field_slots-more index strong lt
 
-  module _ (count : ℕ) where
-    -- the field names the object, among so many that are slots
-    abbrev pub IsTargetOf : ℕ → ℕ → Type 0
-    IsTargetOf k index = named_among memory count chunk (Field k) ≡ Some index
+-- after the class word all fields are left
+pub slots_from-class_word : (strong : ℕ) → slots_from ClassWord strong ≡ ClassWord ∷ slots_from (Field 0) strong
+slots_from-class_word strong =
+    let all : strong ≡ strong - 0 = omega arith in
+    ap (λ (count : ℕ). ClassWord ∷ field_slots 0 count) all
 
-    -- what one field more names is named by it, or by a slot before
-    pub IsTargetBelow-next : (k index : ℕ) → k < count → IsTargetBelow memory chunk (k + 1) index
-        → IsTargetBelow memory chunk k index ⊎ IsTargetOf k index
-    IsTargetBelow-next k index inside named = by_slot named.slot named.names
-      where
-        by_slot : (slot : Slot) → named_among memory (k + 1) chunk slot ≡ Some index
-            → IsTargetBelow memory chunk k index ⊎ IsTargetOf k index
-        by_slot ClassWord names = inl (record { slot = ClassWord; names = names })
-        by_slot (Field j) names =
-            let its = named_among-cases (k + 1) j index names in
-            elim (cases_lt j k) [
-              | inl lt ↦ inl (record { slot = Field j; names = named_among-field k j index lt its.1 })
-              | inr ge ↦
-                  (let same : j ≡ k = omega (arith, its.0) in
-                  inr (named_among-field count k index inside (subst (λ (i : ℕ). IsNamedIn i index) same its.1)))
-            ]
+-- so many slots of fields have each of these fields
+field_slots-has : (first count k : ℕ) → k < count → Contains (field_slots first count) (Field (first + k))
+field_slots-has first zero k lt = absurd (omega arith)
+field_slots-has first (suc count) zero lt =
+    let same : first ≡ first + 0 = omega arith in
+    (0, omega arith, ap (λ (i : ℕ). Field i) same)
+field_slots-has first (suc count) (suc k) lt =
+    let rest = field_slots-has (suc first) count k (omega arith) in
+    let same : suc first + k ≡ first + suc k = omega arith in
+    subst (λ (i : ℕ). Contains (field_slots first (suc count)) (Field i)) same (suc rest.0, omega (arith, rest.1), rest.2)
 
-    -- and the next field is one of them
-    pub IsTargetBelow-field : (k index : ℕ) → IsTargetOf k index → IsTargetBelow memory chunk (k + 1) index
-    IsTargetBelow-field k index names =
-        record {
-          slot = Field k;
-          names = named_among-field (k + 1) k index (omega arith) (named_among-cases count k index names).1;
-        }
+-- a slot that points to an object is one of the strong slots
+pub strong_slots-has : (edges : OutEdges) (slot : Slot) (index : ℕ) → edge_target edges slot ≡ Some index
+    → Contains (strong_slots edges) slot
+strong_slots-has edges ClassWord index names = (0, omega arith, refl)
+strong_slots-has edges (Field k) index names =
+    let inside = (named_among-cases edges.memory edges.words edges.strong k index names).0 in
+    let found = field_slots-has 0 edges.strong k inside in
+    let same : 0 + k ≡ k = omega arith in
+    let there = subst (λ (i : ℕ). Contains (field_slots 0 edges.strong) (Field i)) same found in
+    (suc there.0, omega (arith, there.1), there.2)
 
-module _ (memory : Memory) (weak : Weak) (object : ℕ) (parent : Parent) (its : parent ≡ parent_at memory weak object) where
-  -- what a strong slot of an object names has an edge from it
-  pub HasEdge-slot : (slot : Slot) (index : ℕ) → object < object_count memory → strong_named memory parent slot ≡ Some index
+-- a loop over slots that ends has gone over all of them
+pub slots_at_end : (all begin : List Slot) → begin ≡ all → (yielded left : List Slot)
+    → Yields (YieldsFirst (λ rest. rest)) begin yielded left → (answer : Option Slot) (after : List Slot) → answer ≡ None
+    → YieldsFirst (λ rest. rest) left answer after → yielded ≡ all
+slots_at_end all begin is yielded left went answer after none last =
+    sym (map-id yielded)
+    ∙ (YieldsList-end (YieldsList-from_first (λ slot. slot) (λ rest. rest) all is) yielded left went answer after none last).0
+
+-- ---- the objects that slots point to
+
+module _ (edges : OutEdges) (slots : List Slot) where
+  -- what one slot more points to is a target of it, or of a slot before
+  pub IsTargetAmong-next : (slot : Slot) (index : ℕ) → IsTargetAmong edges (slots ++ slot ∷ []) index
+      → IsTargetAmong edges slots index ⊎ (edge_target edges slot ≡ Some index)
+  IsTargetAmong-next slot index target =
+      elim (Contains-push_cases slots slot target.slot target.listed) [
+        | inl before ↦ inl (record { slot = target.slot; listed = before; names = target.names })
+        | inr same ↦ inr (ap (edge_target edges) same ∙ target.names)
+      ]
+
+  -- a target of a slot before is one of one slot more
+  pub IsTargetAmong-before : (slot : Slot) (index : ℕ) → IsTargetAmong edges slots index
+      → IsTargetAmong edges (slots ++ slot ∷ []) index
+  IsTargetAmong-before slot index target =
+      record {
+        slot = target.slot;
+        listed = Contains-append_left slots (slot ∷ []) target.slot target.listed;
+        names = target.names;
+      }
+
+  -- and so is the target of this slot
+  pub IsTargetAmong-last : (slot : Slot) (index : ℕ) → edge_target edges slot ≡ Some index
+      → IsTargetAmong edges (slots ++ slot ∷ []) index
+  IsTargetAmong-last slot index names = record { slot = slot; listed = Contains-push slots slot; names = names }
+
+module _ (memory : Memory) (weak : Weak) (object : ℕ) (edges : OutEdges) (its : edges ≡ out_edges memory weak object) where
+  -- an object that a strong slot points to has an edge from it
+  pub HasEdge-slot : (slot : Slot) (index : ℕ) → object < object_count memory → edge_target edges slot ≡ Some index
       → HasEdge memory weak object index
   HasEdge-slot slot index inside names =
       record {
         inside = inside;
         slot = slot;
-        names = subst (λ (it : Parent). strong_named memory it slot ≡ Some index) its names;
+        names = subst (λ (it : OutEdges). edge_target it slot ≡ Some index) its names;
       }
 
-  -- what an edge leads to is named by the class word or by a strong field
-  pub IsTargetBelow-edge : (index : ℕ) → HasEdge memory weak object index → IsTargetBelow memory parent.words parent.strong index
-  IsTargetBelow-edge index edge =
+  -- so has a target of slots
+  pub HasEdge-among : (slots : List Slot) (index : ℕ) → object < object_count memory → IsTargetAmong edges slots index
+      → HasEdge memory weak object index
+  HasEdge-among slots index inside target = HasEdge-slot target.slot index inside target.names
+
+  -- an edge leads to a target of the strong slots
+  pub IsTargetAmong-edge : (slots : List Slot) → slots ≡ strong_slots edges → (index : ℕ) → HasEdge memory weak object index
+      → IsTargetAmong edges slots index
+  IsTargetAmong-edge slots all index edge =
+      let names = subst (λ (it : OutEdges). edge_target it edge.slot ≡ Some index) (sym its) edge.names in
       record {
         slot = edge.slot;
-        names = subst (λ (it : Parent). strong_named memory it edge.slot ≡ Some index) (sym its) edge.names;
+        listed = subst (λ (list : List Slot). Contains list edge.slot) (sym all) (strong_slots-has edges edge.slot index names);
+        names = names;
       }
-
-  -- and such a slot is an edge
-  pub HasEdge-below : (count index : ℕ) → object < object_count memory → count ≡ parent.strong
-      → IsTargetBelow memory parent.words count index → HasEdge memory weak object index
-  HasEdge-below count index inside all named =
-      HasEdge-slot named.slot index inside
-      (subst (λ (k : ℕ). named_among memory k parent.words named.slot ≡ Some index) all named.names)

@@ -1,7 +1,5 @@
 -- What one step of marking does: the targets of an object get their marks, and those that had none are queued.
-use Rattle.std.specs.Prelude.{◌≡◌, ℕ, suc, ◌+◌, ◌<◌, Bool, true, false, ◌⊎◌, List, [], ◌∷◌, length, slice_index, Contains, Some}
-use Rattle.sqz_image.specs.Objects.{Memory}
-use Rattle.sqz_trace.specs.Targets.{named_by}
+use Rattle.std.specs.Prelude.{◌≡◌, ℕ, suc, ◌+◌, Bool, true, false, ◌⊎◌, List, [], ◌∷◌, length, Contains}
 use Rattle.sqz_trace.specs.Graph.{is_marked}
 
 -- how many objects have no mark
@@ -9,12 +7,6 @@ abbrev pub unmarked_count : List Bool → ℕ
 unmarked_count [] = 0
 unmarked_count (true ∷ marks) = unmarked_count marks
 unmarked_count (false ∷ marks) = suc (unmarked_count marks)
-
--- one of the first words, so many of them, names the object
-pub record IsNamedBelow (memory : Memory) (words : List ℕ) (count index : ℕ) : Type 0 where
-  pub place : ℕ
-  pub below : place < count
-  pub names : named_by memory (slice_index words place) ≡ Some index
 
 -- marks and a worklist, old and new: the targets are marked, and those that had no mark joined the worklist
 pub record MarksTargets (IsTarget : ℕ → Type 0) (old : List Bool) (queue : List ℕ) (new : List Bool) (longer : List ℕ) : Type 0 where

@@ -1,5 +1,5 @@
 -- What the slots of an object name.
-use Rattle.std.specs.Prelude.{◌≡◌, ℕ, List, Option, Some, None, option_and_then}
+use Rattle.std.specs.Prelude.{ℕ, List, Option, None, option_and_then}
 use Rattle.sqz_object.specs.declared.value.Value.{Value}
 use Rattle.sqz_object.specs.declared.value.Value.TheVariants.{Int, Pointer, Odd}
 use Rattle.sqz_object.specs.Value.{value_of}
@@ -28,8 +28,3 @@ named_in memory chunk slot = named_among memory (traced chunk) chunk slot
 -- the object that a slot of an object names
 abbrev pub target : Memory → ℕ → Slot → Option ℕ
 target memory index slot = named_in memory (chunk_words memory index) slot
-
--- a slot names it, among the class word of a chunk and its first fields, so many of them
-pub record IsTargetBelow (memory : Memory) (chunk : List ℕ) (count index : ℕ) : Type 0 where
-  pub slot : Slot
-  pub names : named_among memory count chunk slot ≡ Some index

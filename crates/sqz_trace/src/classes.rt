@@ -5,19 +5,20 @@ ghost use Rattle.sqz_object.specs.Chunk.{fields};
 ghost use Rattle.sqz_image.specs.declared.fault.Slot.TheVariants.{ClassWord};
 ghost use Rattle.sqz_image.specs.Objects.{object_count};
 ghost use Rattle.sqz_trace.specs.Targets.{named_in};
-ghost use Rattle.sqz_trace.specs.Strong.{strong_by_word, held_by_word, compact_classes, compact_class, class_of};
+ghost use Rattle.sqz_trace.specs.Strong.{strong_by_word, compact_classes, compact_class, class_of};
 
 use crate::fixed::{fixed_of, is_weak};
-use crate::slots::{class_address, named_among, named_by, traced_fields};
+use crate::out_edges::OutEdges;
+use crate::slots::{class_address, named_by, traced_fields};
 use crate::weak::Weak;
 use sqz_image::{Heap, Object, Slot};
 use sqz_object::{Kind, base_of};
 
-/// The field of the special objects array that names the array of compact classes.
+/// The field of the special objects array that points to the array of compact classes.
 const COMPACT_CLASSES: u32 = 28;
 
-/// The class of the object: what its class word names, or else what its compact index leads to. None where that is no
-/// object.
+/// The class of the object: what its class word points to, or else the class with its compact index.
+/// None if that is no object.
 pub fn class_of(heap: &Heap, weak: Weak, object: &Object<'_>) -> Option<u32>
     ensures class { result ≡ class_of heap.now weak object.now }
     ensures inside { IfSome result (λ class. class < object_count heap.now) }
@@ -30,14 +31,14 @@ pub fn class_of(heap: &Heap, weak: Weak, object: &Object<'_>) -> Option<u32>
     }
 }
 
-/// The class that a compact index stands for: a strong field of the array of compact classes names it, and that array a
-/// strong field of the special objects array.
+/// The class with a compact index: a strong field of the array of compact classes points to it, and
+/// a strong field of the special objects array to that array.
 pub fn compact_class(heap: &Heap, weak: Weak, index: u32) -> Option<u32>
     ensures class { result ≡ compact_class heap.now weak index }
     ensures inside { IfSome result (λ class. class < object_count heap.now) }
 {
     let field = index.checked_sub(1)?;
-    held_by_word(heap, weak, compact_classes(heap, weak)?, field)
+    OutEdges::by_class_word(heap, weak, compact_classes(heap, weak)?).target(Slot::Field(field))
 }
 
 /// The array of compact classes.
@@ -45,22 +46,11 @@ fn compact_classes(heap: &Heap, weak: Weak) -> Option<u32>
     ensures array { result ≡ compact_classes heap.now weak }
     ensures inside { IfSome result (λ array. array < object_count heap.now) }
 {
-    held_by_word(heap, weak, heap.special(), COMPACT_CLASSES)
+    OutEdges::by_class_word(heap, weak, heap.special()).target(Slot::Field(COMPACT_CLASSES))
 }
 
-/// The object that a field of an object names, where the field is strong already by what the class word names.
-fn held_by_word(heap: &Heap, weak: Weak, object: u32, field: u32) -> Option<u32>
-    requires { object < object_count heap.now }
-    ensures held { result ≡ held_by_word heap.now weak object field }
-    ensures inside { IfSome result (λ held. held < object_count heap.now) }
-{
-    let object = heap.object(object);
-    let strong = strong_by_word(heap, weak, &object);
-    named_among(heap, &object, strong, Slot::Field(field))
-}
-
-/// How many fields of an object are strong, where its class is what its class word names.
-fn strong_by_word(heap: &Heap, weak: Weak, object: &Object<'_>) -> u32
+/// How many fields of an object are strong if its class is what its class word points to.
+pub(crate) fn strong_by_word(heap: &Heap, weak: Weak, object: &Object<'_>) -> u32
     ensures strong { result ≡ strong_by_word heap.now weak object.now }
     ensures inside { result ≤ length (fields object.now) }
 {
@@ -71,7 +61,7 @@ fn strong_by_word(heap: &Heap, weak: Weak, object: &Object<'_>) -> u32
     }
 }
 
-/// The object that the class word of an object names, if its header has one.
+/// The object that the class word of an object points to, if its header has one.
 fn class_named(heap: &Heap, object: &Object<'_>) -> Option<u32>
     ensures class { result ≡ named_in heap.now object.now ClassWord }
     ensures inside { IfSome result (λ class. class < object_count heap.now) }

@@ -11,7 +11,7 @@ use crate::classes::class_of;
 use crate::contexts::context_fields;
 use crate::fixed::{fixed_by, is_weak};
 use crate::methods::method_fields;
-use crate::parent::nil;
+use crate::out_edges::nil;
 use crate::slots::{class_address, traced_fields};
 use crate::weak::Weak;
 use sqz_image::{Fault, Heap, Object, Slot};

@@ -3,14 +3,14 @@
 ghost use Rattle.std.specs.Prelude.{◌≡◌, ℕ, ◌+◌, ◌<◌, ◌≤◌, length, Some};
 ghost use Rattle.sqz_image.specs.Objects.{object_count};
 ghost use Rattle.sqz_trace.specs.declared.shades.Shade.TheVariants.{Grey};
-ghost use Rattle.sqz_trace.specs.Edges.{strong_named, HasEdge};
+ghost use Rattle.sqz_trace.specs.Edges.{edge_target, HasEdge};
 ghost use Rattle.sqz_trace.specs.Reachability.{IsReachability};
 ghost use Rattle.sqz_trace.specs.Shades.{AreLawfulOf, shade_at};
 ghost use Rattle.sqz_trace.specs.Greying.{Blackens, Greys, IsLowest};
 
 use crate::greying::grey_white_target;
 use crate::marks::Marks;
-use crate::parent::Parent;
+use crate::out_edges::OutEdges;
 use crate::shades::{Shade, Shades};
 use crate::weak::Weak;
 use sqz_image::laws::heap_bounds;
@@ -45,29 +45,23 @@ fn blacken(heap: &Heap, weak: Weak, object: u32, shades: &mut [Shade]) -> u32
     ensures lowest { IsLowest (object + 1) shades.old shades.new result }
 {
     heap_bounds(heap);
-    let parent = Parent::of(heap, weak, object);
-    let mut lowest = grey_target(heap, &parent, Slot::ClassWord, shades, object + 1);
-    for k in 0..parent.strong() {
-        lowest = grey_target(heap, &parent, Slot::Field(k), shades, lowest);
+    let edges = OutEdges::of(heap, weak, object);
+    let mut lowest = object + 1;
+    for slot in edges.slots() {
+        lowest = grey_target(&edges, slot, shades, lowest);
     }
     shades[object as usize] = Shade::Black;
     lowest
 }
 
-/// Makes the object that a strong slot names grey where it is white. Answers it, or the lowest so far where that is lower or
-/// none became grey.
-fn grey_target(
-    heap: &Heap,
-    parent: &Parent<'_>,
-    slot: Slot,
-    shades: &mut [Shade],
-    lowest: u32,
-) -> u32
-    requires { length shades.old ≡ object_count heap.now }
-    ensures greyed { Greys (λ index. strong_named heap.now parent.now slot ≡ Some index) shades.old shades.new }
+/// Makes the object that a strong slot points to grey if it is white. Returns this object or the
+/// lowest one so far, whichever is lower; the lowest one so far if no object became grey.
+fn grey_target(edges: &OutEdges<'_>, slot: Slot, shades: &mut [Shade], lowest: u32) -> u32
+    requires { length shades.old ≡ object_count edges.now.memory }
+    ensures greyed { Greys (λ index. edge_target edges.now slot ≡ Some index) shades.old shades.new }
     ensures lowest { IsLowest lowest shades.old shades.new result }
 {
-    match grey_white_target(heap, parent, slot, shades) {
+    match grey_white_target(edges, slot, shades) {
         Some(found) => lowest.min(found),
         None => lowest,
     }

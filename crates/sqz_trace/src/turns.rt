@@ -3,12 +3,12 @@
 ghost use Rattle.std.specs.Prelude.{◌≡◌, ◌+◌, ◌<◌, ◌≤◌, length, Some, vec_capacity};
 ghost use Rattle.sqz_image.specs.Objects.{object_count};
 ghost use Rattle.sqz_trace.specs.declared.shades.Shade.TheVariants.{Grey};
-ghost use Rattle.sqz_trace.specs.Edges.{strong_named, HasEdge};
+ghost use Rattle.sqz_trace.specs.Edges.{edge_target, HasEdge};
 ghost use Rattle.sqz_trace.specs.Shades.{shade_at};
 ghost use Rattle.sqz_trace.specs.Greying.{Blackens, Greys, IsListed, white_count};
 
 use crate::greying::grey_white_target;
-use crate::parent::Parent;
+use crate::out_edges::OutEdges;
 use crate::shades::Shade;
 use crate::weak::Weak;
 use sqz_image::{Heap, Slot};
@@ -31,29 +31,23 @@ pub fn blacken_listed(
     ensures room { length list.new.items + white_count shades.new ≤ vec_capacity list.new }
     ensures capacity { vec_capacity list.new ≡ vec_capacity list.old }
 {
-    let parent = Parent::of(heap, weak, object);
-    grey_listed(heap, &parent, Slot::ClassWord, shades, list);
-    for k in 0..parent.strong() {
-        grey_listed(heap, &parent, Slot::Field(k), shades, list);
+    let edges = OutEdges::of(heap, weak, object);
+    for slot in edges.slots() {
+        grey_listed(&edges, slot, shades, list);
     }
     shades[object as usize] = Shade::Black;
 }
 
-/// Makes the object that a strong slot names grey where it is white, and adds it to the end of the list then.
-fn grey_listed(
-    heap: &Heap,
-    parent: &Parent<'_>,
-    slot: Slot,
-    shades: &mut [Shade],
-    list: &mut Vec<u32>,
-)
-    requires sized { length shades.old ≡ object_count heap.now }
+/// Makes the object that a strong slot points to grey if it is white, and adds it to the end of the
+/// list then.
+fn grey_listed(edges: &OutEdges<'_>, slot: Slot, shades: &mut [Shade], list: &mut Vec<u32>)
+    requires sized { length shades.old ≡ object_count edges.now.memory }
     requires room { length list.old.items + white_count shades.old ≤ vec_capacity list.old }
-    ensures greyed { Greys (λ index. strong_named heap.now parent.now slot ≡ Some index) shades.old shades.new }
+    ensures greyed { Greys (λ index. edge_target edges.now slot ≡ Some index) shades.old shades.new }
     ensures listed { IsListed shades.old shades.new list.old.items list.new.items }
     ensures capacity { vec_capacity list.new ≡ vec_capacity list.old }
 {
-    if let Some(found) = grey_white_target(heap, parent, slot, shades) {
+    if let Some(found) = grey_white_target(edges, slot, shades) {
         list.push_reserved(found);
     }
 }

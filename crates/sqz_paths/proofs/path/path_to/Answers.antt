@@ -16,7 +16,7 @@ returns-then-index-object-clause-path c =
     let from = c.loop-place.search.from.items in
     let place = c.loop-place.place in
     let law = so_far.searching in
-    let back = c.in_ok-path.ensures in
+    let back = rw (so_far.heap, so_far.weak) at c.in_ok-path.ensures in
     let steps = c.in_ok-path.path.steps.items in
     let here : place < length found = omega (arith, c.loop-place-test.true, c.len.ensures, c.loop-place.search.found.ok.0) in
     let there : slice_index found place ≡ c.args.object =
@@ -49,7 +49,9 @@ loop-place-preserved c =
     λ same. c.if-index-object.false (get_or_read found place c.index.result.now here c.index.ensures 0 ∙ same)
     in
     record {
-      searching = step.searching;
+      heap = ap (λ it. it.now) step.same.0 ∙ so_far.heap;
+      weak = step.same.1 ∙ so_far.weak;
+      searching = rw (step.same.0, step.same.1, so_far.heap, so_far.weak) at step.searching;
       inside = let lt = GoesOn-inside _ found _ _ _ step.goes_on place here in omega arith;
       before = λ p lt same.
           elim (cases_lt p place) [

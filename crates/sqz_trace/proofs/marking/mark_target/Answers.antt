@@ -5,11 +5,11 @@ use Rattle.sqz_trace.specs.Graph.{is_marked}
 use Rattle.sqz_trace.specs.Shades.{has_mark, marks_of}
 use Rattle.sqz_trace.proofs.ShadeLemmas.{is_marked-shade}
 use Rattle.sqz_trace.proofs.MarkingLemmas.{MarksTargets-one}
-use Rattle.sqz_trace.proofs.marking.mark_named.Goals as goal
+use Rattle.sqz_trace.proofs.marking.mark_target.Goals as goal
 
 pub returns-in_ok-push : goal.returns-in_ok-push
 returns-in_ok-push c =
-    let named = sym c.in-Some.ensures.named in
+    let named = sym c.in-Some.ensures.target in
     let size = length-map c.args.shades.now has_mark in
     let new : is_marked (marks_of c.args.shades.now) c.in-Some.found ≡ false =
     is_marked-shade c.args.shades.now c.in-Some.found ∙ sym c.has_mark.ensures ∙ c.if-not-has_mark.true in

@@ -1,5 +1,0 @@
-use Rattle.std.proofs.Common.{rules}
-use Rattle.sqz_marks.proofs.table.MarkTable.parent.Goals as goal
-
-pub returns : goal.returns
-returns c = search rules

@@ -1,0 +1,89 @@
+//! The outgoing edges of an object.
+
+ghost use Rattle.std.specs.Prelude.{◌≡◌, ◌<◌, IfSome};
+ghost use Rattle.sqz_image.specs.Objects.{object_count};
+ghost use Rattle.sqz_trace.specs.Edges.{out_edges, edges_by_word, strong_slots, edge_target, nil};
+
+use crate::classes::strong_by_word;
+use crate::edge_slots::StrongSlots;
+use crate::slots::named_among;
+use crate::strong_slots::strong_fields;
+use crate::weak::Weak;
+use sqz_image::{Heap, Object, Slot};
+use std::marker::Model;
+
+/// The outgoing edges of an object: its strong slots, and the objects that they point to. The
+/// header of the object is read once.
+#[derive(Drop)]
+pub struct OutEdges<'a> {
+    heap: &'a Heap,
+    object: Object<'a>,
+    /// The number of its strong fields.
+    strong: u32,
+}
+
+impl<'a> Model for OutEdges<'a> {
+    ghost use Rattle.std.specs.Prelude.{◌≤◌, length};
+    ghost use Rattle.sqz_object.specs.Chunk.{fields};
+    ghost use Rattle.sqz_trace.specs.Edges.{OutEdges};
+
+    ghost Value = { OutEdges };
+
+    ghost view = { λ edges. record { memory = edges.heap.now; words = edges.object; strong = edges.strong } };
+
+    ghost invariant = { λ edges. edges.strong ≤ length (fields edges.object) };
+}
+
+impl<'a> OutEdges<'a> {
+    /// The edges of the object with this index.
+    pub fn of(heap: &'a Heap, weak: Weak, index: u32) -> Self
+        requires { index < object_count heap.now }
+        ensures { result ≡ out_edges heap.now weak index }
+    {
+        let object = heap.object(index);
+        let strong = strong_fields(heap, weak, &object);
+        OutEdges {
+            heap,
+            object,
+            strong,
+        }
+    }
+
+    /// The edges of the object with this index if its class is what its class word points to.
+    pub(crate) fn by_class_word(heap: &'a Heap, weak: Weak, index: u32) -> Self
+        requires { index < object_count heap.now }
+        ensures { result ≡ edges_by_word heap.now weak index }
+    {
+        let object = heap.object(index);
+        let strong = strong_by_word(heap, weak, &object);
+        OutEdges {
+            heap,
+            object,
+            strong,
+        }
+    }
+
+    /// The strong slots: the class word, and then the strong fields in their order.
+    pub fn slots(&self) -> StrongSlots
+        ensures { result ≡ strong_slots self.now }
+    {
+        StrongSlots::new(self.strong)
+    }
+
+    /// The object that a strong slot points to. None for a weak slot, and if the object has no such
+    /// slot.
+    pub fn target(&self, slot: Slot) -> Option<u32>
+        ensures target { result ≡ edge_target self.now slot }
+        ensures inside { IfSome result (λ found. found < object_count self.now.memory) }
+    {
+        named_among(self.heap, &self.object, self.strong, slot)
+    }
+}
+
+/// Nil: the object that field 0 of the special objects array points to, if that is a strong slot.
+pub fn nil(heap: &Heap, weak: Weak) -> Option<u32>
+    ensures nil { result ≡ nil heap.now weak }
+    ensures inside { IfSome result (λ nil. nil < object_count heap.now) }
+{
+    OutEdges::of(heap, weak, heap.special()).target(Slot::Field(0))
+}
