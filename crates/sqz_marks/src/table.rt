@@ -144,6 +144,13 @@ impl<'a> MarkTable<'a> {
         self.claim_of(pass, &self.parent(parent), slot)
     }
 
+    /// The heap whose objects the table marks.
+    pub fn heap(&self) -> &'a Heap
+        ensures { result.now ≡ self.now.heap.memory }
+    {
+        self.heap
+    }
+
     /// An object whose slots are to be claimed. Its header is read here, and not again.
     pub fn parent(&self, object: u32) -> Parent<'_>
         requires { object < object_count self.now.heap.memory }
