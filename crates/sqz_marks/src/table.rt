@@ -144,6 +144,13 @@ impl<'a> MarkTable<'a> {
         self.claim_of(pass, &self.edges(parent), slot)
     }
 
+    /// The heap whose objects the table marks.
+    pub fn heap(&self) -> &'a Heap
+        ensures { result.now ≡ self.now.heap.memory }
+    {
+        self.heap
+    }
+
     /// The outgoing edges of an object, by which its targets are claimed. The header of the object
     /// is read here, and not again.
     pub fn edges(&self, object: u32) -> OutEdges<'_>

@@ -1,5 +1,5 @@
--- What a pass gains by one step after another. Serves `claiming::mark_taken`, `claiming::mark_slots`, `claiming::claim_slot`, the
--- functions of `rest`, `shared_work::SharedWork::take_turns` and `stealing::mark`.
+-- What a pass gains by one step after another. Serves the functions of `scanning` and `remaining`,
+-- `shared_work::SharedWork::run_worker` and `stealing::mark`.
 use Rattle.std.proofs.Common.{◌≡◌, ◌≢◌, ℕ, ◌+◌, ◌<◌, List, ◌∷◌, Some, refl, sym, ap, subst, ◌∙◌, cond, eqb, arith, inl, inr}
 use Rattle.std.specs.Prelude.{Option, None}
 use Rattle.std.proofs.lemmas.Bool.{cases_lt}
@@ -18,7 +18,7 @@ use Rattle.sqz_marks.proofs.TimesLemmas.{times-same, times-more}
 use Rattle.sqz_marks.specs.declared.claim.Claim.{Claim}
 use Rattle.sqz_marks.specs.declared.claim.Claim.TheVariants.{Won, Seen, Nothing}
 use Rattle.sqz_marks.specs.Claims.{IsClaim}
-use Rattle.sqz_workers.specs.Gains.{HasGained, HasGainedSome}
+use Rattle.sqz_workers.specs.Gains.{HasGained, HasGainedSome, HasSeenTarget}
 
 -- a pass that came to know more, and won none more
 HasGained-known : (old : HeldPass) (seen black : List ℕ) → ((object : ℕ) → HasSeen old.view object → 0 < times object seen)
@@ -54,7 +54,7 @@ HasGained-then old pass new first more before after =
       blackened = λ object known. after.blackened object (before.blackened object known);
     }
 
--- the same where the first step won none
+-- the same if the first step won none
 pub HasGained-after : (old pass new : HeldPass) (more : ℕ) → HasGained old pass 0 → HasGained pass new more → HasGained old new more
 HasGained-after old pass new more before after =
     let sum : 0 + more ≡ more = omega arith in
@@ -100,7 +100,7 @@ times-both object other list more =
     let one : ℕ → ℕ = λ o. cond (eqb o object) 1 0 in
     omega (arith, sum_by-cons one other list, sum_by-cons one other more)
 
--- a claim of a white one, which is counted then
+-- a claim of a white one, which is counted next
 pub HasGained-won : (old : HeldPass) (object : ℕ)
     → HasGained old (knowing (knowing old (claimed object White old.view)) (counted object (claimed object White old.view))) 1
 HasGained-won old object =
@@ -115,7 +115,7 @@ HasGained-won old object =
       blackened = λ other known. known;
     }
 
--- where it does not matter how many objects were won
+-- if it does not matter how many objects were won
 pub HasGainedSome-of : (old new : HeldPass) (objects : ℕ) → HasGained old new objects → HasGainedSome old new
 HasGainedSome-of old new objects gained = record { objects = objects; gained = gained }
 
@@ -126,14 +126,14 @@ HasGainedSome-then old pass new before after =
       gained = HasGained-then old pass new before.objects after.objects before.gained after.gained;
     }
 
--- the object that a claim names
+-- the object of a claim
 abbrev object_in : Claim → ℕ
 object_in (Won object) = object
 object_in (Seen object) = object
 object_in Nothing = 0
 
 module _ (old pass : HeldPass) (answer : Claim) where
-  -- an object that a slot names is won and counted
+  -- the object that a slot points to is won and counted
   pub HasGained-claimed : (names : Option ℕ) (object : ℕ) (new : HeldPass) → IsClaim names old pass answer → answer ≡ Won object
       → new ≡ knowing pass (counted object pass.view) → HasGained old new 1
   HasGained-claimed None object new claim is step = absurd (let no : Nothing ≡ Won object = sym claim.0 ∙ is in cc)
@@ -152,13 +152,13 @@ module _ (old pass : HeldPass) (answer : Claim) where
   HasGained-unclaimed (Some target) (inr claim) other =
       subst (λ (p : HeldPass). HasGained old p 0) (sym claim.1) (HasGained-seen old target)
 
-  -- what the slot names was seen
-  pub HasSeen-claimed : (names : Option ℕ) (object : ℕ) → IsClaim names old pass answer → names ≡ Some object → HasSeen pass.view object
-  HasSeen-claimed None object claim is = absurd (let no : None ≡ Some object = is in cc)
-  HasSeen-claimed (Some target) object (inl claim) is =
+  -- what the slot points to was seen
+  pub HasSeenTarget-claimed : (names : Option ℕ) → IsClaim names old pass answer → HasSeenTarget names pass.view
+  HasSeenTarget-claimed None claim object is = absurd (let no : None ≡ Some object = is in cc)
+  HasSeenTarget-claimed (Some target) (inl claim) object is =
       subst (λ (p : HeldPass). HasSeen p.view object) (sym claim.1)
       (subst (λ o. 0 < times object (o ∷ old.view.seen)) (sym (same_Some _ _ is)) (omega (arith, times-same object old.view.seen)))
-  HasSeen-claimed (Some target) object (inr claim) is =
+  HasSeenTarget-claimed (Some target) (inr claim) object is =
       subst (λ (p : HeldPass). HasSeen p.view object) (sym claim.1)
       (subst (λ o. 0 < times object (o ∷ old.view.seen)) (sym (same_Some _ _ is)) (omega (arith, times-same object old.view.seen)))
 
@@ -175,7 +175,7 @@ pub IsPassOf-gained : (marks : SharedMarks) (old new : HeldPass) (objects : ℕ)
     → IsPassOf marks new
 IsPassOf-gained marks old new objects of gained = (gained.table ∙ of.0, gained.workers ∙ of.1)
 
--- what the slots so far name was seen
+-- what the slots so far point to was seen
 abbrev pub HasSeenBelow : Memory → List ℕ → ℕ → View → Type 0
 HasSeenBelow memory chunk count view = (index : ℕ) → IsTargetBelow memory chunk count index → HasSeen view index
 

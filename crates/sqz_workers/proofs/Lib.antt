@@ -1,4 +1,4 @@
 mod TurnLemmas
 pub mod GainLemmas
 pub mod ShareLemmas
-pub mod RestLemmas
+pub mod RemainingLemmas

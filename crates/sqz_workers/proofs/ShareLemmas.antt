@@ -1,5 +1,5 @@
--- What a pass gains whose shares were worked on apart. Serves `shared_work::SharedWork::mark_alone` and
--- `shared_work::SharedWork::mark_by_halves`.
+-- What a pass gains if its shares are worked on apart. Serves `shared_work::SharedWork::run_team` and
+-- `shared_work::SharedWork::run_halves`.
 use Rattle.std.proofs.Common.{◌≡◌, ℕ, ◌+◌, ◌≤◌, List, [], ◌∷◌, ◌++◌, length, set, sum, sym, subst, ◌∙◌, ap, arith}
 use Rattle.std.proofs.lemmas.List.{length-append}
 use Rattle.std.proofs.lemmas.List.Sums.{sum_by-append}
@@ -55,5 +55,5 @@ pub HasGained-halves : (old new : HeldPass) (low high first second : List ℕ) �
     → HasGained old new (sum first + sum second) → HasGained old new (sum (low ++ high))
 HasGained-halves old new low high first second low_is high_is gained =
     let both : sum first + sum second ≡ sum (low ++ high) =
-    omega (arith, sum_by-append (λ claims. claims) low high, ap sum low_is, ap sum high_is) in
+    omega (arith, sum_by-append (λ number. number) low high, ap sum low_is, ap sum high_is) in
     subst (HasGained old new) both gained

@@ -30,7 +30,7 @@ pub record IsPassedOver (object : ℕ) (old new : List Shade) (list longer : Lis
   pub shades : new ≡ old
   pub list_is : longer ≡ list
 
--- an object is taken from the end of the list, and looked at where it is grey
+-- an object is taken from the end of the list, and looked at if it is grey
 pub record IsTaken (memory : Memory) (weak : Weak) (old new : Progress) : Type 0 where
   pub object : ℕ
   pub rest : List ℕ

@@ -9,11 +9,11 @@ pub enum Phase {
     Slide,
 }
 
-/// What each worker passes at the beginning of each of its turns. A gate may hold a worker for a while, so that a test
-/// sees that others go on meanwhile; it lets each through in the end.
+/// What each worker passes at the beginning of each of its turns. A gate may hold a worker for a
+/// while, so that a test sees that others go on meanwhile; it lets each through in the end.
 pub trait Gate: Sync {
-    /// Called by the worker with this number, at the beginning of this turn of the phase. Turns are counted from 0, and
-    /// a worker without work passes once all the same.
+    /// Called by the worker with this number, at the beginning of this turn of the phase. Turns
+    /// are counted from 0. A worker without work passes once too.
     fn pass(&self, phase: Phase, worker: u32, turn: u64);
 }
 

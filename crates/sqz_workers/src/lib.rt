@@ -1,17 +1,19 @@
-//! What the workers of a run do in turns, and the gate that each passes at the beginning of a turn.
+//! Marking by workers in turns, and the gate that each worker passes at the beginning of a turn.
 #![tactic(auto)]
 
-mod claiming;
 mod gate;
 mod locked;
 mod locked_marking;
-mod rest;
+mod marked;
+mod remaining;
+mod scanning;
 mod shared_work;
 mod stealing;
-mod teams;
+mod team;
 mod turns;
 mod worklist;
 
 pub use gate::{Gate, OpenGate, Phase};
 pub use locked::mark_locked;
-pub use stealing::{Marked, mark};
+pub use marked::Marked;
+pub use stealing::mark;

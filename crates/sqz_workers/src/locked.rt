@@ -16,10 +16,11 @@ use std::sync::{Mutex, Wait};
 use std::thread;
 use std::thread::Threads;
 
-/// The reachable objects of a heap, marked by so many workers, each in a thread of its own where one can be started. In
-/// its turn a worker passes the gate, takes the lock, takes one object from a list, and marks what that names. It leaves
-/// after 64 turns in a row that found the list empty, or after four turns for each object and 4096 more. It may wait, for
-/// the lock. Fails for want of memory alone.
+/// Marks the reachable objects of a heap with `workers` workers, each in a thread of its own if one
+/// can be started. In a turn a worker passes the gate, takes the lock, takes one object from a
+/// list, and marks what that object points to. It leaves after 64 turns in a row that found the
+/// list empty, or after four turns for each object and 4096 more. It may wait for the lock. Fails
+/// only if it is out of memory.
 pub fn mark_locked<R: Threads + Wait + Sync, G: Gate>(
     rt: &R,
     alloc: Global,
@@ -31,53 +32,50 @@ pub fn mark_locked<R: Threads + Wait + Sync, G: Gate>(
     ensures reachable { IfOk result (λ marks. IsReachability heap.now weak marks) }
     ensures refused { IfErr result (λ fault. fault ≡ OutOfMemory) }
 {
-    mark_in_turns::<Brand, R, G>(rt, alloc, heap, weak, workers, gate)
+    LockedWork { rt, heap, gate }.run_workers::<Brand>(alloc, weak, workers)
 }
 
-/// The same, where the heap has a name.
-fn mark_in_turns<M: MarkedMemory + Send + Sync, R: Threads + Wait + Sync, G: Gate>(
-    rt: &R,
-    alloc: Global,
-    heap: &Heap,
-    weak: Weak,
-    workers: Workers,
-    gate: &G,
-) -> Result<Marks, Fault>
-    requires heap { heap.now ≡ M.memory }
-    requires weak { weak ≡ M.weak }
-    ensures reachable { IfOk result (λ marks. IsReachability heap.now weak marks) }
-    ensures refused { IfErr result (λ fault. fault ≡ OutOfMemory) }
-{
-    let marking: Mutex<LockedMarking<M>> = Mutex::new(LockedMarking::new(alloc, heap)?);
-    thread::map_indices(
-        rt,
-        alloc,
-        workers.number() as usize,
-        &|worker: usize|
-            requires worker { worker < 64 }
-            requires heap { heap.now ≡ M.memory }
-            requires weak { weak ≡ M.weak }
-        { work(rt, &marking, heap, weak, worker as u32, gate) },
-    )?;
-    Ok(marking.into_inner().finish(heap, weak))
+/// What all workers share as they mark under a lock, besides what lies under it.
+#[derive(Drop)]
+struct LockedWork<'a, R, G> {
+    rt: &'a R,
+    heap: &'a Heap,
+    gate: &'a G,
 }
 
-/// The turns of a worker.
-fn work<M: MarkedMemory, R: Wait, G: Gate>(
-    rt: &R,
-    marking: &Mutex<LockedMarking<M>>,
-    heap: &Heap,
-    weak: Weak,
-    worker: u32,
-    gate: &G,
-)
-    requires heap { heap.now ≡ M.memory }
-    requires weak { weak ≡ M.weak }
-{
-    let mut turns = Turns::new(heap);
-    while let Some(turn) = turns.next() {
-        gate.pass(Phase::Mark, worker, turn);
-        let found = marking.lock(rt).turn(heap, weak);
-        turns.found(found);
+impl<R: Threads + Wait + Sync, G: Gate> LockedWork<'_, R, G> {
+    /// Runs the workers, each in a thread of its own if one can be started, and returns the
+    /// reachable objects. The brand stands for the heap and the policy on weak slots.
+    fn run_workers<M: MarkedMemory + Send + Sync>(
+        &self,
+        alloc: Global,
+        weak: Weak,
+        workers: Workers,
+    ) -> Result<Marks, Fault>
+        requires heap { self.now.heap.now ≡ M.memory }
+        requires weak { weak ≡ M.weak }
+        ensures reachable { IfOk result (λ marks. IsReachability M.memory M.weak marks) }
+        ensures refused { IfErr result (λ fault. fault ≡ OutOfMemory) }
+    {
+        let marking = Mutex::new(LockedMarking::<M>::new(alloc, self.heap, weak)?);
+        thread::map_indices(
+            self.rt,
+            alloc,
+            workers.number() as usize,
+            &|worker: usize|
+                requires { worker < 64 }
+            { self.run_worker(&marking, worker as u32) },
+        )?;
+        Ok(marking.into_inner().finish())
+    }
+
+    /// Takes the turns of a worker.
+    fn run_worker<M: MarkedMemory>(&self, marking: &Mutex<LockedMarking<'_, M>>, worker: u32) {
+        let mut turns = Turns::new(self.heap);
+        while let Some(turn) = turns.next() {
+            self.gate.pass(Phase::Mark, worker, turn);
+            let found = marking.lock(self.rt).turn();
+            turns.note(found);
+        }
     }
 }

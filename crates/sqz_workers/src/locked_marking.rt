@@ -1,4 +1,4 @@
-//! What the workers that mark share under a lock.
+//! What workers that mark under a lock share there.
 
 ghost use Rattle.std.specs.Prelude.{◌≡◌, [], IfOk, IfErr};
 ghost use Rattle.sqz_object.specs.declared.order.Order.TheVariants.{Little};
@@ -14,8 +14,8 @@ use sqz_trace::{Marks, Shade, Shades, Weak, blacken_listed, finish, first_shades
 use std::alloc::Global;
 use std::marker::{Brand, Model, PhantomData};
 
-/// Names the object memory that is marked, and what becomes of weak slots, since a lock tells no more of what is under it
-/// than its type.
+/// The object memory that is marked, and the policy on weak slots. A type stands for them, since a
+/// lock says no more of what lies under it than its type.
 pub trait MarkedMemory {
     ghost memory: { Memory };
 
@@ -28,33 +28,41 @@ impl MarkedMemory for Brand {
     ghost weak = { Keep };
 }
 
-/// How far the marking of an object memory has come. Each worker changes it by turns.
+/// How far the marking of a heap has come. Each worker changes it by turns.
 #[derive(Drop)]
-pub(crate) struct LockedMarking<M: MarkedMemory> {
+pub(crate) struct LockedMarking<'a, M: MarkedMemory> {
+    heap: &'a Heap,
+    weak: Weak,
     shades: Shades,
     /// Grey objects, with room for all that are white yet.
     list: Vec<u32>,
     of: PhantomData<M>,
 }
 
-impl<M: MarkedMemory> Model for LockedMarking<M> {
-    ghost use Rattle.std.specs.Prelude.{◌+◌, ◌≤◌, length, vec_capacity};
+impl<'a, M: MarkedMemory> Model for LockedMarking<'a, M> {
+    ghost use Rattle.std.specs.Prelude.{◌≡◌, ◌+◌, ◌≤◌, length, vec_capacity};
     ghost use Rattle.sqz_trace.specs.Shades.{AreLawfulOf};
     ghost use Rattle.sqz_trace.specs.Greying.{white_count};
     ghost use Rattle.sqz_workers.specs.Turns.{Progress};
 
     ghost Value = { Progress };
 
-    ghost view = { λ marking. record { shades = marking.shades.items; list = marking.list.items } };
+    ghost view = { λ marking.
+        record { shades = marking.shades.items; list = marking.list.items } };
 
-    ghost invariant = { λ marking. AreLawfulOf M.memory M.weak marking.shades.items
-        × (length marking.list.items + white_count marking.shades.items ≤ vec_capacity marking.list) };
+    ghost invariant = { λ marking. (marking.heap.now ≡ M.memory)
+        × (marking.weak ≡ M.weak)
+        × AreLawfulOf M.memory M.weak marking.shades.items
+        × (length marking.list.items + white_count marking.shades.items
+        ≤ vec_capacity marking.list) };
 }
 
-impl<M: MarkedMemory> LockedMarking<M> {
-    /// The marking that begins: the special objects array is grey and alone in the list. Fails for want of memory alone.
-    pub fn new(alloc: Global, heap: &Heap) -> Result<LockedMarking<M>, Fault>
-        requires { heap.now ≡ M.memory }
+impl<'a, M: MarkedMemory> LockedMarking<'a, M> {
+    /// The marking at its beginning: the special objects array is grey and alone in the list. Fails
+    /// only if it is out of memory.
+    pub fn new(alloc: Global, heap: &'a Heap, weak: Weak) -> Result<Self, Fault>
+        requires heap { heap.now ≡ M.memory }
+        requires weak { weak ≡ M.weak }
         ensures begun { IfOk result (λ marking. IsBegun heap.now marking) }
         ensures refused { IfErr result (λ fault. fault ≡ OutOfMemory) }
     {
@@ -62,34 +70,38 @@ impl<M: MarkedMemory> LockedMarking<M> {
         let mut list = Vec::with_capacity(alloc, shades.len())?;
         list.push(heap.special())?;
         Ok(LockedMarking {
+            heap,
+            weak,
             shades,
             list,
             of: PhantomData,
         })
     }
 
-    /// Takes one object from the list; if it is grey, its white targets become grey and join the list, and it becomes
-    /// black. Answers whether there was one. It takes no memory.
-    pub fn turn(&mut self, heap: &Heap, weak: Weak) -> bool
-        requires heap { heap.now ≡ M.memory }
-        requires weak { weak ≡ M.weak }
-        ensures { IsTurn heap.now weak self.old self.new result }
+    /// Takes one object from the list. If it is grey, its white targets become grey and join the
+    /// list, and it becomes black. Returns whether there was one. It allocates nothing.
+    pub fn turn(&mut self) -> bool
+        ensures { IsTurn M.memory M.weak self.old self.new result }
     {
         let Some(object) = self.list.pop() else {
             return false;
         };
         if let Some(Shade::Grey) = self.shades.get(object as usize) {
-            blacken_listed(heap, weak, object, &mut self.shades, &mut self.list);
+            blacken_listed(
+                self.heap,
+                self.weak,
+                object,
+                &mut self.shades,
+                &mut self.list,
+            );
         }
         true
     }
 
-    /// The reachable objects: what is grey yet is marked to its end.
-    pub fn finish(self, heap: &Heap, weak: Weak) -> Marks
-        requires heap { heap.now ≡ M.memory }
-        requires weak { weak ≡ M.weak }
-        ensures { IsReachability heap.now weak result }
+    /// The reachable objects: what is still grey is marked to its end.
+    pub fn finish(self) -> Marks
+        ensures { IsReachability M.memory M.weak result }
     {
-        finish(heap, weak, self.shades)
+        finish(self.heap, self.weak, self.shades)
     }
 }

@@ -1,15 +1,16 @@
-//! Where objects wait whose slots are still to be looked at.
+//! Where grey objects wait for their scan.
 
 ghost use Rattle.std.specs.Prelude.{◌≡◌, ℕ, ◌<◌, ◌≤◌, [], ◌∷◌, ◌++◌, vec_len, vec_capacity};
 
 use crossbeam_deque::Worker;
 
-/// Takes objects that became grey. What it has no room for it drops: such an object stays grey.
+/// Takes objects that became grey. It drops what it has no room for: such an object stays grey.
 pub(crate) trait Worklist {
-    /// For how many objects it has room, and never for more; 0 for a list that makes room as it needs it.
+    /// For how many objects it has room, and never for more; 0 for a list that makes room as it
+    /// needs it.
     ghost room: { Self → ℕ };
 
-    /// Puts an object in, where there is room.
+    /// Puts an object in, if there is room.
     fn put(&mut self, object: u32)
         ensures room { room self.new ≡ room self.old };
 }
@@ -17,19 +18,22 @@ pub(crate) trait Worklist {
 impl Worklist for Worker<u32> {
     ghost room = { λ deque. 0 };
 
+    /// Pushes the object. If there is no memory for it, the object is dropped.
     fn put(&mut self, object: u32) {
-        let _refused = self.push(object);
+        let _push = self.push(object);
     }
 }
 
-/// A list that keeps within the room that was made for it, and so takes no memory.
+/// A list that keeps within the room that was made for it, and so allocates nothing.
 impl Worklist for Vec<u32> {
     ghost room = { vec_capacity };
 
     fn put(&mut self, object: u32)
         ensures room { vec_capacity self.new ≡ vec_capacity self.old }
-        ensures put { vec_len self.old < vec_capacity self.old → self.new.items ≡ self.old.items ++ object ∷ [] }
-        ensures full { vec_capacity self.old ≤ vec_len self.old → self.new.items ≡ self.old.items }
+        ensures put { vec_len self.old < vec_capacity self.old →
+            self.new.items ≡ self.old.items ++ object ∷ [] }
+        ensures full { vec_capacity self.old ≤ vec_len self.old →
+            self.new.items ≡ self.old.items }
     {
         if self.len() < self.capacity() {
             self.push_reserved(object);

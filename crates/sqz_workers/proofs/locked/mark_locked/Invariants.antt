@@ -1,4 +1,4 @@
 use Rattle.sqz_workers.proofs.locked.mark_locked.Given as goal
 
-abbrev pub ghosts-mark_in_turns : goal.ghosts-mark_in_turns
-ghosts-mark_in_turns g a = record { memory = a.heap.now; weak = a.weak }
+abbrev pub ghosts-run_workers : goal.ghosts-run_workers
+ghosts-run_workers g a = record { memory = a.self.now.heap.now; weak = a.weak }

@@ -12,7 +12,9 @@ invariant_of-result g c =
     let white = white_count-first (object_count c.args.heap.now) first.start (omega (arith, start, c.special.ensures.inside)) in
     let sized = (c.in_ok-shades.ensures.lawful g.M.MarkedMemory.weak).lawful.sized in
     let whites = rw (← first.are) at white in (
-      subst (λ (memory : Memory). AreLawfulOf memory g.M.MarkedMemory.weak c.in_ok-shades.shades.items) c.requires
+      c.requires.heap,
+      c.requires.weak,
+      subst (λ (memory : Memory). AreLawfulOf memory g.M.MarkedMemory.weak c.in_ok-shades.shades.items) c.requires.heap
           (c.in_ok-shades.ensures.lawful g.M.MarkedMemory.weak),
       rw (c.in_ok-push.ensures.items, c.in_ok-list.ensures.items)
           (omega (

@@ -9,18 +9,19 @@ use Rattle.sqz_workers.proofs.locked_marking.LockedMarking.turn.Goals as goal
 
 pub invariant_of-self-in-Grey-1 : goal.invariant_of-self-in-Grey-1
 invariant_of-self-in-Grey-1 g c =
-    let memory = c.args.heap.now in
+    let memory = c.self.inside.heap.now in let weak = c.self.inside.weak in
+    let same_memory = c.self.invariant.0 in let same_weak = c.self.invariant.1 in
     let old = c.self.inside.shades in
     let new = c.blacken_listed.new.shades in
     let step = rw c.deref_mut.ensures.value at c.blacken_listed.ensures.blackened in
     let grey : shade_at c.self.inside.shades.items c.in-Some.object ≡ Grey = search rules in
-    let law = AreLawfulOf-same c.self.inside.shades.items (sym c.requires.heap) (sym c.requires.weak) c.self.invariant.0 in
-    let next : AreLawfulOf c.args.heap.now c.args.weak c.blacken_listed.new.shades =
+    let law = AreLawfulOf-same c.self.inside.shades.items (sym same_memory) (sym same_weak) c.self.invariant.2 in
+    let next : AreLawfulOf memory weak c.blacken_listed.new.shades =
     record {
       start = law.start;
       is_special = law.is_special;
-      lawful = AreLawful-blackened (graph_from law.start memory c.args.weak) c.in-Some.object old.items new law.lawful grey step;
+      lawful = AreLawful-blackened (graph_from law.start memory weak) c.in-Some.object old.items new law.lawful grey step;
     }
     in
     rw (whole_slice old.len new old.items step.sized old.ok.0)
-    (AreLawfulOf-same new c.requires.heap c.requires.weak next, c.blacken_listed.ensures.room)
+    (same_memory, same_weak, AreLawfulOf-same new same_memory same_weak next, c.blacken_listed.ensures.room)

@@ -1,0 +1,91 @@
+//! The scan of a grey object.
+
+ghost use Rattle.std.specs.Prelude.{◌≡◌, ◌+◌, ◌<◌, ◌≤◌, ◌^◌, IsSome, IsNone, unwrap_or};
+ghost use Rattle.sqz_image.specs.Objects.{object_count};
+ghost use Rattle.sqz_trace.specs.Edges.{strong_named};
+ghost use Rattle.sqz_marks.specs.Core.{HasSeen, HasBlackened};
+ghost use Rattle.sqz_marks.specs.Table.{IsPassOf, IsSeenParent};
+ghost use Rattle.sqz_workers.specs.Gains.{HasGained, HasSeenTarget, HasBlackenedMore, IsPassedBy};
+
+use crate::worklist::Worklist;
+use sqz_image::Slot;
+use sqz_marks::{Claim, MarkTable, Pass};
+use sqz_trace::{Parent, Shade};
+
+/// Scans an object if it is grey. Returns how many objects were won, or None if it is not grey or
+/// the heap has no object with this index.
+pub(crate) fn scan_if_grey<L: Worklist>(
+    table: &MarkTable<'_>,
+    pass: &mut Pass,
+    worklist: &mut L,
+    object: u32,
+) -> Option<u32>
+    requires of { IsPassOf table.now pass.old }
+    ensures gained { HasGained pass.old pass.new (unwrap_or result 0) }
+    ensures few { unwrap_or result 0 ≤ 2 ^ 30 }
+    ensures more { IsSome result →
+        HasBlackenedMore (object_count table.now.heap.memory) pass.old.view pass.new.view }
+    ensures passed { IsNone result → object < object_count table.now.heap.memory →
+        IsPassedBy object pass.old.view pass.new.view }
+    ensures room { L.room worklist.new ≡ L.room worklist.old }
+{
+    if object >= table.heap().len() {
+        return None;
+    }
+    match table.look(pass, object) {
+        Shade::Grey => Some(scan_object(table, pass, worklist, object)),
+        Shade::White | Shade::Black => None,
+    }
+}
+
+/// Scans a grey object: claims what each of its strong slots points to, counts the objects that
+/// were won and puts them into the worklist, and makes the object black. Returns how many objects
+/// were won.
+fn scan_object<L: Worklist>(
+    table: &MarkTable<'_>,
+    pass: &mut Pass,
+    worklist: &mut L,
+    object: u32,
+) -> u32
+    requires of { IsPassOf table.now pass.old }
+    requires inside { object < object_count table.now.heap.memory }
+    requires seen { HasSeen pass.old.view object }
+    ensures gained { HasGained pass.old pass.new result }
+    ensures few { result ≤ 2 ^ 30 }
+    ensures black { HasBlackened pass.new.view object }
+    ensures room { L.room worklist.new ≡ L.room worklist.old }
+{
+    let parent = table.parent(object);
+    let mut won = claim_slot(table, pass, worklist, &parent, Slot::ClassWord);
+    for k in 0..parent.strong() {
+        won += claim_slot(table, pass, worklist, &parent, Slot::Field(k));
+    }
+    table.blacken(pass, object);
+    won
+}
+
+/// Claims what a strong slot points to; if it was won, counts it and puts it into the worklist.
+/// Returns how many objects were won.
+fn claim_slot<L: Worklist>(
+    table: &MarkTable<'_>,
+    pass: &mut Pass,
+    worklist: &mut L,
+    parent: &Parent<'_>,
+    slot: Slot,
+) -> u32
+    requires of { IsPassOf table.now pass.old }
+    requires seen { IsSeenParent table.now.heap.memory table.now.weak pass.old.view parent.now }
+    ensures gained { HasGained pass.old pass.new result }
+    ensures one { result ≤ 1 }
+    ensures target { HasSeenTarget (strong_named table.now.heap.memory parent.now slot) pass.new.view }
+    ensures room { L.room worklist.new ≡ L.room worklist.old }
+{
+    match table.claim_of(pass, parent, slot) {
+        Claim::Won(object) => {
+            table.count(pass, object);
+            worklist.put(object);
+            1
+        }
+        Claim::Seen(_) | Claim::Nothing => 0,
+    }
+}

@@ -1,0 +1,17 @@
+//! Workers that mark at one time.
+
+use crossbeam_deque::Worker;
+use sqz_marks::Pass;
+
+/// Workers with consecutive numbers. Each has a share of the pass, a deque and a place for a number.
+#[derive(Drop)]
+pub(crate) struct Team<'a> {
+    /// The number of the first worker.
+    pub first: u32,
+    /// The workers' share of the marking.
+    pub pass: &'a mut Pass,
+    /// Each worker's deque.
+    pub deques: &'a mut [Worker<u32>],
+    /// How many objects each worker wins.
+    pub won: &'a mut [u64],
+}
