@@ -7,6 +7,7 @@ pub mod laws;
 mod names;
 mod printing;
 mod row;
+mod row_maker;
 mod rows;
 mod shares;
 mod tallies;

@@ -33,7 +33,7 @@ pub(crate) fn tallies_of(
         → AreTallies heap.now weak marks.now tallies.items) }
     ensures fit { IfOk result (λ tallies. FitWords tallies.items) }
 {
-    heap_bounds(heap);
+    heap_bounds(heap); // fewer than 2^30 words in all, so no tally overflows
     let none = Tally { count: 0, words: 0 };
     let mut tallies = vec![in alloc; none; (heap.len() + COMPACT_INDEXES) as usize]?;
     for entry in entries {

@@ -34,7 +34,7 @@ pub fn image_of_file(alloc: Global, file: Vec<u8>) -> Result<Image, Fault>
     ensures image { IfOk result (λ image. Holds file.items image) }
     ensures refused { IfErr result (λ fault. ((fault ≡ OutOfMemory) × (file_fault file.items ≡ None)) ⊎ IsUnreadable file.items fault) }
 {
-    byte_bounds(&file); // its bytes are below 256
+    byte_bounds(&file); // each byte is below 256
     let offset = header_offset(&file);
     let header = read_header(&file[offset..])?;
     let prefix = Vec::from_slice(alloc, &file[..offset])?;

@@ -1,24 +1,24 @@
 -- How the fields of an object are laid out, by the format and the compact class index of its base header.
-use Rattle.std.specs.Prelude.{ℕ, Bool, true, false, ◌-◌, ◌==◌, ◌&&◌, ◌||◌, nat_le, if◌then◌else◌, List}
+use Rattle.std.specs.Prelude.{ℕ, Bool, true, false, ◌==◌, ◌&&◌, ◌||◌, if◌then◌else◌, List, [], ◌∷◌, slice_index_or}
 use Rattle.sqz_object.specs.declared.base.Base.{Base}
 use Rattle.sqz_object.specs.declared.layout.Layout.{Layout}
 use Rattle.sqz_object.specs.declared.layout.Layout.TheVariants.{Fields, Weak, Context, Words, Bytes, Method}
 use Rattle.sqz_object.specs.Value.{base_of}
 use Rattle.sqz_object.specs.Chunk.{base_word}
 
+-- the layouts of the formats 0 to 11, but for contexts; each format above is a method's
+abbrev pub layouts : List Layout
+layouts =
+    Fields ∷ Fields ∷ Fields ∷ Fields ∷ Weak ∷ Words ∷ Words ∷ Words ∷ Bytes 0 ∷ Bytes 1 ∷ Bytes 2 ∷ Bytes 3 ∷ []
+
 -- the two classes of contexts have the compact class indexes 13 and 14
 abbrev pub is_context_index : ℕ → Bool
 is_context_index index = index == 13 || index == 14
 
--- a format 3 is a context's if the compact class index is one of theirs
+-- format 3 is a context's if the compact class index is one of theirs
 abbrev pub layout_by : ℕ → ℕ → Layout
 layout_by format compact =
-    if format == 3 && is_context_index compact then Context
-    else (if nat_le format 3 then Fields
-    else (if nat_le format 4 then Weak
-    else (if nat_le format 7 then Words
-    else (if nat_le format 11 then Bytes (format - 8)
-    else Method))))
+    if format == 3 && is_context_index compact then Context else slice_index_or layouts format Method
 
 abbrev pub layout_of : Base → Layout
 layout_of base = layout_by base.format base.compact

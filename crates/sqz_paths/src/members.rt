@@ -32,7 +32,7 @@ pub fn members_of(
     ensures members { IfOk result (λ members. AreMembers heap.now weak marks.now class members.items) }
     ensures refused { IfErr result (λ fault. fault ≡ OutOfMemory) }
 {
-    heap_bounds(heap);
+    heap_bounds(heap); // fewer than 2^30 words in each chunk
     let mut members = members_by_address(alloc, heap, weak, marks, class)?;
     members.sort_by_key(
         |member: &Member| -> u32

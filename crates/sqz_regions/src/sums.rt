@@ -45,7 +45,7 @@ pub fn live_words(
     ensures room { IfOk result (λ sums. heap.now.base + 4 * sum sums.items ≤ 2 ^ 32) }
     ensures refused { IfErr result (λ fault. fault ≡ OutOfMemory) }
 {
-    heap_bounds(heap);
+    heap_bounds(heap); // fewer than 2^30 words, with addresses up to 2^32
     let count = regions.count();
     let mut sums = Vec::with_capacity(alloc, count as usize)?;
     for region in 0..count {

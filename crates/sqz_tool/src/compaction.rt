@@ -117,7 +117,7 @@ fn moved<T: Threads + Sync, G: Gate, O: StageObserver>(
 {
     let heap = image.heap();
     let weak = plan.weak;
-    heap_bounds(heap);
+    heap_bounds(heap); // fewer than 2^30 words, with addresses up to 2^32
     let forward = places_of(session.rt, session.alloc, heap, regions, marked)?;
     session.observer.finished(Stage::Place);
     let pieces = slide(

@@ -66,7 +66,7 @@ pub fn run_observed<T: Threads + Sync, G: Gate, O: StageObserver, R: Source, W: 
 {
     let bytes = read_all(session.alloc, source)?;
     session.observer.finished(Stage::Read);
-    byte_bounds(&bytes); // they are below 256
+    byte_bounds(&bytes); // each byte is below 256
     let image = image_of_file(session.alloc, bytes)?;
     session.observer.finished(Stage::Index);
     let compaction = compaction_of(session, plan, &image)?;

@@ -1,6 +1,6 @@
 -- The strong fields of an object, by its class word alone and by its class.
--- Serves `CopyLemmas` and `CompactClassLemmas`; `MovedLemmas` and `MovedShapeLemmas` of `sqz_slide`; `GroupLemmas` of `sqz_census`.
-use Rattle.std.proofs.Common.{◌≡◌, ℕ, ◌≤◌, Bool, true, false, cond, List, length, Option, Some, None, refl, ap, subst}
+-- Serves `classes::compact_class`, `CopyLemmas` and `CompactClassLemmas`; `MovedLemmas` and `MovedShapeLemmas` of `sqz_slide`; `GroupLemmas` of `sqz_census`.
+use Rattle.std.proofs.Common.{◌≡◌, ℕ, suc, ◌≤◌, Bool, true, false, cond, List, length, Option, Some, None, refl, ap, subst}
 use Rattle.std.proofs.Common.{sym, ◌∙◌, arith, inl, inr}
 use Rattle.std.proofs.lemmas.Bool.{cases_lt, lt-ltb, le-ltb}
 use Rattle.std.specs.Prelude.{option_map, option_and_then}
@@ -13,7 +13,7 @@ use Rattle.sqz_trace.specs.declared.weak.Weak.{Weak}
 use Rattle.sqz_trace.specs.Slots.{traced, class_address, class_word}
 use Rattle.sqz_trace.specs.Targets.{named_by, named_in}
 use Rattle.sqz_trace.specs.Strong.{is_weak, fixed_by, unless_above, strong_by, strong_by_word, held_by_word}
-use Rattle.sqz_trace.specs.Strong.{class_by, class_of, strong}
+use Rattle.sqz_trace.specs.Strong.{compact_classes, compact_class, class_by, class_of, strong}
 use Rattle.sqz_trace.specs.Edges.{strong_target}
 use Rattle.sqz_trace.proofs.SlotLemmas.{traced_inside}
 use Rattle.sqz_trace.proofs.TargetLemmas.{named_among-more}
@@ -78,3 +78,10 @@ strong_inside memory weak chunk =
         → cond test (unless_above count stated) other ≤ count
     by_test true count stated le = unless_above-le count stated
     by_test false count stated le = le
+
+-- the class with a compact index is held by the array of compact classes, if there is one
+pub compact_class-held : (memory : Memory) (weak : Weak) (index field array : ℕ) → index ≡ suc field
+    → compact_classes memory weak ≡ Some array → compact_class memory weak index ≡ held_by_word memory weak array field
+compact_class-held memory weak index field array next is =
+    ap (compact_class memory weak) next
+    ∙ ap (option_and_then (λ (array : ℕ). held_by_word memory weak array field)) is

@@ -44,7 +44,7 @@ fn blacken(heap: &Heap, weak: Weak, object: u32, shades: &mut [Shade]) -> u32
     ensures blackened { Blackens (HasEdge heap.now weak object) object shades.old shades.new }
     ensures lowest { IsLowest (object + 1) shades.old shades.new result }
 {
-    heap_bounds(heap);
+    heap_bounds(heap); // fewer than 2^30 objects, so `object + 1` fits
     let edges = OutEdges::of(heap, weak, object);
     let mut lowest = object + 1;
     for slot in edges.slots() {

@@ -11,8 +11,8 @@ tallies_of-requires-clause-entries g c =
     let kept = c.in_ok-entries.ensures weak (rw c.deref.ensures.value c.in_ok-classes.ensures) in
     (weak, rw c.deref-2.ensures.value kept)
 
-pub rows_of-requires-clause-inside : goal.rows_of-requires-clause-inside
-rows_of-requires-clause-inside g c κs within =
+pub rows_of-requires : goal.rows_of-requires
+rows_of-requires g c κs within =
     let weak = c.args.weak in
     let shares = c.in_ok-shares.shares.items in
     let kept = c.in_ok-entries.ensures weak (rw c.deref.ensures.value c.in_ok-classes.ensures) in
@@ -33,6 +33,6 @@ returns-clause-rows g c reach placed =
     let counted = c.in_ok-tallies.ensures.tallies weak (rw c.deref-2.ensures.value kept) in
     let in_order =
     subst (λ (tallies : List Tally). AreSharesInOrder tallies shares) c.deref-3.ensures.value c.in_ok-shares.ensures in
-    let rows_are = c.in_ok-rows.ensures ∙ ap (map (row_at memory weak places)) c.deref-4.ensures.value in
+    let rows_are = c.in_ok-rows_of.ensures ∙ ap (map (row_at memory weak places)) c.deref-4.ensures.value in
     IsCensus-rows memory weak marks places c.in_ok-entries.entries.items tallies shares kept counted in_order reach placed
-    (map shown c.in_ok-rows.rows.items) rows_are
+    (map shown c.in_ok-rows_of.rows.items) rows_are

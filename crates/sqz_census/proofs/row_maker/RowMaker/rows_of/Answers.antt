@@ -1,13 +1,13 @@
 use Rattle.std.proofs.Common.{ap, ◌∙◌}
 use Rattle.rayon.proofs.ToStd.{slice-AllZip}
 use Rattle.sqz_census.proofs.RowLemmas.{IsRowOf, rows_zipped}
-use Rattle.sqz_census.proofs.rows.rows_of.Goals as goal
+use Rattle.sqz_census.proofs.row_maker.RowMaker.rows_of.Goals as goal
 
 pub returns : goal.returns
 returns g c =
-    let memory = c.args.heap.now in
-    let weak = c.args.weak in
-    let places = c.args.forward.now in
+    let memory = c.args.self.now.heap.now in
+    let weak = c.args.self.now.weak in
+    let places = c.args.self.now.forward.now in
     let shares = c.args.shares.now in
     let slice = ap (λ it. it.slice.now) c.map.ensures.base ∙ c.par_iter.ensures in
     let done = c.in_ok-collect.ensures in
