@@ -10,7 +10,7 @@ ghost use Rattle.sqz_census.specs.Names.{shown_byte, text_in, held_name, class_n
 
 use sqz_image::{Heap, Object, Slot};
 use sqz_object::{Layout, Order, Words, put_word};
-use sqz_trace::{Parent, Weak};
+use sqz_trace::{OutEdges, Weak};
 use std::alloc::{AllocError, Global};
 
 /// The field of a class that names its name.
@@ -61,7 +61,7 @@ fn instance_name(
     ensures { IfOk result (λ name.
         option_map (λ text. text.items) name ≡ option_and_then (held_name heap.now weak) (strong_target heap.now weak class (Field 5))) }
 {
-    match Parent::of(heap, weak, class).target(heap, Slot::Field(INSTANCE)) {
+    match OutEdges::of(heap, weak, class).target(Slot::Field(INSTANCE)) {
         Some(instance) => held_name(alloc, heap, weak, instance),
         None => Ok(None),
     }
@@ -77,7 +77,7 @@ fn held_name(
     requires { object < object_count heap.now }
     ensures { IfOk result (λ name. option_map (λ text. text.items) name ≡ held_name heap.now weak object) }
 {
-    match Parent::of(heap, weak, object).target(heap, Slot::Field(NAME)) {
+    match OutEdges::of(heap, weak, object).target(Slot::Field(NAME)) {
         Some(name) => text_in(alloc, heap.order(), &heap.object(name)),
         None => Ok(None),
     }

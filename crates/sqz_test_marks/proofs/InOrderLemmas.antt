@@ -1,12 +1,14 @@
 -- What calls leave of a pass, step by step, and where the edges of an object with few fields lead.
 -- Serves `in_order::mark_special` and `::mark_others`.
-use Rattle.std.proofs.Common.{◌≡◌, ◌⊎◌, ℕ, ◌<◌, ◌+◌, Option, Some, refl, sym, ap, subst, ◌∙◌, arith, inl, inr}
+use Rattle.std.proofs.Common.{◌≡◌, ◌⊎◌, ℕ, ◌<◌, Option, Some, sym, ap, subst, ◌∙◌, arith, inl, inr}
+use Rattle.std.proofs.lemmas.Bool.{cases_lt}
+use Rattle.std.proofs.lemmas.Option.{same_Some}
+use Rattle.sqz_image.specs.declared.fault.Slot.{Slot}
 use Rattle.sqz_image.specs.declared.fault.Slot.TheVariants.{ClassWord, Field}
 use Rattle.sqz_image.specs.Objects.{Memory, chunk_words}
 use Rattle.sqz_trace.specs.declared.weak.Weak.{Weak}
-use Rattle.sqz_trace.specs.Targets.{IsTargetBelow}
-use Rattle.sqz_trace.specs.Edges.{parent_at, strong_target, HasEdge}
-use Rattle.sqz_trace.proofs.TargetLemmas.{IsTargetBelow-none, IsTargetBelow-next, IsTargetBelow-edge}
+use Rattle.sqz_trace.specs.Edges.{out_edges, strong_target, HasEdge}
+use Rattle.sqz_trace.proofs.TargetLemmas.{named_among-cases}
 use Rattle.sqz_trace.specs.declared.shades.Shade.{Shade}
 use Rattle.sqz_marks.specs.declared.view.View.{View}
 use Rattle.sqz_marks.specs.declared.claim.Claim.{Claim}
@@ -80,41 +82,36 @@ module _ (first : HeldPass) where
 -- ---- edges
 
 module _ (memory : Memory) (weak : Weak) (object : ℕ) where
-  abbrev IsBelow : ℕ → ℕ → Type 0
-  IsBelow count index = IsTargetBelow memory (chunk_words memory object) count index
-
-  module _ (fields : ℕ) (has : HasFields memory weak object fields) where
-    -- an edge is by one of the fields
-    HasEdge-below : (index : ℕ) → HasEdge memory weak object index → IsBelow fields index
-    HasEdge-below index edge =
-        subst (λ (count : ℕ). IsBelow count index) has.strong
-        (IsTargetBelow-edge memory weak object (parent_at memory weak object) refl index edge)
-
-    -- and not by the class word
-    IsBelow-some : (index : ℕ) → IsBelow 0 index → ⊥
-    IsBelow-some index named =
-        absurd (cc (sym has.class ∙ IsTargetBelow-none memory (chunk_words memory object) index named))
-
-    -- by a field, or by one before
-    IsBelow-next : (k index : ℕ) → k < fields → IsBelow (k + 1) index
-        → IsBelow k index ⊎ (strong_target memory weak object (Field k) ≡ Some index)
-    IsBelow-next k index inside named =
-        IsTargetBelow-next memory (chunk_words memory object) (parent_at memory weak object).strong k index
-        (omega (arith, inside, has.strong)) named
+  -- an edge is by one of the fields, and not by the class word
+  HasEdge-field : (fields : ℕ) → HasFields memory weak object fields → (index : ℕ) → HasEdge memory weak object index
+      → (k : ℕ) × (k < fields) × (strong_target memory weak object (Field k) ≡ Some index)
+  HasEdge-field fields has index edge = by_slot edge.slot edge.names
+    where
+      by_slot : (slot : Slot) → strong_target memory weak object slot ≡ Some index
+          → (k : ℕ) × (k < fields) × (strong_target memory weak object (Field k) ≡ Some index)
+      by_slot ClassWord names = absurd (cc (sym has.class ∙ names))
+      by_slot (Field k) names =
+          let words = chunk_words memory object in
+          let inside = (named_among-cases memory words (out_edges memory weak object).strong k index names).0 in
+          (k, omega (arith, inside, has.strong), names)
 
   -- an object without fields has no edge
   pub HasEdge-none : HasFields memory weak object 0 → (index : ℕ) → HasEdge memory weak object index → ⊥
-  HasEdge-none has index edge = IsBelow-some 0 has index (HasEdge-below 0 has index edge)
+  HasEdge-none has index edge = let found = HasEdge-field 0 has index edge in absurd (omega (arith, found.1))
+
+  -- two edges by one field lead to one object
+  same_target : (k first index : ℕ) → strong_target memory weak object (Field k) ≡ Some first
+      → (j : ℕ) → j ≡ k → strong_target memory weak object (Field j) ≡ Some index → first ≡ index
+  same_target k first index leads j same names =
+      same_Some _ _ (sym leads ∙ ap (λ (i : ℕ). strong_target memory weak object (Field i)) (sym same) ∙ names)
 
   -- an edge by the only field leads where that does
   pub HasEdge-one : HasFields memory weak object 1 → (first index : ℕ)
       → strong_target memory weak object (Field 0) ≡ Some first
       → HasEdge memory weak object index → first ≡ index
   HasEdge-one has first index leads edge =
-      elim (IsBelow-next 1 has 0 index (omega arith) (HasEdge-below 1 has index edge)) [
-        | inl none ↦ absurd (IsBelow-some 1 has index none)
-        | inr named ↦ (let same : Some first ≡ Some index = sym leads ∙ named in cc)
-      ]
+      let found = HasEdge-field 1 has index edge in
+      same_target 0 first index leads found.0 (omega (arith, found.1)) found.2
 
   -- an edge by one of two fields leads where one of these does
   pub HasEdge-two : HasFields memory weak object 2 → (first second index : ℕ)
@@ -122,10 +119,8 @@ module _ (memory : Memory) (weak : Weak) (object : ℕ) where
       → strong_target memory weak object (Field 1) ≡ Some second
       → HasEdge memory weak object index → (first ≡ index) ⊎ (second ≡ index)
   HasEdge-two has first second index leads others edge =
-      elim (IsBelow-next 2 has 1 index (omega arith) (HasEdge-below 2 has index edge)) [
-        | inl before ↦ elim (IsBelow-next 2 has 0 index (omega arith) before) [
-          | inl none ↦ absurd (IsBelow-some 2 has index none)
-          | inr named ↦ inl (let same : Some first ≡ Some index = sym leads ∙ named in cc)
-        ]
-        | inr named ↦ inr (let same : Some second ≡ Some index = sym others ∙ named in cc)
+      let found = HasEdge-field 2 has index edge in
+      elim (cases_lt found.0 1) [
+        | inl lt ↦ inl (same_target 0 first index leads found.0 (omega (arith, lt)) found.2)
+        | inr ge ↦ inr (same_target 1 second index others found.0 (omega (arith, ge, found.1)) found.2)
       ]

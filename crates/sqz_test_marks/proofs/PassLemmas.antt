@@ -4,11 +4,9 @@
 -- `targets::mark_targets`; `InOrderLemmas`.
 use Rattle.std.proofs.Common.{◌≡◌, ◌≢◌, ◌⊎◌, ℕ, ◌<◌, List, ◌∷◌, Option, Some, None, refl, sym, ap, subst, ◌∙◌, arith, inl, inr}
 use Rattle.sqz_image.specs.declared.fault.Slot.{Slot}
-use Rattle.sqz_image.specs.Objects.{Memory, object_count}
 use Rattle.sqz_trace.specs.declared.shades.Shade.{Shade}
 use Rattle.sqz_trace.specs.declared.shades.Shade.TheVariants.{White, Grey, Black}
-use Rattle.sqz_trace.specs.Edges.{Parent, strong_named}
-use Rattle.sqz_trace.proofs.EdgeLemmas.{named_among-lt}
+use Rattle.sqz_trace.specs.Edges.{OutEdges, edge_target}
 use Rattle.sqz_marks.specs.declared.view.View.{View}
 use Rattle.sqz_marks.specs.declared.claim.Claim.{Claim}
 use Rattle.sqz_marks.specs.declared.claim.Claim.TheVariants.{Won, Seen, Nothing}
@@ -163,32 +161,26 @@ HasCountedAll-rejoined whole first second third fourth both weight all kept part
 
 -- ---- targets that were claimed
 
-module _ (memory : Memory) (old new : HeldPass) (parent : Parent) (slot : Slot) where
+module _ (old new : HeldPass) (edges : OutEdges) (slot : Slot) where
   abbrev IsNamed : ℕ → Type 0
-  IsNamed object = strong_named memory parent slot ≡ Some object
+  IsNamed object = edge_target edges slot ≡ Some object
 
-  -- what was won is an object
-  pub IsClaim-inside : (found : ℕ) → IsClaim (strong_named memory parent slot) old new (Won found) → found < object_count memory
-  IsClaim-inside found claim =
-      let names = (IsClaim-won old new (strong_named memory parent slot) found claim).0 in
-      named_among-lt memory parent.strong parent.words slot found names
-
-  -- what a slot names was claimed, and was not won
+  -- the target of a slot was claimed, and was not won
   pub ClaimsTargets-slot : (answer : Claim) → ((found : ℕ) → answer ≢ Won found)
-      → IsClaim (strong_named memory parent slot) old new answer → ClaimsTargets IsNamed old new
+      → IsClaim (edge_target edges slot) old new answer → ClaimsTargets IsNamed old new
   ClaimsTargets-slot answer not_won claim =
       record {
-        later = IsClaim-later old new answer not_won (strong_named memory parent slot) claim;
+        later = IsClaim-later old new answer not_won (edge_target edges slot) claim;
         targets = λ object names.
             IsClaim-sees old new answer not_won object (subst (λ (n : Option ℕ). IsClaim n old new answer) names claim);
       }
 
   -- what was won is counted
-  pub ClaimsTargets-won : (found : ℕ) (third : HeldPass) → IsClaim (strong_named memory parent slot) old new (Won found)
+  pub ClaimsTargets-won : (found : ℕ) (third : HeldPass) → IsClaim (edge_target edges slot) old new (Won found)
       → third ≡ knowing new (counted found new.view) → ClaimsTargets IsNamed old third
   ClaimsTargets-won found third claim step =
-      let names = (IsClaim-won old new (strong_named memory parent slot) found claim).0 in
-      let both = IsClaim-counted old new (strong_named memory parent slot) found third claim step in
+      let names = (IsClaim-won old new (edge_target edges slot) found claim).0 in
+      let both = IsClaim-counted old new (edge_target edges slot) found third claim step in
       record {
         later = both.1;
         targets = λ object named. let same : Some found ≡ Some object = sym names ∙ named in

@@ -4,13 +4,13 @@ use Rattle.sqz_image.specs.declared.fault.Slot.TheVariants.{ClassWord}
 use Rattle.sqz_image.specs.Objects.{Memory, object_count}
 use Rattle.sqz_trace.specs.declared.weak.Weak.{Weak}
 use Rattle.sqz_trace.specs.declared.shades.Shade.TheVariants.{White, Grey, Black}
-use Rattle.sqz_trace.specs.Edges.{parent_at, strong_target}
+use Rattle.sqz_trace.specs.Edges.{out_edges, strong_target}
 use Rattle.sqz_marks.specs.declared.view.View.{View}
 use Rattle.sqz_marks.specs.Core.{first_view, looked, seen_by, won_by, counted, blackened}
 
 -- an object has so many strong fields, and its class word points to no object
 pub record HasFields (memory : Memory) (weak : Weak) (object fields : ℕ) : Type 0 where
-  pub strong : (parent_at memory weak object).strong ≡ fields
+  pub strong : (out_edges memory weak object).strong ≡ fields
   pub class : strong_target memory weak object ClassWord ≡ None
 
 -- the fields of the live objects of the dead cycle's image

@@ -15,7 +15,7 @@ use sqz_marks::{Claim, Closed, MarkTable, Pass, Workers};
 use sqz_regions::{Cut, Regions};
 use sqz_fixtures::accepted::DEAD_CYCLE;
 use sqz_fixtures::image_of;
-use sqz_trace::{Parent, Shade, Weak};
+use sqz_trace::{OutEdges, Shade, Weak, strong};
 use std::process::Abort;
 use std::test::Fail;
 
@@ -24,10 +24,9 @@ fn assert_fields<R: Abort>(rt: &R, heap: &Heap, object: u32, fields: u32)
     requires { object < object_count heap.now }
     ensures { HasFields heap.now Keep object fields }
 {
-    let parent = Parent::of(heap, Weak::Keep, object);
-    let class = parent.target(heap, Slot::ClassWord);
+    let class = OutEdges::of(heap, Weak::Keep, object).target(Slot::ClassWord);
     assert!(rt;
-        parent.strong() == fields && class.is_none(),
+        strong(heap, Weak::Keep, object) == fields && class.is_none(),
         "object {object}"
     );
 }

@@ -1,39 +1,40 @@
-//! All that an object names is claimed.
+//! All objects that the strong slots of an object point to are claimed.
 
 ghost use Rattle.std.specs.Prelude.{◌≡◌, ◌<◌, OnOk, Some};
 ghost use Rattle.sqz_image.specs.Objects.{object_count};
-ghost use Rattle.sqz_trace.specs.Edges.{strong_named, HasEdge};
+ghost use Rattle.sqz_trace.specs.Edges.{edge_target, HasEdge};
 ghost use Rattle.sqz_marks.specs.Core.{HasSeen};
-ghost use Rattle.sqz_marks.specs.Table.{IsPassOf, IsSeenParent};
+ghost use Rattle.sqz_marks.specs.Table.{IsPassOf, AreEdgesOfSeen};
 ghost use Rattle.sqz_test_marks.specs.Passes.{ClaimsTargets};
 
 use sqz_image::Slot;
 use sqz_marks::{Claim, MarkTable, Pass};
-use sqz_trace::Parent;
+use sqz_trace::OutEdges;
 use std::alloc::AllocError;
 
-/// Claims the object that a strong slot names. Where the pass won it, it is counted and added to a list.
+/// Claims the object that a strong slot points to. If the pass won it, it is counted and added to a
+/// list.
 fn claim_target(
     table: &MarkTable<'_>,
     pass: &mut Pass,
-    parent: &Parent<'_>,
+    edges: &OutEdges<'_>,
     slot: Slot,
     won: &mut Vec<u32>,
 ) -> Result<(), AllocError>
     requires of { IsPassOf table.now pass.old }
-    requires seen { IsSeenParent table.now.heap.memory table.now.weak pass.old.view parent.now }
-    ensures { OnOk result (ClaimsTargets (λ object. strong_named table.now.heap.memory parent.now slot ≡ Some object)
+    requires seen { AreEdgesOfSeen table.now.heap.memory table.now.weak pass.old.view edges.now }
+    ensures { OnOk result (ClaimsTargets (λ object. edge_target edges.now slot ≡ Some object)
         pass.old pass.new) }
 {
-    if let Claim::Won(found) = table.claim_of(pass, parent, slot) {
+    if let Claim::Won(found) = table.claim_of(pass, edges, slot) {
         table.count(pass, found);
         won.push(found)?;
     }
     Ok(())
 }
 
-/// Claims all objects that strong slots of an object name, counts those that the pass won and adds them to a list, and makes the object
-/// black.
+/// Claims all objects that strong slots of an object point to, counts those that the pass won and
+/// adds them to a list, and makes the object black.
 pub(crate) fn mark_targets(
     table: &MarkTable<'_>,
     pass: &mut Pass,
@@ -45,10 +46,9 @@ pub(crate) fn mark_targets(
     requires seen { HasSeen pass.old.view object }
     ensures { OnOk result (ClaimsTargets (HasEdge table.now.heap.memory table.now.weak object) pass.old pass.new) }
 {
-    let parent = table.parent(object);
-    claim_target(table, pass, &parent, Slot::ClassWord, won)?;
-    for k in 0..parent.strong() {
-        claim_target(table, pass, &parent, Slot::Field(k), won)?;
+    let edges = table.edges(object);
+    for slot in edges.slots() {
+        claim_target(table, pass, &edges, slot, won)?;
     }
     table.blacken(pass, object);
     Ok(())

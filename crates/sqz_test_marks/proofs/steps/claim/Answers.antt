@@ -1,14 +1,14 @@
-use Rattle.sqz_trace.specs.Edges.{parent_at, strong_target}
+use Rattle.sqz_trace.specs.Edges.{out_edges, strong_target}
 use Rattle.sqz_trace.proofs.EdgeLemmas.{named_among-lt}
 use Rattle.sqz_test_marks.proofs.PassLemmas.{IsClaim-won, IsClaim-wins, IsClaim-counted, IsClaim-later, IsClaim-knows}
 use Rattle.sqz_test_marks.proofs.steps.claim.Goals as goal
 
 pub count-requires-clause-inside : goal.count-requires-clause-inside
 count-requires-clause-inside c =
-    let table = c.args.table.now in let parent = parent_at table.heap.memory table.weak c.args.parent in
+    let table = c.args.table.now in let edges = out_edges table.heap.memory table.weak c.args.parent in
     let named = strong_target table.heap.memory table.weak c.args.parent c.args.slot in
     let won = IsClaim-won c.args.pass.now c.claim-found.new.pass named c.in-Won.object c.in-Won.ensures.claim in
-    named_among-lt table.heap.memory parent.strong parent.words c.args.slot c.in-Won.object won.0
+    named_among-lt table.heap.memory edges.strong edges.words c.args.slot c.in-Won.object won.0
 
 pub count-requires-clause-won : goal.count-requires-clause-won
 count-requires-clause-won c =

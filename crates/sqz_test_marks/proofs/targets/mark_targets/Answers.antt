@@ -1,51 +1,43 @@
-use Rattle.std.proofs.Common.{◌≡◌, ◌<◌, ◌+◌, ℕ, subst, arith, Some}
-use Rattle.sqz_image.specs.declared.fault.Slot.TheVariants.{ClassWord}
-use Rattle.sqz_trace.specs.Edges.{HasEdge}
-use Rattle.sqz_trace.specs.Targets.{named_in, IsTargetBelow}
-use Rattle.sqz_trace.proofs.TargetLemmas.{IsTargetBelow-none, IsTargetBelow-next, IsTargetBelow-edge, IsTargetOf}
+use Rattle.std.proofs.Common.{◌≡◌, [], ◌∷◌, ◌++◌, ◌∙◌, ℕ, Some}
+use Rattle.sqz_trace.specs.Edges.{strong_slots, edge_target, IsTargetAmong, HasEdge}
+use Rattle.sqz_trace.proofs.TargetLemmas.{slots_at_end, IsTargetAmong-next, IsTargetAmong-edge}
 use Rattle.sqz_test_marks.proofs.PassLemmas.{ClaimsTargets-of, ClaimsTargets-then, ClaimsTargets-blackened}
 use Rattle.sqz_test_marks.proofs.targets.mark_targets.Goals as goal
+use Rattle.sqz_test_marks.proofs.targets.mark_targets.Goals.{In-None}
 
-pub claim_target-requires-in-loop-k-clause-seen : goal.claim_target-requires-in-loop-k-clause-seen
-claim_target-requires-in-loop-k-clause-seen c =
+pub claim_target-requires-clause-seen : goal.claim_target-requires-clause-seen
+claim_target-requires-clause-seen c =
     record {
       object = c.args.object;
       inside = c.requires.inside;
-      seen = c.loop-k.invariant.later.keeps c.args.object c.requires.seen;
-      its = c.parent-parent.ensures;
+      seen = c.loop-slot.invariant.later.keeps c.args.object c.requires.seen;
+      its = c.edges-edges.ensures;
     }
 
-pub loop-k-init : goal.loop-k-init
-loop-k-init c =
-    let memory = c.args.table.now.heap.memory in let words = c.parent-parent.result.words in
-    ClaimsTargets-of (λ object. named_in memory words ClassWord ≡ Some object) (IsTargetBelow memory words 0) c.args.pass.now
-    c.claim_target.new.pass (IsTargetBelow-none memory words) c.in_ok-claim_target.ensures
+pub loop-slot-preserved : goal.loop-slot-preserved
+loop-slot-preserved c =
+    let edges = c.edges-edges.result in let slots = c.loop-slot.yielded in let slot = c.in-Some.slot in
+    ClaimsTargets-then (IsTargetAmong edges slots) (λ index. edge_target edges slot ≡ Some index)
+    (IsTargetAmong edges (slots ++ slot ∷ [])) c.args.pass.now c.loop-slot.pass c.claim_target.new.pass
+    (IsTargetAmong-next edges slots slot) c.loop-slot.invariant c.in_ok-claim_target.ensures
 
-pub loop-k-preserved : goal.loop-k-preserved
-loop-k-preserved c =
-    let memory = c.args.table.now.heap.memory in let parent = c.parent-parent.result in let k = c.loop-k.k in
-    let lt : c.loop-k.k < c.parent-parent.result.strong = omega (arith, c.loop-k-test.true, c.strong-k-end.ensures.strong) in
-    ClaimsTargets-then (IsTargetBelow memory parent.words k) (IsTargetOf memory parent.words parent.strong k)
-    (IsTargetBelow memory parent.words (k + 1)) c.args.pass.now c.loop-k.pass c.claim_target-in-loop-k.new.pass
-    (λ index. IsTargetBelow-next memory parent.words parent.strong k index lt)
-    c.loop-k.invariant c.in_ok-claim_target-2.ensures
+-- the object's edges lead to targets of the slots, all of which the loop went through
+target_at_end : (c : In-None) (index : ℕ) → HasEdge c.args.table.now.heap.memory c.args.table.now.weak c.args.object index
+    → IsTargetAmong c.edges-edges.result c.loop-slot.yielded index
+target_at_end c =
+    let table = c.args.table.now in let edges = c.edges-edges.result in
+    IsTargetAmong-edge table.heap.memory table.weak c.args.object edges c.edges-edges.ensures c.loop-slot.yielded
+    (slots_at_end (strong_slots edges) _ (c.into_iter-slot-iterator.ensures.into_iter_gives ∙ c.slots-slot-items.ensures)
+    c.loop-slot.yielded _ c.loop-slot.yielded_by _ _ c.in-None.is c.next.ensures.steps)
 
 pub blacken-requires-clause-targets : goal.blacken-requires-clause-targets
 blacken-requires-clause-targets c = λ target edge.
-    let table = c.args.table.now in let parent = c.parent-parent.result in
-    let all : parent.strong ≡ c.loop-k.k = omega (arith, c.strong-k-end.ensures.strong, c.loop-k-test.false, c.loop-k.auto.k-end) in
-    c.loop-k.invariant.targets target
-    (subst (λ (n : ℕ). IsTargetBelow table.heap.memory parent.words n target) all
-    (IsTargetBelow-edge table.heap.memory table.weak c.args.object parent c.parent-parent.ensures target edge))
+    c.loop-slot.invariant.targets target (target_at_end (goal.at.blacken-requires-clause-targets c).In-None target edge)
 
 pub returns : goal.returns
 returns c =
-    let table = c.args.table.now in let parent = c.parent-parent.result in
-    let all : parent.strong ≡ c.loop-k.k = omega (arith, c.strong-k-end.ensures.strong, c.loop-k-test.false, c.loop-k.auto.k-end) in
-    let IsTarget = HasEdge table.heap.memory table.weak c.args.object in
-    ClaimsTargets-blackened IsTarget c.args.object c.args.pass.now c.loop-k.pass c.blacken.new.pass
+    let IsTarget = HasEdge c.args.table.now.heap.memory c.args.table.now.weak c.args.object in
+    ClaimsTargets-blackened IsTarget c.args.object c.args.pass.now c.loop-slot.pass c.blacken.new.pass
     c.blacken.ensures.step
-    (ClaimsTargets-of (IsTargetBelow table.heap.memory parent.words c.loop-k.k) IsTarget c.args.pass.now c.loop-k.pass
-    (λ target edge. subst (λ (n : ℕ). IsTargetBelow table.heap.memory parent.words n target) all
-    (IsTargetBelow-edge table.heap.memory table.weak c.args.object parent c.parent-parent.ensures target edge))
-    c.loop-k.invariant)
+    (ClaimsTargets-of (IsTargetAmong c.edges-edges.result c.loop-slot.yielded) IsTarget c.args.pass.now c.loop-slot.pass
+    (target_at_end (goal.at.returns c).In-None) c.loop-slot.invariant)
