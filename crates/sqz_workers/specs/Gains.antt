@@ -15,13 +15,14 @@ KeepsBlackened old new = (object : ℕ) → HasBlackened old object → HasBlack
 abbrev pub KeepsWon : View → View → Type 0
 KeepsWon old new = (object : ℕ) → times object old.won ≤ times object new.won
 
--- a pass counted each object as many times more as it won it more: it counted what it won, and, if it keeps what it had won,
--- what it had counted it still has
+-- a pass counted each object as many times more as it won it more: it counted what it won, and, if it
+-- keeps what it had won, what it had counted it still has
 abbrev pub CountsWhatItWins : View → View → Type 0
-CountsWhatItWins old new = (object : ℕ) → times object new.counted + times object old.won ≡ times object old.counted + times object new.won
+CountsWhatItWins old new =
+    (object : ℕ) → times object new.counted + times object old.won ≡ times object old.counted + times object new.won
 
--- the same pass, of the same weight: it has won n objects more, and counted these and no other; and what it had won, seen, counted,
--- or known to be black, it still has
+-- the same pass, of the same weight: it has won n objects more, and counted these and no other; and
+-- what it had won, seen, counted, or known to be black, it still has
 pub record HasGained (old new : HeldPass) (objects : ℕ) : Type 0 where
   pub table : new.table ≡ old.table
   pub workers : new.workers ≡ old.workers
@@ -56,12 +57,14 @@ pub record HasBlackenedMore (count : ℕ) (old new : View) : Type 0 where
   pub before : times object old.blackened ≡ 0
   pub now : HasBlackened new object
 
--- a pass looked at an object that is not grey: it has won none more, and if it won this one, it knows it to be black
+-- a pass looked at an object that is not grey: it has won none more, and if it won this one, it knows
+-- it to be black
 pub record IsPassedBy (object : ℕ) (old new : View) : Type 0 where
   pub won : new.won ≡ old.won
   pub black : IsBlackIfWon new object
 
--- a closed table shows what a pass knew that had scanned each object, and had won as many objects as the workers did, or more
+-- a closed table shows what a pass knew that had scanned each object, and had won at least as many
+-- objects as the workers did
 pub record HasEnded (memory : Memory) (weak : Weak) (won : List ℕ) (shades : List Shade) : Type 0 where
   pub view : View
   pub closed : AreClosed memory weak view shades

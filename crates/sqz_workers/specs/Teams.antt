@@ -4,8 +4,8 @@ use Rattle.sqz_marks.specs.Table.{SharedMarks, IsPassOf}
 use Rattle.sqz_workers.specs.declared.team.Team.{Team}
 use Rattle.sqz_workers.specs.Gains.{HasGained}
 
--- a team has at least one worker; its pass is of this table, each share of the pass has a deque and a place for a number, and the
--- workers' numbers are below 64
+-- a team has at least one worker; its pass is of this table, each share of the pass has a deque and a
+-- place for a number, and the workers' numbers are below 64
 pub record IsTeamOf (marks : SharedMarks) (team : Team) : Type 0 where
   pub of : IsPassOf marks team.pass.now
   pub shares : team.pass.now.view.weight ≡ length team.won.now

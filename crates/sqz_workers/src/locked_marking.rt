@@ -36,6 +36,7 @@ pub(crate) struct LockedMarking<'a, M: MarkedMemory> {
     shades: Shades,
     /// Grey objects, with room for all that are white yet.
     list: Vec<u32>,
+    /// By its type the lock knows which heap and policy these are.
     of: PhantomData<M>,
 }
 

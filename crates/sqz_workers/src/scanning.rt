@@ -77,7 +77,8 @@ fn claim_slot<L: Worklist>(
     requires seen { IsSeenParent table.now.heap.memory table.now.weak pass.old.view parent.now }
     ensures gained { HasGained pass.old pass.new result }
     ensures one { result ≤ 1 }
-    ensures target { HasSeenTarget (strong_named table.now.heap.memory parent.now slot) pass.new.view }
+    ensures seen { HasSeenTarget (strong_named table.now.heap.memory parent.now slot)
+        pass.new.view }
     ensures room { L.room worklist.new ≡ L.room worklist.old }
 {
     match table.claim_of(pass, parent, slot) {

@@ -3,7 +3,8 @@
 use crossbeam_deque::Worker;
 use sqz_marks::Pass;
 
-/// Workers with consecutive numbers. Each has a share of the pass, a deque and a place for a number.
+/// Workers with consecutive numbers. Each has a share of the pass, a deque, and a place for the
+/// number of objects that it wins.
 #[derive(Drop)]
 pub(crate) struct Team<'a> {
     /// The number of the first worker.

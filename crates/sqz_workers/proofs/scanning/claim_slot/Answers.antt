@@ -21,6 +21,6 @@ returns-in-Seen g c =
             | inr nothing ↦ (let no : Nothing ≡ Won object = sym nothing ∙ won in cc)
           ]);
       one = omega arith;
-      target = HasSeenTarget-claimed c.args.pass.now c.claim_of.new.pass c.claim_of.result names c.claim_of.ensures.claim;
+      seen = HasSeenTarget-claimed c.args.pass.now c.claim_of.new.pass c.claim_of.result names c.claim_of.ensures.claim;
       room = refl;
     }

@@ -26,7 +26,7 @@ loop-k-preserved g c =
           HasGained-then c.args.pass.now before.pass after.new.pass before.won after.result before.invariant.gained after.ensures.gained;
       few = omega (arith, before.invariant.few, after.ensures.one);
       seen = HasSeenBelow-next c.args.table.now.heap.memory parent.words parent.strong before.k before.pass.view after.new.pass.view lt
-          before.invariant.seen after.ensures.gained.seen after.ensures.target;
+          before.invariant.seen after.ensures.gained.seen after.ensures.seen;
       room = after.ensures.room ∙ before.invariant.room;
     }
 

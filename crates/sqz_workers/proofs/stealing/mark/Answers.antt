@@ -1,5 +1,4 @@
-use Rattle.std.proofs.Common.{◌≡◌, ℕ, length, sum, sym, ap, subst, ◌∙◌, arith, rules}
-use Rattle.sqz_trace.proofs.MarkingLemmas.{whole_slice}
+use Rattle.std.proofs.Common.{sum, sym, ap, subst, ◌∙◌, rules}
 use Rattle.sqz_image.specs.Objects.{Memory, object_count}
 use Rattle.sqz_regions.specs.Regions.{Regioning}
 use Rattle.sqz_marks.specs.declared.view.View.{View}
