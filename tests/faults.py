@@ -50,7 +50,7 @@ RESERVATIONS = 1
 CHAIN = 500_000
 
 # The tests that make calls again, and all calls that can want memory but the program's own.
-CALLS_AGAIN = os.path.join(ROOT, "crates", "sqz_test_allocation", "out", "sqz_test_refusals_tests")
+CALLS_AGAIN = os.path.join(ROOT, "crates", "sqz_test_allocation", "out", "sqz_test_allocation_tests")
 TESTS_AGAIN = ("reading::reading_serves_again", "stages::stages_serve_again", "tables::mark_table_serves_again", "runs::run_serves_again",
                "runs::run_serves_over_new_devices")
 CALLS = {

@@ -7,8 +7,8 @@ use Rattle.std.proofs.lemmas.Bool.{cases_lt, cases_Bool, lt-ltb, le-ltb, eq-eqb,
 use Rattle.sqz_object.specs.declared.chunk.Kind.{Kind}
 use Rattle.sqz_object.specs.declared.chunk.Kind.TheVariants.{Three, Two, Free, Short}
 use Rattle.sqz_object.specs.Chunk.{chunk_kind, compact_index}
-use Rattle.sqz_image.specs.declared.fault.Slot.{Slot}
-use Rattle.sqz_image.specs.declared.fault.Slot.TheVariants.{ClassWord, Field}
+use Rattle.sqz_image.specs.declared.slot.Slot.{Slot}
+use Rattle.sqz_image.specs.declared.slot.Slot.TheVariants.{ClassWord, Field}
 use Rattle.sqz_image.specs.Objects.{Memory, Object, objects, object_count, chunk_words}
 use Rattle.sqz_image.proofs.ObjectLemmas.{find_in-lt}
 use Rattle.sqz_trace.specs.declared.weak.Weak.{Weak}

@@ -3,7 +3,7 @@
 ghost use Rattle.std.specs.Prelude.{◌≡◌, ◌++◌, ◌<◌, ◌*◌, ◌≤◌, codes, decimal, length, map, take};
 ghost use Rattle.std.specs.Prelude.{IfOk, option_and_then, option_map};
 ghost use Rattle.sqz_object.specs.Bytes.{spelling_of};
-ghost use Rattle.sqz_image.specs.declared.fault.Slot.TheVariants.{Field};
+ghost use Rattle.sqz_image.specs.declared.slot.Slot.TheVariants.{Field};
 ghost use Rattle.sqz_image.specs.Objects.{object_count};
 ghost use Rattle.sqz_trace.specs.Edges.{strong_target};
 ghost use Rattle.sqz_census.specs.Names.{shown_byte, text_in, held_name, class_name};

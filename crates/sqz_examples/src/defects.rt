@@ -6,7 +6,7 @@
 ghost use Rattle.std.specs.Prelude.{[], ◌∷◌, replicate};
 ghost use Rattle.sqz_object.specs.declared.order.Order.TheVariants.{Little};
 ghost use Rattle.sqz_image.specs.declared.fault.Fault.TheVariants.{NoClass, BadMethod, BadContext, BadPointer};
-ghost use Rattle.sqz_image.specs.declared.fault.Slot.TheVariants.{ClassWord, Field};
+ghost use Rattle.sqz_image.specs.declared.slot.Slot.TheVariants.{ClassWord, Field};
 ghost use Rattle.sqz_trace.specs.declared.weak.Weak.TheVariants.{Keep};
 ghost use Rattle.sqz_tool.specs.Verdict.{IsRefused};
 ghost use Rattle.sqz_examples.specs.Worked.{file_of};

@@ -3,7 +3,7 @@
 //! The image is that of [`crate::compacted`] with a dead cycle: objects 2 and 4 are dead, and objects 1 and 3 name each other.
 
 ghost use Rattle.std.specs.Prelude.{◌≡◌, [], ◌∷◌, map, Some};
-ghost use Rattle.sqz_image.specs.declared.fault.Slot.TheVariants.{Field};
+ghost use Rattle.sqz_image.specs.declared.slot.Slot.TheVariants.{Field};
 ghost use Rattle.sqz_trace.specs.declared.weak.Weak.TheVariants.{Keep};
 ghost use Rattle.sqz_trace.specs.Edges.{strong_target};
 ghost use Rattle.sqz_regions.specs.Places.{place};

@@ -5,7 +5,7 @@
 //! 4 is that array, which names object 3, whose class word names object 2.
 
 ghost use Rattle.std.specs.Prelude.{[], ◌∷◌};
-ghost use Rattle.sqz_image.specs.declared.fault.Slot.TheVariants.{ClassWord, Field};
+ghost use Rattle.sqz_image.specs.declared.slot.Slot.TheVariants.{ClassWord, Field};
 ghost use Rattle.sqz_trace.specs.declared.weak.Weak.TheVariants.{Keep};
 ghost use Rattle.sqz_paths.specs.Paths.{IsShortestPath, IsUnreachable};
 ghost use Rattle.sqz_paths.specs.Members.{AreMembers};

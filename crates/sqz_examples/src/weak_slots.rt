@@ -7,7 +7,7 @@
 ghost use Rattle.std.specs.Prelude.{[], ◌∷◌};
 ghost use Rattle.sqz_object.specs.declared.order.Order.TheVariants.{Little, Big};
 ghost use Rattle.sqz_image.specs.declared.fault.Fault.TheVariants.{NoClass, BadWeak, NoNil, BadPointer};
-ghost use Rattle.sqz_image.specs.declared.fault.Slot.TheVariants.{Field};
+ghost use Rattle.sqz_image.specs.declared.slot.Slot.TheVariants.{Field};
 ghost use Rattle.sqz_trace.specs.declared.weak.Weak.TheVariants.{Keep, Clear};
 ghost use Rattle.sqz_tool.specs.Verdict.{IsRefused};
 ghost use Rattle.sqz_examples.specs.Worked.{file_of, CompactsTo};

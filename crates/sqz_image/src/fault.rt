@@ -4,27 +4,9 @@ ghost use Rattle.std.specs.Prelude.{◌≡◌};
 ghost use Rattle.sqz_image.specs.declared.fault.Fault.TheVariants.{OutOfMemory};
 ghost use Rattle.sqz_image.specs.Numbers.{number_of_fault};
 
+use crate::slot::Slot;
 use std::alloc::{AllocError, AllocFailed};
-use std::fmt;
 use thiserror::Error;
-
-/// A word of an object that may name another object.
-#[derive(Clone, Copy, Debug, PartialEq, Eq)]
-pub enum Slot {
-    /// The class word of a header of two or three words.
-    ClassWord,
-    /// The field with this index.
-    Field(u32),
-}
-
-impl fmt::Display for Slot {
-    fn fmt<W: fmt::Write>(&self, f: &mut fmt::Formatter<W>) -> fmt::Result {
-        match self {
-            Slot::ClassWord => write!(f, "class"),
-            Slot::Field(index) => write!(f, "field {index}"),
-        }
-    }
-}
 
 /// Why a call was refused: the image is at fault, or memory, a device or an argument. `word` is the
 /// index of a data word, `address` that of a base header.

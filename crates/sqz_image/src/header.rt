@@ -1,4 +1,4 @@
-//! The header of an image file, and where it stands.
+//! The header of an image file, and its offset in the file.
 
 ghost use Rattle.std.specs.Prelude.{◌≡◌, ◌⊎◌, ◌≤◌, length, take, IfOk, IfErr, None, Some};
 ghost use Rattle.sqz_object.specs.Bytes.{words_of};
@@ -11,17 +11,32 @@ use sqz_object::{Order, word_at};
 /// The first header word of an image of this format.
 const VERSION: u32 = 6502;
 
-/// How many bytes the header has.
+/// The number of bytes of the header.
 pub(crate) const HEADER_SIZE: usize = 64;
 
-/// How many bytes may stand before the header.
+/// The number of words of the header.
+pub(crate) const HEADER_WORDS: usize = 16;
+
+/// The header word with the size of the header in bytes.
+const HEADER_SIZE_WORD: usize = 1;
+
+/// The header word with the size of the data in bytes.
+pub const DATA_SIZE_WORD: usize = 2;
+
+/// The header word with the address of the first data word.
+pub(crate) const BASE_WORD: usize = 3;
+
+/// The header word with the address of the special objects array.
+pub(crate) const SPECIAL_WORD: usize = 4;
+
+/// The number of bytes before a header that does not begin the file.
 const PREFIX_SIZE: usize = 512;
 
 /// The header of a file, and the order of its bytes.
 #[derive(Clone, Copy)]
 pub(crate) struct Header {
     pub order: Order,
-    pub words: [u32; 16],
+    pub words: [u32; HEADER_WORDS],
 }
 
 /// The byte order in which the bytes begin with the version.
@@ -38,8 +53,8 @@ fn order_of(bytes: &[u8]) -> Option<Order>
     None
 }
 
-/// The offset of the header in a file: 512 where the version stands there, in one of the orders, and the file does not
-/// begin with it; else 0.
+/// The offset of the header in a file: 512 if the version stands there, in either order, and the file
+/// does not begin with it; else 0.
 pub(crate) fn header_offset(file: &[u8]) -> usize
     ensures offset { result ≡ header_offset file.now }
     ensures inside { result ≤ length file.now }
@@ -55,24 +70,26 @@ pub(crate) fn header_offset(file: &[u8]) -> usize
 }
 
 /// The sixteen words that the first 64 bytes spell.
-fn header_words(order: Order, bytes: &[u8]) -> [u32; 16]
+fn header_words(order: Order, bytes: &[u8]) -> [u32; HEADER_WORDS]
     requires { 64 ≤ length bytes.now }
     ensures { result ≡ words_of order (take 64 bytes.now) }
 {
-    let bytes = &bytes[..64];
-    let mut words = [0u32; 16];
-    for k in 0..16 {
+    let bytes = &bytes[..HEADER_SIZE];
+    let mut words = [0u32; HEADER_WORDS];
+    for k in 0..HEADER_WORDS {
         words[k] = word_at(bytes, order, k);
     }
     words
 }
 
-/// What is wrong with the header words of an image of so many bytes.
-fn header_fault(words: &[u32; 16], bytes: usize) -> Option<Fault>
+/// What is wrong with the header words of an image of this many bytes.
+fn header_fault(words: &[u32; HEADER_WORDS], bytes: usize) -> Option<Fault>
     ensures { result ≡ header_fault words.now bytes }
 {
-    let [_, header_size, data_size, base, ..] = *words;
-    if header_size != 64 {
+    let header_size = words[HEADER_SIZE_WORD];
+    let data_size = words[DATA_SIZE_WORD];
+    let base = words[BASE_WORD];
+    if header_size as usize != HEADER_SIZE {
         return Some(Fault::BadHeaderSize);
     }
     if data_size % 4 != 0 {

@@ -1,8 +1,9 @@
-//! An image: the bytes before its header, its header, and the object memory behind it.
+//! An image: the bytes before its header, its header, and the object memory after it.
 
 ghost use Rattle.std.specs.Prelude.{◌≡◌, ◌⊎◌, ◌<◌, length, slice_index};
 ghost use Rattle.sqz_image.specs.File.{prefix_size, renewed};
 
+use crate::header::{DATA_SIZE_WORD, HEADER_WORDS, SPECIAL_WORD};
 use crate::heap::Heap;
 use std::marker::Model;
 
@@ -10,7 +11,7 @@ use std::marker::Model;
 #[derive(Drop)]
 pub struct Image {
     prefix: Vec<u8>,
-    header: [u32; 16],
+    header: [u32; HEADER_WORDS],
     heap: Heap,
 }
 
@@ -27,7 +28,7 @@ impl Model for Image {
 }
 
 impl Image {
-    pub(crate) fn new(prefix: Vec<u8>, header: [u32; 16], heap: Heap) -> Self
+    pub(crate) fn new(prefix: Vec<u8>, header: [u32; HEADER_WORDS], heap: Heap) -> Self
         requires { (length prefix.items ≡ 0) ⊎ (length prefix.items ≡ prefix_size) }
         ensures prefix { result.prefix ≡ prefix.items }
         ensures header { result.header ≡ header }
@@ -50,12 +51,12 @@ impl Image {
 
     /// The header words, with another data size in bytes and another address of the special objects
     /// array.
-    pub(crate) fn renewed_header(&self, size: u32, special: u32) -> [u32; 16]
+    pub(crate) fn renewed_header(&self, size: u32, special: u32) -> [u32; HEADER_WORDS]
         ensures { result ≡ renewed self.now.header size special }
     {
         let mut header = self.header;
-        header[2] = size;
-        header[4] = special;
+        header[DATA_SIZE_WORD] = size;
+        header[SPECIAL_WORD] = special;
         header
     }
 

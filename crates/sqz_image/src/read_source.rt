@@ -4,15 +4,14 @@ ghost use Rattle.std.specs.Prelude.{◌≡◌, false, true};
 ghost use Rattle.sqz_image.specs.Devices.{SourceState};
 
 use crate::device::{DeviceFault, Source};
+use crate::source_calls::SourceCalls;
 use std::io::Read;
 
 /// Gives the bytes of a reader. Each error of the reader is a failure, an interrupted read too.
 #[derive(Drop)]
 pub struct ReadSource<R> {
     inner: R,
-    reads: u64,
-    empty_reads: u64,
-    failed: bool,
+    calls: SourceCalls,
 }
 
 impl<R: Read> ReadSource<R> {
@@ -23,38 +22,28 @@ impl<R: Read> ReadSource<R> {
     {
         ReadSource {
             inner,
-            reads: 0,
-            empty_reads: 0,
-            failed: false,
+            calls: SourceCalls::new(),
         }
     }
 }
 
 impl<R: Read> Source for ReadSource<R> {
-    ghost state = { λ s. record { left = R.remaining s.inner; reads = s.reads; empty_reads = s.empty_reads; failed = s.failed } };
+    ghost state = { λ s. record {
+      left = R.remaining s.inner;
+      reads = s.calls.reads;
+      empty_reads = s.calls.empty_reads;
+      failed = s.calls.failed;
+    } };
 
     ghost gives_all = { true };
 
     fn read(&mut self, into: &mut [u8]) -> Result<usize, DeviceFault> {
-        self.reads = self.reads.saturating_add(1);
-        if self.failed {
-            return Err(DeviceFault);
-        }
-        match self.inner.read(into) {
-            Ok(count) => {
-                if count == 0 && !into.is_empty() {
-                    self.empty_reads = self.empty_reads.saturating_add(1);
-                }
-                Ok(count)
-            }
-            Err(_) => {
-                self.failed = true;
-                Err(DeviceFault)
-            }
-        }
+        self.calls.begin_read()?;
+        let read = self.inner.read(into);
+        self.calls.end_read(into, read)
     }
 
     fn failed(&self) -> bool {
-        self.failed
+        self.calls.failed
     }
 }

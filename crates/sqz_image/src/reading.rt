@@ -6,7 +6,9 @@ ghost use Rattle.sqz_image.specs.Refusals.{file_fault, Holds, IsUnreadable};
 
 use crate::data_bytes::DataBytes;
 use crate::fault::Fault;
-use crate::header::{HEADER_SIZE, header_offset, read_header};
+use crate::header::{
+    BASE_WORD, DATA_SIZE_WORD, HEADER_SIZE, SPECIAL_WORD, header_offset, read_header,
+};
 use crate::heap::Heap;
 use crate::image::Image;
 use crate::laws::byte_bounds;
@@ -38,9 +40,11 @@ pub fn image_of_file(alloc: Global, file: Vec<u8>) -> Result<Image, Fault>
     let offset = header_offset(&file);
     let header = read_header(&file[offset..])?;
     let prefix = Vec::from_slice(alloc, &file[..offset])?;
-    let [_, _, data_size, base, special, ..] = header.words;
     let start = offset + HEADER_SIZE;
-    let bytes = DataBytes::of(file, start, start + data_size as usize);
+    let size = header.words[DATA_SIZE_WORD] as usize;
+    let bytes = DataBytes::of(file, start, start + size);
+    let base = header.words[BASE_WORD];
+    let special = header.words[SPECIAL_WORD];
     let heap = Heap::of(alloc, header.order, base, special, bytes)?;
     Ok(Image::new(prefix, header.words, heap))
 }

@@ -13,8 +13,8 @@ use Rattle.sqz_object.specs.declared.chunk.Kind.{Kind}
 use Rattle.sqz_object.specs.declared.chunk.Kind.TheVariants.{Three, Two, Free, Short}
 use Rattle.sqz_object.specs.Chunk.{IsChunk, IsChunkOf, chunk_kind, words_before, before, fields, is_object}
 use Rattle.sqz_object.proofs.ChunkLemmas.{chunk_kind_is}
-use Rattle.sqz_image.specs.declared.fault.Slot.{Slot}
-use Rattle.sqz_image.specs.declared.fault.Slot.TheVariants.{ClassWord, Field}
+use Rattle.sqz_image.specs.declared.slot.Slot.{Slot}
+use Rattle.sqz_image.specs.declared.slot.Slot.TheVariants.{ClassWord, Field}
 use Rattle.sqz_image.specs.Objects.{Memory, objects, object_count, chunk_words}
 use Rattle.sqz_image.proofs.ObjectLemmas.{objects_keep, All_at, before-chunk}
 use Rattle.sqz_trace.specs.declared.weak.Weak.{Weak}

@@ -3,7 +3,7 @@
 -- `::assert_marked`, `::claim`, `::mark_dead_cycle`, `::mark_named`, `::mark_special`, `targets::claim_target` and
 -- `targets::mark_targets`; `InOrderLemmas`.
 use Rattle.std.proofs.Common.{◌≡◌, ◌≢◌, ◌⊎◌, ℕ, ◌<◌, List, ◌∷◌, Option, Some, None, refl, sym, ap, subst, ◌∙◌, arith, inl, inr}
-use Rattle.sqz_image.specs.declared.fault.Slot.{Slot}
+use Rattle.sqz_image.specs.declared.slot.Slot.{Slot}
 use Rattle.sqz_trace.specs.declared.shades.Shade.{Shade}
 use Rattle.sqz_trace.specs.declared.shades.Shade.TheVariants.{White, Grey, Black}
 use Rattle.sqz_trace.specs.Edges.{OutEdges, edge_target}

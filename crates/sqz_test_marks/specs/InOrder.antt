@@ -1,6 +1,6 @@
 -- What a pass knows after the calls that mark the dead cycle's image, one step for each call.
 use Rattle.std.specs.Prelude.{◌≡◌, ℕ, None}
-use Rattle.sqz_image.specs.declared.fault.Slot.TheVariants.{ClassWord}
+use Rattle.sqz_image.specs.declared.slot.Slot.TheVariants.{ClassWord}
 use Rattle.sqz_image.specs.Objects.{Memory, object_count}
 use Rattle.sqz_trace.specs.declared.weak.Weak.{Weak}
 use Rattle.sqz_trace.specs.declared.shades.Shade.TheVariants.{White, Grey, Black}

@@ -1,7 +1,7 @@
 -- The objects of a compacted memory: the marked objects of the memory that it was made of, in their order, each moved to its place, with
 -- the same edges.
 use Rattle.std.specs.Prelude.{◌≡◌, ◌↔◌, ℕ, ◌<◌, Bool, true, List, length, take, Some, option_map}
-use Rattle.sqz_image.specs.declared.fault.Slot.{Slot}
+use Rattle.sqz_image.specs.declared.slot.Slot.{Slot}
 use Rattle.sqz_image.specs.Objects.{Memory, objects, object_count, chunk_words, address_of, find}
 use Rattle.sqz_trace.specs.declared.weak.Weak.{Weak}
 use Rattle.sqz_trace.specs.Edges.{strong_target, HasEdge}

@@ -17,7 +17,7 @@ use crate::session::Session;
 use crate::summary::Summary;
 use sqz_census::{census, print};
 use sqz_image::laws::heap_bounds;
-use sqz_image::{Fault, Heap, Image};
+use sqz_image::{DATA_SIZE_WORD, Fault, Heap, Image};
 use sqz_regions::{Forward, Regions, bases};
 use sqz_slide::{Pieces, slide};
 use sqz_trace::{Marks, first_defect, lacks_nil};
@@ -136,7 +136,7 @@ fn moved<T: Threads + Sync, G: Gate, O: StageObserver>(
     let summary = Summary {
         objects: heap.len(),
         kept: marked.marks.count(),
-        data_before: image.header(2),
+        data_before: image.header(DATA_SIZE_WORD as u32),
         data_after: 4 * total(&marked.live_words),
     };
     Ok(Compaction {

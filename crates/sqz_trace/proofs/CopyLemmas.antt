@@ -16,8 +16,8 @@ use Rattle.sqz_object.specs.Chunk.{chunk_kind, compact_index, fields}
 use Rattle.sqz_object.specs.declared.layout.Layout.{Layout}
 use Rattle.sqz_object.specs.declared.layout.Layout.TheVariants.{Fields, Weak as WeakFields, Context, Words, Bytes, Method}
 use Rattle.sqz_object.specs.Layout.{layout, is_weak_layout}
-use Rattle.sqz_image.specs.declared.fault.Slot.{Slot}
-use Rattle.sqz_image.specs.declared.fault.Slot.TheVariants.{ClassWord, Field}
+use Rattle.sqz_image.specs.declared.slot.Slot.{Slot}
+use Rattle.sqz_image.specs.declared.slot.Slot.TheVariants.{ClassWord, Field}
 use Rattle.sqz_image.specs.Objects.{Memory, object_count, object_at, chunk_words, find}
 use Rattle.sqz_trace.specs.declared.weak.Weak.{Weak}
 use Rattle.sqz_trace.specs.declared.weak.Weak.TheVariants.{Keep, Clear}

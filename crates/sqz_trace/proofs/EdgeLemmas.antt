@@ -6,7 +6,7 @@ use Rattle.std.specs.Option.{IfSome, option_and_then}
 use Rattle.sqz_object.specs.declared.value.Value.{Value}
 use Rattle.sqz_object.specs.declared.value.Value.TheVariants.{Int, Pointer, Odd}
 use Rattle.sqz_object.specs.Value.{value_of}
-use Rattle.sqz_image.specs.declared.fault.Slot.{Slot}
+use Rattle.sqz_image.specs.declared.slot.Slot.{Slot}
 use Rattle.sqz_image.specs.Objects.{Memory, objects, object_count}
 use Rattle.sqz_image.proofs.ObjectLemmas.{find_in-lt}
 use Rattle.sqz_trace.specs.Slots.{word_among}

@@ -7,7 +7,7 @@ use Rattle.std.specs.Prelude.{replicate, Contains}
 use Rattle.std.proofs.lemmas.List.Elements.{Contains-push, Contains-push_cases}
 use Rattle.std.proofs.lemmas.List.Elements.{Contains-append_left}
 use Rattle.std.proofs.lemmas.List.{length-set, length-append, length-replicate, get_or-set_same, take_at}
-use Rattle.sqz_image.specs.declared.fault.Slot.{Slot}
+use Rattle.sqz_image.specs.declared.slot.Slot.{Slot}
 use Rattle.sqz_image.specs.Objects.{Memory, object_count}
 use Rattle.sqz_trace.specs.declared.weak.Weak.{Weak}
 use Rattle.sqz_trace.specs.Edges.{OutEdges, out_edges, strong_slots, edge_target, IsTargetAmong, HasEdge}

@@ -7,7 +7,7 @@ use Rattle.sqz_object.specs.declared.layout.Layout.{Layout}
 use Rattle.sqz_object.specs.declared.layout.Layout.TheVariants.{Fields, Weak, Context, Words, Bytes, Method}
 use Rattle.sqz_object.specs.Chunk.{fields}
 use Rattle.sqz_object.specs.Layout.{layout}
-use Rattle.sqz_image.specs.declared.fault.Slot.TheVariants.{Field}
+use Rattle.sqz_image.specs.declared.slot.Slot.TheVariants.{Field}
 use Rattle.sqz_trace.specs.Slots.{context_fields, method_fields, clip, traced_of, traced, slot_word, field_slots}
 
 -- a clipped number is no more than there are

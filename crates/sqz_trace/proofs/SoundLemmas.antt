@@ -9,8 +9,8 @@ use Rattle.sqz_object.specs.declared.chunk.Kind.TheVariants.{Three, Two, Free, S
 use Rattle.sqz_object.specs.Chunk.{chunk_kind, fields}
 use Rattle.sqz_image.specs.declared.fault.Fault.{Fault}
 use Rattle.sqz_image.specs.declared.fault.Fault.TheVariants.{NoClass, BadMethod, BadContext, BadWeak}
-use Rattle.sqz_image.specs.declared.fault.Slot.{Slot}
-use Rattle.sqz_image.specs.declared.fault.Slot.TheVariants.{ClassWord, Field}
+use Rattle.sqz_image.specs.declared.slot.Slot.{Slot}
+use Rattle.sqz_image.specs.declared.slot.Slot.TheVariants.{ClassWord, Field}
 use Rattle.sqz_image.specs.Objects.{Memory, Object, objects, object_count, object_at, address_in}
 use Rattle.sqz_trace.specs.declared.weak.Weak.{Weak}
 use Rattle.sqz_trace.specs.Slots.{traced, class_address, class_word, slot_word, slots, class_slots, field_slots}

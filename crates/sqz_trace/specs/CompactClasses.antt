@@ -2,7 +2,7 @@
 use Rattle.std.specs.Prelude.{◌≡◌, ◌⊎◌, ℕ, zero, suc, true, Option, Some, None, option_and_then}
 use Rattle.sqz_object.specs.declared.chunk.Kind.TheVariants.{Short}
 use Rattle.sqz_object.specs.Chunk.{chunk_kind}
-use Rattle.sqz_image.specs.declared.fault.Slot.TheVariants.{Field}
+use Rattle.sqz_image.specs.declared.slot.Slot.TheVariants.{Field}
 use Rattle.sqz_image.specs.Objects.{Memory, chunk_words, find}
 use Rattle.sqz_trace.specs.declared.weak.Weak.{Weak}
 use Rattle.sqz_trace.specs.Strong.{is_weak}

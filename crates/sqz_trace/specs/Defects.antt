@@ -10,7 +10,7 @@ use Rattle.sqz_object.specs.declared.layout.Layout.TheVariants.{Context, Method}
 use Rattle.sqz_object.specs.Layout.{layout}
 use Rattle.sqz_image.specs.declared.fault.Fault.{Fault}
 use Rattle.sqz_image.specs.declared.fault.Fault.TheVariants.{NoClass, BadMethod, BadContext, BadWeak, BadPointer}
-use Rattle.sqz_image.specs.declared.fault.Slot.{Slot}
+use Rattle.sqz_image.specs.declared.slot.Slot.{Slot}
 use Rattle.sqz_image.specs.Objects.{Memory, Object, address_in, find}
 use Rattle.sqz_trace.specs.declared.weak.Weak.{Weak}
 use Rattle.sqz_trace.specs.declared.weak.Weak.TheVariants.{Keep, Clear}

@@ -1,7 +1,7 @@
 -- What leads from one object to another: its strong slots.
 use Rattle.std.specs.Prelude.{◌≡◌, ℕ, ◌-◌, ◌<◌, List, ◌∷◌, Contains, Option, Some, option_and_then}
-use Rattle.sqz_image.specs.declared.fault.Slot.{Slot}
-use Rattle.sqz_image.specs.declared.fault.Slot.TheVariants.{ClassWord, Field}
+use Rattle.sqz_image.specs.declared.slot.Slot.{Slot}
+use Rattle.sqz_image.specs.declared.slot.Slot.TheVariants.{ClassWord, Field}
 use Rattle.sqz_image.specs.Objects.{Memory, object_count, chunk_words, find}
 use Rattle.sqz_trace.specs.declared.weak.Weak.{Weak}
 use Rattle.sqz_trace.specs.Slots.{field_slots}

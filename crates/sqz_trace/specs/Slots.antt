@@ -11,8 +11,8 @@ use Rattle.sqz_object.specs.Chunk.{chunk_kind, fields}
 use Rattle.sqz_object.specs.declared.layout.Layout.{Layout}
 use Rattle.sqz_object.specs.declared.layout.Layout.TheVariants.{Fields, Weak, Context, Words, Bytes, Method}
 use Rattle.sqz_object.specs.Layout.{layout}
-use Rattle.sqz_image.specs.declared.fault.Slot.{Slot}
-use Rattle.sqz_image.specs.declared.fault.Slot.TheVariants.{ClassWord, Field}
+use Rattle.sqz_image.specs.declared.slot.Slot.{Slot}
+use Rattle.sqz_image.specs.declared.slot.Slot.TheVariants.{ClassWord, Field}
 
 -- the stack pointer that a word states: the value of an integer, and 0 for any other word
 abbrev pub stack_pointer : Value → ℤ

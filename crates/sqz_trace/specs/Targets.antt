@@ -3,7 +3,7 @@ use Rattle.std.specs.Prelude.{ℕ, List, Option, None, option_and_then}
 use Rattle.sqz_object.specs.declared.value.Value.{Value}
 use Rattle.sqz_object.specs.declared.value.Value.TheVariants.{Int, Pointer, Odd}
 use Rattle.sqz_object.specs.Value.{value_of}
-use Rattle.sqz_image.specs.declared.fault.Slot.{Slot}
+use Rattle.sqz_image.specs.declared.slot.Slot.{Slot}
 use Rattle.sqz_image.specs.Objects.{Memory, chunk_words, find}
 use Rattle.sqz_trace.specs.Slots.{traced, word_among}
 

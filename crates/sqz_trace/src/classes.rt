@@ -2,7 +2,7 @@
 
 ghost use Rattle.std.specs.Prelude.{◌≡◌, ◌<◌, ◌≤◌, length, IfSome};
 ghost use Rattle.sqz_object.specs.Chunk.{fields};
-ghost use Rattle.sqz_image.specs.declared.fault.Slot.TheVariants.{ClassWord};
+ghost use Rattle.sqz_image.specs.declared.slot.Slot.TheVariants.{ClassWord};
 ghost use Rattle.sqz_image.specs.Objects.{object_count};
 ghost use Rattle.sqz_trace.specs.Targets.{named_in};
 ghost use Rattle.sqz_trace.specs.Strong.{strong_by_word, compact_classes, compact_class, class_of};

@@ -2,7 +2,7 @@
 
 ghost use Rattle.std.specs.Prelude.{◌≡◌};
 ghost use Rattle.std.specs.Iterator.{YieldsFirst, item_count};
-ghost use Rattle.sqz_image.specs.declared.fault.Slot.TheVariants.{ClassWord};
+ghost use Rattle.sqz_image.specs.declared.slot.Slot.TheVariants.{ClassWord};
 ghost use Rattle.sqz_trace.specs.Edges.{slots_from};
 
 use sqz_image::Slot;
@@ -20,7 +20,7 @@ pub struct StrongSlots {
 
 impl Model for StrongSlots {
     ghost use Rattle.std.specs.Prelude.{List};
-    ghost use Rattle.sqz_image.specs.declared.fault.Slot.{Slot};
+    ghost use Rattle.sqz_image.specs.declared.slot.Slot.{Slot};
     ghost use Rattle.sqz_trace.specs.Edges.{slots_from};
 
     ghost Value = { List Slot };

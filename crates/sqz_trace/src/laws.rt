@@ -1,7 +1,7 @@
 //! Laws about the definitions, each the contract of a function that does nothing.
 
 ghost use Rattle.std.specs.Prelude.{◌≡◌, ℕ, None};
-ghost use Rattle.sqz_image.specs.declared.fault.Slot.{Slot};
+ghost use Rattle.sqz_image.specs.declared.slot.Slot.{Slot};
 ghost use Rattle.sqz_image.specs.Objects.{Memory};
 ghost use Rattle.sqz_trace.specs.declared.weak.Weak.{Weak};
 ghost use Rattle.sqz_trace.specs.declared.weak.Weak.TheVariants.{Keep, Clear};

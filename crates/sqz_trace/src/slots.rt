@@ -2,7 +2,7 @@
 
 ghost use Rattle.std.specs.Prelude.{◌≡◌, ◌<◌, ◌≤◌, length, IfSome};
 ghost use Rattle.sqz_object.specs.Chunk.{fields};
-ghost use Rattle.sqz_image.specs.declared.fault.Slot.TheVariants.{ClassWord};
+ghost use Rattle.sqz_image.specs.declared.slot.Slot.TheVariants.{ClassWord};
 ghost use Rattle.sqz_image.specs.Objects.{object_count, chunk_words};
 ghost use Rattle.sqz_trace.specs.Slots.{word_among, slot_word, traced, clip};
 ghost use Rattle.sqz_trace.specs.Targets.{named_by, named_among, target};

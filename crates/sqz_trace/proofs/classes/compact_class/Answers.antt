@@ -1,5 +1,5 @@
 use Rattle.std.proofs.Common.{◌≡◌, ℕ, suc, ◌+◌, Option, Some, sym, ap, ◌∙◌, arith}
-use Rattle.sqz_image.specs.declared.fault.Slot.TheVariants.{Field}
+use Rattle.sqz_image.specs.declared.slot.Slot.TheVariants.{Field}
 use Rattle.sqz_trace.specs.Edges.{OutEdges, edge_target}
 use Rattle.sqz_trace.proofs.StrongLemmas.{compact_class-held}
 use Rattle.sqz_trace.proofs.classes.compact_class.Goals as goal
