@@ -2,15 +2,15 @@
 
 ghost use Rattle.std.specs.Prelude.{◌≡◌, ℕ, ◌+◌, ◌<◌, ◌≤◌, ◌^◌, Some};
 ghost use Rattle.sqz_image.specs.Objects.{object_count};
-ghost use Rattle.sqz_trace.specs.Edges.{strong_named};
+ghost use Rattle.sqz_trace.specs.Edges.{edge_target};
 ghost use Rattle.sqz_marks.specs.Core.{HasSeen, HasBlackened};
-ghost use Rattle.sqz_marks.specs.Table.{IsPassOf, IsSeenParent};
+ghost use Rattle.sqz_marks.specs.Table.{IsPassOf, AreEdgesOfSeen};
 ghost use Rattle.sqz_workers.specs.Gains.{HasGained};
 
 use crate::worklist::Worklist;
 use sqz_image::{Heap, Slot};
 use sqz_marks::{Claim, MarkTable, Pass};
-use sqz_trace::{Parent, Shade};
+use sqz_trace::{OutEdges, Shade};
 
 /// Marks what an object names that was taken from a worklist, if there is such an object and it is grey. Answers how many
 /// objects were won.
@@ -52,31 +52,33 @@ pub(crate) fn mark_slots<L: Worklist>(
     ensures black { HasBlackened pass.new.view object }
     ensures room { L.room worklist.new ≡ L.room worklist.old }
 {
-    let parent = table.parent(object);
-    let mut won = claim_slot(table, pass, worklist, &parent, Slot::ClassWord);
-    for k in 0..parent.strong() {
-        won += claim_slot(table, pass, worklist, &parent, Slot::Field(k));
+    let edges = table.edges(object);
+    edges.slot_bounds(); // at most 2^30 slots
+    let mut won = 0;
+    for slot in edges.slots() {
+        won += claim_slot(table, pass, worklist, &edges, slot);
     }
     table.blacken(pass, object);
     won
 }
 
-/// Claims what a strong slot names, and counts it and puts it into the worklist if it was won. Answers how many objects were won.
+/// Claims the object that a strong slot points to, and counts it and puts it into the worklist if it
+/// was won. Returns how many objects were won.
 fn claim_slot<L: Worklist>(
     table: &MarkTable<'_>,
     pass: &mut Pass,
     worklist: &mut L,
-    parent: &Parent<'_>,
+    edges: &OutEdges<'_>,
     slot: Slot,
 ) -> u32
     requires of { IsPassOf table.now pass.old }
-    requires seen { IsSeenParent table.now.heap.memory table.now.weak pass.old.view parent.now }
+    requires seen { AreEdgesOfSeen table.now.heap.memory table.now.weak pass.old.view edges.now }
     ensures gained { HasGained pass.old pass.new result }
     ensures one { result ≤ 1 }
-    ensures named { (object : ℕ) → strong_named table.now.heap.memory parent.now slot ≡ Some object → HasSeen pass.new.view object }
+    ensures named { (object : ℕ) → edge_target edges.now slot ≡ Some object → HasSeen pass.new.view object }
     ensures room { L.room worklist.new ≡ L.room worklist.old }
 {
-    match table.claim_of(pass, parent, slot) {
+    match table.claim_of(pass, edges, slot) {
         Claim::Won(object) => {
             table.count(pass, object);
             worklist.put(object);
