@@ -1,6 +1,6 @@
 //! The outgoing edges of an object.
 
-ghost use Rattle.std.specs.Prelude.{◌≡◌, ◌<◌, IfSome};
+ghost use Rattle.std.specs.Prelude.{◌≡◌, ◌^◌, ◌<◌, ◌≤◌, length, IfSome};
 ghost use Rattle.sqz_image.specs.Objects.{object_count};
 ghost use Rattle.sqz_trace.specs.Edges.{out_edges, edges_by_word, strong_slots, edge_target, nil};
 
@@ -68,6 +68,13 @@ impl<'a> OutEdges<'a> {
         ensures { result ≡ strong_slots self.now }
     {
         StrongSlots::new(self.strong)
+    }
+
+    /// There are at most 2^30 strong slots. For proofs: it does nothing.
+    pub fn slot_bounds(&self)
+        ensures { length (strong_slots self.now) ≤ 2 ^ 30 }
+    {
+        let _fields = self.object.fields(); // fewer than 2^30 words
     }
 
     /// The object that a strong slot points to. None for a weak slot, and if the object has no such

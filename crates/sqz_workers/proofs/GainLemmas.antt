@@ -1,16 +1,15 @@
 -- What a pass gains by one step after another. Serves the functions of `scanning` and `remaining`,
 -- `shared_work::SharedWork::run_worker` and `stealing::mark`.
-use Rattle.std.proofs.Common.{◌≡◌, ◌≢◌, ℕ, ◌+◌, ◌<◌, List, ◌∷◌, Some, refl, sym, ap, subst, ◌∙◌, cond, eqb, arith, inl, inr}
+use Rattle.std.proofs.Common.{◌≡◌, ◌≢◌, ℕ, ◌+◌, ◌<◌, List, [], ◌∷◌, ◌++◌, Some, refl, sym, ap, subst, ◌∙◌, cond, eqb, arith, inl, inr}
 use Rattle.std.specs.Prelude.{Option, None}
 use Rattle.std.proofs.lemmas.Bool.{cases_lt}
 use Rattle.std.proofs.lemmas.List.Sums.{sum_by-cons}
 use Rattle.std.proofs.lemmas.Option.{same_Some}
-use Rattle.sqz_image.specs.declared.slot.Slot.TheVariants.{ClassWord, Field}
-use Rattle.sqz_image.specs.Objects.{Memory}
+use Rattle.sqz_image.specs.declared.slot.Slot.{Slot}
 use Rattle.sqz_trace.specs.declared.shades.Shade.{Shade}
 use Rattle.sqz_trace.specs.declared.shades.Shade.TheVariants.{White, Grey, Black}
-use Rattle.sqz_trace.specs.Targets.{named_among, named_in, IsTargetBelow}
-use Rattle.sqz_trace.proofs.TargetLemmas.{IsTargetBelow-next, IsTargetBelow-none}
+use Rattle.sqz_trace.specs.Edges.{OutEdges, edge_target, IsTargetAmong}
+use Rattle.sqz_trace.proofs.TargetLemmas.{IsTargetAmong-next}
 use Rattle.sqz_marks.specs.declared.view.View.{View}
 use Rattle.sqz_marks.specs.Core.{times, HasSeen, HasBlackened, looked, claimed, seen_by, counted, blackened}
 use Rattle.sqz_marks.specs.Table.{SharedMarks, HeldPass, IsPassOf, HasCountedAll, knowing}
@@ -175,21 +174,16 @@ pub IsPassOf-gained : (marks : SharedMarks) (old new : HeldPass) (objects : ℕ)
     → IsPassOf marks new
 IsPassOf-gained marks old new objects of gained = (gained.table ∙ of.0, gained.workers ∙ of.1)
 
--- what the slots so far point to was seen
-abbrev pub HasSeenBelow : Memory → List ℕ → ℕ → View → Type 0
-HasSeenBelow memory chunk count view = (index : ℕ) → IsTargetBelow memory chunk count index → HasSeen view index
+-- the targets of the slots so far were seen
+abbrev pub HasSeenAmong : OutEdges → List Slot → View → Type 0
+HasSeenAmong edges slots view = (index : ℕ) → IsTargetAmong edges slots index → HasSeen view index
 
-module _ (memory : Memory) (chunk : List ℕ) where
-  pub HasSeenBelow-none : (view : View) → ((index : ℕ) → named_in memory chunk ClassWord ≡ Some index → HasSeen view index)
-      → HasSeenBelow memory chunk 0 view
-  HasSeenBelow-none view seen index named = seen index (IsTargetBelow-none memory chunk index named)
-
-  pub HasSeenBelow-next : (count k : ℕ) (old new : View) → k < count → HasSeenBelow memory chunk k old
-      → ((index : ℕ) → HasSeen old index → HasSeen new index)
-      → ((index : ℕ) → named_among memory count chunk (Field k) ≡ Some index → HasSeen new index)
-      → HasSeenBelow memory chunk (k + 1) new
-  HasSeenBelow-next count k old new lt before keeps here index named =
-      elim (IsTargetBelow-next memory chunk count k index lt named) [
-        | inl below ↦ keeps index (before index below)
-        | inr is ↦ here index is
-      ]
+-- and then that of one slot more
+pub HasSeenAmong-next : (edges : OutEdges) (slots : List Slot) (slot : Slot) (old new : View) → HasSeenAmong edges slots old
+    → ((index : ℕ) → HasSeen old index → HasSeen new index)
+    → ((index : ℕ) → edge_target edges slot ≡ Some index → HasSeen new index) → HasSeenAmong edges (slots ++ slot ∷ []) new
+HasSeenAmong-next edges slots slot old new before keeps here index target =
+    elim (IsTargetAmong-next edges slots slot index target) [
+      | inl was ↦ keeps index (before index was)
+      | inr is ↦ here index is
+    ]

@@ -2,15 +2,15 @@
 
 ghost use Rattle.std.specs.Prelude.{◌≡◌, ◌+◌, ◌<◌, ◌≤◌, ◌^◌, IsSome, IsNone, unwrap_or};
 ghost use Rattle.sqz_image.specs.Objects.{object_count};
-ghost use Rattle.sqz_trace.specs.Edges.{strong_named};
+ghost use Rattle.sqz_trace.specs.Edges.{edge_target};
 ghost use Rattle.sqz_marks.specs.Core.{HasSeen, HasBlackened};
-ghost use Rattle.sqz_marks.specs.Table.{IsPassOf, IsSeenParent};
+ghost use Rattle.sqz_marks.specs.Table.{IsPassOf, AreEdgesOfSeen};
 ghost use Rattle.sqz_workers.specs.Gains.{HasGained, HasSeenTarget, HasBlackenedMore, IsPassedBy};
 
 use crate::worklist::Worklist;
 use sqz_image::Slot;
 use sqz_marks::{Claim, MarkTable, Pass};
-use sqz_trace::{Parent, Shade};
+use sqz_trace::{OutEdges, Shade};
 
 /// Scans an object if it is grey. Returns how many objects were won, or None if it is not grey or
 /// the heap has no object with this index.
@@ -55,10 +55,11 @@ fn scan_object<L: Worklist>(
     ensures black { HasBlackened pass.new.view object }
     ensures room { L.room worklist.new ≡ L.room worklist.old }
 {
-    let parent = table.parent(object);
-    let mut won = claim_slot(table, pass, worklist, &parent, Slot::ClassWord);
-    for k in 0..parent.strong() {
-        won += claim_slot(table, pass, worklist, &parent, Slot::Field(k));
+    let edges = table.edges(object);
+    edges.slot_bounds(); // at most 2^30 slots
+    let mut won = 0;
+    for slot in edges.slots() {
+        won += claim_slot(table, pass, worklist, &edges, slot);
     }
     table.blacken(pass, object);
     won
@@ -70,18 +71,17 @@ fn claim_slot<L: Worklist>(
     table: &MarkTable<'_>,
     pass: &mut Pass,
     worklist: &mut L,
-    parent: &Parent<'_>,
+    edges: &OutEdges<'_>,
     slot: Slot,
 ) -> u32
     requires of { IsPassOf table.now pass.old }
-    requires seen { IsSeenParent table.now.heap.memory table.now.weak pass.old.view parent.now }
+    requires seen { AreEdgesOfSeen table.now.heap.memory table.now.weak pass.old.view edges.now }
     ensures gained { HasGained pass.old pass.new result }
     ensures one { result ≤ 1 }
-    ensures seen { HasSeenTarget (strong_named table.now.heap.memory parent.now slot)
-        pass.new.view }
+    ensures seen { HasSeenTarget (edge_target edges.now slot) pass.new.view }
     ensures room { L.room worklist.new ≡ L.room worklist.old }
 {
-    match table.claim_of(pass, parent, slot) {
+    match table.claim_of(pass, edges, slot) {
         Claim::Won(object) => {
             table.count(pass, object);
             worklist.put(object);
