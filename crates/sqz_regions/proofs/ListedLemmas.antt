@@ -1,5 +1,5 @@
 -- Sums along lists of object indexes, in any order, are sums over the indexes below the number of objects.
--- Serves `KeptLemmas` and `WonLemmas` of `sqz_marks`; `RestLemmas` of `sqz_workers`.
+-- Serves `KeptLemmas` and `WonLemmas` of `sqz_marks`; `RemainingLemmas` of `sqz_workers`.
 use Rattle.std.proofs.Common.{◌≡◌, ◌≢◌, ℕ, zero, suc, ◌+◌, ◌*◌, ◌<◌, ◌≤◌, Bool, true, false, cond, eqb, List, [], ◌∷◌}
 use Rattle.std.proofs.Common.{filter, length, get_or, refl, sym, ap, ◌∙◌, arith, inl, inr}
 use Rattle.std.specs.List.{concat, count_by, sum_by}

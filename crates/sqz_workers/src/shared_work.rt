@@ -1,4 +1,4 @@
-//! Marking by teams of workers that share the mark table and steal from each other's deques.
+//! What workers that mark share, and their turns: a team is split until it has one worker.
 
 ghost use Rattle.std.specs.Prelude.{◌≡◌, ◌≤◌, length};
 ghost use Rattle.std.specs.Thread.{IsSync};
