@@ -6,7 +6,7 @@ ghost use Rattle.sqz_trace.specs.Strong.{class_of};
 ghost use Rattle.sqz_census.specs.Keys.{compact_indexes, AreCompactClasses};
 
 use sqz_image::{Heap, Object};
-use sqz_object::{Kind, base_of};
+use sqz_object::{Kind, ObjectIndex, base_of};
 use sqz_trace::{Weak, class_address, compact_class, named_by};
 use std::alloc::{AllocError, Global};
 
@@ -18,7 +18,7 @@ pub(crate) fn class_table(
     alloc: Global,
     heap: &Heap,
     weak: Weak,
-) -> Result<Vec<Option<u32>>, AllocError>
+) -> Result<Vec<Option<ObjectIndex>>, AllocError>
     ensures { IfOk result (λ classes. AreCompactClasses heap.now weak classes.items) }
 {
     let mut classes = Vec::with_capacity(alloc, COMPACT_INDEXES as usize)?;
@@ -28,15 +28,16 @@ pub(crate) fn class_table(
     Ok(classes)
 }
 
-/// The class of an object, by the classes of compact indexes. Where it has a class word, its compact index leads to
-/// none.
+/// The class of an object, by the classes of compact indexes. Where it has a class word, its
+/// compact index leads to none.
 pub(crate) fn class_by_table(
     heap: &Heap,
-    classes: &[Option<u32>],
+    classes: &[Option<ObjectIndex>],
     object: &Object<'_>,
-) -> Option<u32>
+) -> Option<ObjectIndex>
     requires { length classes.now ≡ compact_indexes }
-    ensures { (weak : Weak) → AreCompactClasses heap.now weak classes.now → result ≡ class_of heap.now weak object.now }
+    ensures { (weak : Weak) → AreCompactClasses heap.now weak classes.now → result
+        ≡ class_of heap.now weak object.now }
 {
     let header = object.header();
     match header.kind {

@@ -8,7 +8,7 @@ ghost use Rattle.sqz_census.specs.Keys.{compact_indexes, AreCompactClasses, IsEn
 use crate::classes::class_by_table;
 use rayon::prelude::*;
 use sqz_image::Heap;
-use sqz_object::base_of;
+use sqz_object::{ObjectIndex, base_of};
 use sqz_trace::Marks;
 use std::alloc::{AllocError, Global};
 use std::thread::Threads;
@@ -19,19 +19,21 @@ pub(crate) const DEAD: u32 = u32::MAX;
 /// What the census takes of an object.
 #[derive(Clone, Copy)]
 pub(crate) struct Entry {
-    /// The group that counts it: the index of its class, or behind all objects its compact index. `DEAD` for none.
+    /// The group that counts it: the index of its class, or behind all objects its compact index.
+    /// `DEAD` for none.
     pub(crate) key: u32,
     /// The words of its chunk.
     pub(crate) words: u32,
 }
 
-/// An entry for each object. The policy on weak slots is that of the classes. Made in several threads.
+/// An entry for each object. The policy on weak slots is that of the classes. Made in several
+/// threads.
 pub(crate) fn entries_of(
     rt: &(impl Threads + Sync),
     alloc: Global,
     heap: &Heap,
     marks: &Marks,
-    classes: &[Option<u32>],
+    classes: &[Option<ObjectIndex>],
 ) -> Result<Vec<Entry>, AllocError>
     requires sized { length marks.now ≡ object_count heap.now }
     requires classes { length classes.now ≡ compact_indexes }
@@ -41,7 +43,7 @@ pub(crate) fn entries_of(
     (0..heap.len())
         .into_par_iter()
         .map(
-            |object: u32| -> Entry
+            |object: ObjectIndex| -> Entry
                 requires inside { object < object_count heap.now }
                 requires sized { length marks.now ≡ object_count heap.now }
                 requires classes { length classes.now ≡ compact_indexes }
@@ -53,11 +55,17 @@ pub(crate) fn entries_of(
 }
 
 /// The entry of an object.
-fn entry_of(heap: &Heap, marks: &Marks, classes: &[Option<u32>], object: u32) -> Entry
+fn entry_of(
+    heap: &Heap,
+    marks: &Marks,
+    classes: &[Option<ObjectIndex>],
+    object: ObjectIndex,
+) -> Entry
     requires inside { object < object_count heap.now }
     requires sized { length marks.now ≡ object_count heap.now }
     requires classes { length classes.now ≡ compact_indexes }
-    ensures { (weak : Weak) → AreCompactClasses heap.now weak classes.now → IsEntryOf heap.now weak marks.now object result }
+    ensures { (weak : Weak) → AreCompactClasses heap.now weak classes.now
+        → IsEntryOf heap.now weak marks.now object result }
 {
     if !marks.has(object) {
         return Entry {

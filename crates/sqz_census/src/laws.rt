@@ -13,11 +13,13 @@ pub fn one_census()
         → IsCensus memory weak marks rows → IsCensus memory weak marks others → rows ≡ others }
 {}
 
-/// The rows of a census have together as many objects as are marked, and the bytes of their chunks: as many as the data
-/// of the compacted image have.
+/// The rows of a census have together as many objects as are marked, and the bytes of their chunks:
+/// as many as the data of the compacted image have.
 pub fn census_sums()
     ensures objects { (memory : Memory) (weak : Weak) (marks : List Bool) (rows : List CensusRow)
-        → IsCensus memory weak marks rows → sum_by (λ row. row.count) rows ≡ length (live memory marks) }
+        → IsCensus memory weak marks rows → sum_by (λ row.
+        row.count) rows ≡ length (live memory marks) }
     ensures bytes { (memory : Memory) (weak : Weak) (marks : List Bool) (rows : List CensusRow)
-        → IsCensus memory weak marks rows → sum_by (λ row. row.bytes) rows ≡ 4 * live_words memory marks }
+        → IsCensus memory weak marks rows → sum_by (λ row.
+        row.bytes) rows ≡ 4 * live_words memory marks }
 {}

@@ -9,7 +9,7 @@ ghost use Rattle.sqz_trace.specs.Edges.{strong_target};
 ghost use Rattle.sqz_census.specs.Names.{shown_byte, text_in, held_name, class_name};
 
 use sqz_image::{Heap, Object, Slot};
-use sqz_object::{Layout, Order, Words, put_word};
+use sqz_object::{Layout, ObjectIndex, Order, Words, put_word};
 use sqz_trace::{OutEdges, Weak};
 use std::alloc::{AllocError, Global};
 
@@ -25,8 +25,14 @@ const MOST_BYTES: usize = 40;
 /// How many words have these bytes.
 const MOST_WORDS: usize = 10;
 
-/// The name of a class: its own, or that of its one instance followed by ` class`, or a question mark.
-pub fn class_name(alloc: Global, heap: &Heap, weak: Weak, class: u32) -> Result<Vec<u8>, AllocError>
+/// The name of a class: its own, or that of its one instance followed by ` class`, or a question
+/// mark.
+pub fn class_name(
+    alloc: Global,
+    heap: &Heap,
+    weak: Weak,
+    class: ObjectIndex,
+) -> Result<Vec<u8>, AllocError>
     requires { class < object_count heap.now }
     ensures { IfOk result (λ name. name.items ≡ class_name heap.now weak class) }
 {
@@ -55,11 +61,12 @@ fn instance_name(
     alloc: Global,
     heap: &Heap,
     weak: Weak,
-    class: u32,
+    class: ObjectIndex,
 ) -> Result<Option<Vec<u8>>, AllocError>
     requires { class < object_count heap.now }
     ensures { IfOk result (λ name.
-        option_map (λ text. text.items) name ≡ option_and_then (held_name heap.now weak) (strong_target heap.now weak class (Field 5))) }
+        option_map (λ text. text.items) name ≡ option_and_then (held_name heap.now weak)
+        (strong_target heap.now weak class (Field 5))) }
 {
     match OutEdges::of(heap, weak, class).target(Slot::Field(INSTANCE)) {
         Some(instance) => held_name(alloc, heap, weak, instance),
@@ -72,10 +79,11 @@ fn held_name(
     alloc: Global,
     heap: &Heap,
     weak: Weak,
-    object: u32,
+    object: ObjectIndex,
 ) -> Result<Option<Vec<u8>>, AllocError>
     requires { object < object_count heap.now }
-    ensures { IfOk result (λ name. option_map (λ text. text.items) name ≡ held_name heap.now weak object) }
+    ensures { IfOk result (λ name.
+        option_map (λ text. text.items) name ≡ held_name heap.now weak object) }
 {
     match OutEdges::of(heap, weak, object).target(Slot::Field(NAME)) {
         Some(name) => text_in(alloc, heap.order(), &heap.object(name)),
@@ -85,7 +93,8 @@ fn held_name(
 
 /// The first bytes of an object of bytes, as they are printed; none of other objects.
 fn text_in(alloc: Global, order: Order, object: &Object<'_>) -> Result<Option<Vec<u8>>, AllocError>
-    ensures { IfOk result (λ text. option_map (λ text. text.items) text ≡ text_in order object.now) }
+    ensures { IfOk result (λ text.
+        option_map (λ text. text.items) text ≡ text_in order object.now) }
 {
     let Layout::Bytes { unused } = object.layout() else {
         return Ok(None);

@@ -3,20 +3,23 @@
 ghost use Rattle.std.specs.Prelude.{◌≡◌, ◌++◌, map, sum_by, string_bytes, IfOk, IfErr, OnOk};
 ghost use Rattle.sqz_image.specs.declared.fault.Fault.TheVariants.{OutOfMemory};
 ghost use Rattle.sqz_census.specs.Rows.{shown};
-ghost use Rattle.sqz_census.specs.Text.{census_text, columns, label_text, place_text, row_text, total_text};
+ghost use Rattle.sqz_census.specs.Text.{census_text, columns, label_text, place_text, row_text};
+ghost use Rattle.sqz_census.specs.Text.{total_text};
 
 use crate::names::compact_name;
 use crate::row::Row;
 use sqz_image::Fault;
+use sqz_object::Address;
 use std::alloc::{AllocError, Global};
 
 /// How many bytes a line has mostly.
 const LINE: usize = 56;
 
-/// The text of a census: a line for each row, with the number of its objects right-aligned in 10 places, that of its
-/// bytes in 12, the new address of the class as eight lower case hexadecimal digits or dashes, and the name of the class,
-/// or `compact K` by the compact index where there is no class; and a last line with the sums. A number that needs more
-/// places takes them. Fails for want of memory alone.
+/// The text of a census: a line for each row, with the number of its objects right-aligned in 10
+/// places, that of its bytes in 12, the new address of the class as eight lower case hexadecimal
+/// digits or dashes, and the name of the class, or `compact K` by the compact index where there is
+/// no class; and a last line with the sums. A number that needs more places takes them. Fails for
+/// want of memory alone.
 pub fn print(alloc: Global, rows: &[Row]) -> Result<Vec<u8>, Fault>
     ensures text { IfOk result (λ text. text.items ≡ census_text (map shown rows.now)) }
     ensures refused { IfErr result (λ fault. fault ≡ OutOfMemory) }
@@ -45,7 +48,8 @@ fn add_row(alloc: Global, text: &mut Vec<u8>, row: &Row) -> Result<(), AllocErro
 
 /// Adds what the objects of a row are called.
 fn add_label(alloc: Global, text: &mut Vec<u8>, row: &Row) -> Result<(), AllocError>
-    ensures { OnOk result (text.new.items ≡ text.old.items ++ label_text row.now.place row.now.compact row.now.name.items) }
+    ensures { OnOk result (text.new.items ≡ text.old.items
+        ++ label_text row.now.place row.now.compact row.now.name.items) }
 {
     if row.place.is_some() {
         return text.extend_from_slice(&row.name);
@@ -87,7 +91,7 @@ fn columns(alloc: Global, count: u128, bytes: u128) -> Result<String, AllocError
 }
 
 /// A new address as eight digits, or as many dashes where there is none.
-fn place_text(alloc: Global, place: Option<u32>) -> Result<String, AllocError>
+fn place_text(alloc: Global, place: Option<Address>) -> Result<String, AllocError>
     ensures { IfOk result (λ text. string_bytes text ≡ place_text place) }
 {
     match place {

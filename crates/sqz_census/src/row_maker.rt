@@ -16,7 +16,8 @@ use sqz_trace::Weak;
 use std::alloc::{AllocError, Global};
 use std::thread::Threads;
 
-/// What rows are made by: the heap, what becomes of weak slots, and the new address of each live object.
+/// What rows are made by: the heap, what becomes of weak slots, and the new address of each live
+/// object.
 #[derive(Drop)]
 pub(crate) struct RowMaker<'a> {
     pub heap: &'a Heap,
@@ -43,7 +44,8 @@ impl RowMaker<'_> {
                 |share: &Share| -> Result<Row, AllocError>
                     requires { share.now.key < key_count self.now.heap.now }
                     ensures { IfOk result (λ row. shown row
-                        ≡ row_at self.entry.now.heap.now self.entry.now.weak self.entry.now.forward.now share.now) }
+                        ≡ row_at self.entry.now.heap.now self.entry.now.weak
+                        self.entry.now.forward.now share.now) }
                 { self.row_of(alloc, *share) },
             )
             .collect::<Result<Vec<Row>, AllocError>>(rt, alloc)?

@@ -15,8 +15,8 @@ pub(crate) struct Share {
     pub(crate) words: u32,
 }
 
-/// The shares of the groups that have live objects: those with more words come first, of the others those with lower
-/// keys.
+/// The shares of the groups that have live objects: those with more words come first, of the others
+/// those with lower keys.
 pub(crate) fn shares_of(alloc: Global, tallies: &[Tally]) -> Result<Vec<Share>, AllocError>
     requires { FitWords tallies.now }
     ensures { IfOk result (λ shares. AreSharesInOrder tallies.now shares.items) }

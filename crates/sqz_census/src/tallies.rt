@@ -29,7 +29,8 @@ pub(crate) fn tallies_of(
 ) -> Result<Vec<Tally>, AllocError>
     requires sized { length marks.now ≡ object_count heap.now }
     requires entries { (weak : Weak) × AreEntries heap.now weak marks.now entries.now }
-    ensures tallies { IfOk result (λ tallies. (weak : Weak) → AreEntries heap.now weak marks.now entries.now
+    ensures tallies { IfOk result (λ tallies.
+        (weak : Weak) → AreEntries heap.now weak marks.now entries.now
         → AreTallies heap.now weak marks.now tallies.items) }
     ensures fit { IfOk result (λ tallies. FitWords tallies.items) }
 {

@@ -83,7 +83,8 @@ pub(crate) fn fault_line(fault: &Fault) -> ArrayVec<u8, LINE>
 fn line_of(number: u32, text: &[u8]) -> ArrayVec<u8, LINE>
     requires few { number < 100 }
     requires short { length text.now ≤ TEXT }
-    ensures { result.items ≡ codes "fault " ++ two_digits number ++ codes ": " ++ text.now ++ codes "\n" }
+    ensures { result.items ≡ codes "fault " ++ two_digits number ++ codes ": " ++ text.now
+        ++ codes "\n" }
 {
     let mut line = ArrayVec::new();
     add(&mut line, b"fault ");

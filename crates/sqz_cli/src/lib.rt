@@ -1,4 +1,5 @@
-//! What the programs share on the command line: its words, the file that is written, lines of faults and exits.
+//! What the programs share on the command line: its words, the file that is written, lines of
+//! faults and exits.
 #![tactic(auto)]
 
 mod exits;

@@ -56,7 +56,8 @@ impl<'a, T: Files> OutputFile<'a, T> {
     /// Passes on what the file took, if it was made.
     fn flush_file(&mut self) -> io::Result<()>
         ensures same_calls { self.new.calls ≡ self.old.calls }
-        ensures same_bytes { Keeps (known_bytes T.File.contents self.old.file) (known_bytes T.File.contents self.new.file) }
+        ensures same_bytes { Keeps (known_bytes T.File.contents self.old.file) (known_bytes
+            T.File.contents self.new.file) }
     {
         match &mut self.file {
             Some(file) => file.flush(),

@@ -25,18 +25,21 @@ impl<W: Sink> fmt::Write for TextSink<'_, W> {
     ghost use Rattle.sqz_image.specs.declared.fault.Fault.TheVariants.{WriteFailed};
     ghost use Rattle.sqz_image.specs.Devices.{WritesWhole, WriteStops};
 
-    ghost write_str_gives = { λ old text new. WritesWhole (W.state old.sink.now) (W.state new.sink.now) text };
+    ghost write_str_gives = { λ old text new. WritesWhole (W.state old.sink.now) (W.state
+        new.sink.now) text };
 
     fn write_str(&mut self, text: &str) -> fmt::Result
-        ensures ok { IsOk result → WritesWhole (W.state self.old.sink.now) (W.state self.new.sink.now) text.now }
-        ensures stopped { IsErr result → WriteStops (W.state self.old.sink.now) (W.state self.new.sink.now) text.now WriteFailed }
+        ensures ok { IsOk result → WritesWhole (W.state self.old.sink.now) (W.state
+            self.new.sink.now) text.now }
+        ensures stopped { IsErr result → WriteStops (W.state self.old.sink.now) (W.state
+            self.new.sink.now) text.now WriteFailed }
     {
         write_all(self.sink, text.as_bytes()).map_err(|_| fmt::Error)
     }
 }
 
-/// Prints what `clap` says in place of arguments, and takes no memory for it. If the sink fails, the rest is
-/// left out. There is no clause, since the contracts of `clap` do not tell this text.
+/// Prints what `clap` says in place of arguments, and takes no memory for it. If the sink fails,
+/// the rest is left out. There is no clause, since the contracts of `clap` do not tell this text.
 pub(crate) fn print_error<W: Sink>(sink: &mut W, error: &Error) {
     let mut text = TextSink { sink };
     let _ = write!(text, "{error}");

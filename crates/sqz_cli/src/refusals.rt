@@ -26,7 +26,8 @@ pub fn refuse<E: Sink>(fault: &Fault, err: &mut E) -> u8
 /// Prints what is said in place of arguments, and answers what the program is to end with.
 pub fn explain<C: Sink, E: Sink>(error: &Error, out: &mut C, err: &mut E) -> u8
     ensures exit { result ≡ exit_of_kind (kind_of error.now) }
-    ensures memory { kind_of error.now ≡ kinds.OutOfMemory → PrintsFault (E.state err.old) (E.state err.new) OutOfMemory }
+    ensures memory { kind_of error.now ≡ kinds.OutOfMemory
+        → PrintsFault (E.state err.old) (E.state err.new) OutOfMemory }
     ensures silent { result ≡ 0 → err.new ≡ err.old }
     ensures quiet { 0 < result → out.new ≡ out.old }
 {

@@ -11,8 +11,8 @@ use std::{env, io};
 
 /// The words of the command line, of which the first is the program's name.
 ///
-/// If there is no memory for them, or one of them is no text, one line on `err` says so, and the error
-/// is the exit of the program.
+/// If there is no memory for them, or one of them is no text, one line on `err` says so, and the
+/// error is the exit of the program.
 pub fn words_or_exit<R: Env + AllocGlobal, E: Sink>(rt: &R, err: &mut E) -> Result<Vec<String>, u8>
     ensures exit { IfErr result (λ exit. (exit ≡ 4) ⊎ (exit ≡ 2)) }
     ensures silent { IsOk result → err.new ≡ err.old }

@@ -7,11 +7,12 @@ use crate::exits::BAD_ARGUMENTS;
 use crate::printing::print;
 use sqz_image::Sink;
 
-/// Prints one line, which says that a word of the command line is no text, and answers what the program
-/// is to end with.
+/// Prints one line, which says that a word of the command line is no text, and answers what the
+/// program is to end with.
 pub fn refuse_words<E: Sink>(err: &mut E) -> u8
     ensures exit { result ≡ 2 }
-    ensures line { Prints (E.state err.old) (E.state err.new) (codes "error: an argument is not valid text\n") }
+    ensures line { Prints (E.state err.old) (E.state err.new)
+        (codes "error: an argument is not valid text\n") }
 {
     print(err, b"error: an argument is not valid text\n");
     BAD_ARGUMENTS

@@ -1,9 +1,11 @@
 //! The command line.
 
 ghost use Rattle.std.specs.Prelude.{◌≡◌, ◌↔◌, IfOk, IsTrue, Some, codes, map, string_bytes};
-ghost use Rattle.clap.specs.Words.{FailsBy, IsParsedFrom, app_of, fault_of, first_of, matches_of, one_of};
+ghost use Rattle.clap.specs.Words.{FailsBy, IsParsedFrom, app_of, fault_of, first_of, matches_of};
+ghost use Rattle.clap.specs.Words.{one_of};
 ghost use Rattle.clap.specs.declared.parser.matches.ArgMatches.{ArgMatches};
-ghost use Rattle.sqz_compact_args.specs.CommandLine.{GivesAll, IsFlag, IsNumber, IsRequired, ReadsNumber, command_line};
+ghost use Rattle.sqz_compact_args.specs.CommandLine.{GivesAll, IsFlag, IsNumber, IsRequired};
+ghost use Rattle.sqz_compact_args.specs.CommandLine.{ReadsNumber, command_line};
 
 use clap::{Arg, ArgAction, Command, Error, value_parser};
 use std::alloc::{AllocError, Global};
@@ -30,9 +32,11 @@ pub struct Arguments<'a> {
 /// Fails with what is to be printed: the help, where it was asked for, or what is wrong.
 pub fn read_arguments<'a>(alloc: Global, words: &'a [String]) -> Result<Arguments<'a>, Error>
     ensures input { IfOk result (λ arguments.
-        first_of (codes "IN") (matches_of command_line (map string_bytes words.entry.now)) ≡ Some arguments.input.now) }
+        first_of (codes "IN") (matches_of command_line (map string_bytes words.entry.now))
+        ≡ Some arguments.input.now) }
     ensures output { IfOk result (λ arguments.
-        first_of (codes "OUT") (matches_of command_line (map string_bytes words.entry.now)) ≡ Some arguments.output.now) }
+        first_of (codes "OUT") (matches_of command_line (map string_bytes words.entry.now))
+        ≡ Some arguments.output.now) }
     ensures workers { IfOk result (λ arguments.
         let rows = matches_of command_line (map string_bytes words.entry.now) in
         ReadsNumber rows (codes "workers") arguments.workers) }
@@ -61,7 +65,8 @@ pub fn read_arguments<'a>(alloc: Global, words: &'a [String]) -> Result<Argument
 /// What the program takes.
 fn command<'a>(alloc: Global) -> Result<Command<'a>, AllocError>
     ensures shape { IfOk result (λ command. app_of command ≡ command_line) }
-    ensures given { IfOk result (λ command. (m : ArgMatches) → IsParsedFrom command m → GivesAll m) }
+    ensures given { IfOk result (λ command.
+        (m : ArgMatches) → IsParsedFrom command m → GivesAll m) }
 {
     Command::new(alloc, "sqzcompact")
         .version("1.0.0")

@@ -4,7 +4,8 @@ ghost use Rattle.std.specs.Prelude.{◌≡◌, [], ◌∷◌, Some, codes};
 ghost use Rattle.clap.specs.Words.{matches_of, one_of};
 ghost use Rattle.sqz_compact_args.specs.CommandLine.{command_line};
 
-/// What is read for the options of two command lines, one with two paths alone, and one with each option before them.
+/// What is read for the options of two command lines, one with two paths alone, and one with each
+/// option before them.
 pub fn worked_options()
     ensures defaults { let rows = matches_of command_line (codes "sqzcompact" ∷ codes "a" ∷ codes "b" ∷ []) in
         (one_of (codes "workers") rows ≡ Some (codes "4"))

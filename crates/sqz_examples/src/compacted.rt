@@ -1,8 +1,8 @@
 //! Images that are accepted, and what they are compacted to.
 //!
-//! An image is given by its data words, chunk after chunk, and by the address of its special objects
-//! array. Its first object is mostly `0x1007`, nil, which is one word. `0x320B` and `0x320F` are the
-//! headers of arrays of one and of two fields, and a field `1` is the integer 0.
+//! An image is given by its data words, chunk after chunk, and by the address of its special
+//! objects array. Its first object is mostly `0x1007`, nil, which is one word. `0x320B` and
+//! `0x320F` are the headers of arrays of one and of two fields, and a field `1` is the integer 0.
 
 ghost use Rattle.std.specs.Prelude.{[], ◌∷◌, ◌++◌, replicate};
 ghost use Rattle.sqz_object.specs.declared.order.Order.TheVariants.{Little, Big};

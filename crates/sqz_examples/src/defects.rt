@@ -1,11 +1,12 @@
-//! Images that have a defect: a reachable object without a class, a bad method or context, or a slot that
-//! names no object.
+//! Images that have a defect: a reachable object without a class, a bad method or context, or a
+//! slot that names no object.
 //!
 //! An image is given as in [`crate::compacted`].
 
 ghost use Rattle.std.specs.Prelude.{[], ◌∷◌, replicate};
 ghost use Rattle.sqz_object.specs.declared.order.Order.TheVariants.{Little};
-ghost use Rattle.sqz_image.specs.declared.fault.Fault.TheVariants.{NoClass, BadMethod, BadContext, BadPointer};
+ghost use Rattle.sqz_image.specs.declared.fault.Fault.TheVariants.{NoClass, BadMethod, BadContext};
+ghost use Rattle.sqz_image.specs.declared.fault.Fault.TheVariants.{BadPointer};
 ghost use Rattle.sqz_image.specs.declared.slot.Slot.TheVariants.{ClassWord, Field};
 ghost use Rattle.sqz_trace.specs.declared.weak.Weak.TheVariants.{Keep};
 ghost use Rattle.sqz_tool.specs.Verdict.{IsRefused};

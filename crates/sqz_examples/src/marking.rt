@@ -1,18 +1,21 @@
 //! Runs of marking by several passes over one image, and events whose condition is not met.
 //!
-//! The image is that of [`crate::compacted`] with a dead cycle. Its special objects array is object 5, which names objects 0
-//! and 1; objects 1 and 3 name each other, and so do the dead objects 2 and 4. Two workers mark it: pass 0 begins with the
-//! weight of both, and has won, seen and counted object 5. There are three regions: object 0, which is one word, object 1, which
-//! is two, and objects 2 to 5, of which the last is three words and the others are two. The lists of a pass have what came last
-//! in front.
+//! The image is that of [`crate::compacted`] with a dead cycle. Its special objects array is object
+//! 5, which names objects 0 and 1; objects 1 and 3 name each other, and so do the dead objects 2
+//! and 4. Two workers mark it: pass 0 begins with the weight of both, and has won, seen and counted
+//! object 5. There are three regions: object 0, which is one word, object 1, which is two, and
+//! objects 2 to 5, of which the last is three words and the others are two. The lists of a pass
+//! have what came last in front.
 
 ghost use Rattle.std.specs.Prelude.{[], ◌∷◌};
 ghost use Rattle.sqz_trace.specs.declared.shades.Shade.TheVariants.{White, Grey, Black};
-ghost use Rattle.sqz_marks.specs.Core.{Look, Claim, Count, Blacken, Split, Join, Meets, IsLegalRun, spent};
+ghost use Rattle.sqz_marks.specs.Core.{Look, Claim, Count, Blacken, Split, Join, Meets, IsLegalRun};
+ghost use Rattle.sqz_marks.specs.Core.{spent};
 ghost use Rattle.sqz_examples.specs.DeadCycle.{dead_cycle_marking, dead_cycle_opening, by_pass};
 
-/// One pass marks the whole image. An object that is claimed again is seen and not won again, a look at a white object
-/// tells nothing, and one at a black object tells that it is black. Each object that is won is counted in its region.
+/// One pass marks the whole image. An object that is claimed again is seen and not won again, a
+/// look at a white object tells nothing, and one at a black object tells that it is black. Each
+/// object that is won is counted in its region.
 fn one_pass()
     ensures { IsLegalRun dead_cycle_marking
         (by_pass 0 (Look 5 ∷ Claim 5 0 ∷ Claim 5 0 ∷ Count 0 ∷ Claim 5 1 ∷ Count 1 ∷ Blacken 5 ∷ Look 5 ∷ Look 2 ∷
@@ -30,8 +33,8 @@ fn one_pass()
         } }
 {}
 
-/// A pass is split, and both parts claim one object: the first one wins it and counts it, the other one sees it. What is
-/// left of the part when the two are joined knows nothing.
+/// A pass is split, and both parts claim one object: the first one wins it and counts it, the other
+/// one sees it. What is left of the part when the two are joined knows nothing.
 fn two_passes()
     ensures { IsLegalRun dead_cycle_marking
         ((0, Split 1) ∷ (1, Look 5) ∷ (1, Claim 5 1) ∷ (1, Count 1) ∷ (0, Claim 5 1) ∷ (0, Join 1) ∷ [])
@@ -48,9 +51,9 @@ fn two_passes()
         } }
 {}
 
-/// What the pass may not do as marking begins: blacken an object whose targets it has not seen, claim along an edge that is
-/// none, claim what an object names that it has not seen, count what it has not won, count what it has counted, and give up
-/// all its weight.
+/// What the pass may not do as marking begins: blacken an object whose targets it has not seen,
+/// claim along an edge that is none, claim what an object names that it has not seen, count what it
+/// has not won, count what it has counted, and give up all its weight.
 fn not_yet()
     ensures targets_unseen { Meets dead_cycle_marking dead_cycle_opening 0 (Blacken 5) → ⊥ }
     ensures no_edge { Meets dead_cycle_marking dead_cycle_opening 0 (Claim 5 2) → ⊥ }

@@ -1,6 +1,8 @@
-//! What becomes of the objects of an image: where each is found in the compacted one, and what it names there.
+//! What becomes of the objects of an image: where each is found in the compacted one, and what it
+//! names there.
 //!
-//! The image is that of [`crate::compacted`] with a dead cycle: objects 2 and 4 are dead, and objects 1 and 3 name each other.
+//! The image is that of [`crate::compacted`] with a dead cycle: objects 2 and 4 are dead, and
+//! objects 1 and 3 name each other.
 
 ghost use Rattle.std.specs.Prelude.{◌≡◌, [], ◌∷◌, map, Some};
 ghost use Rattle.sqz_image.specs.declared.slot.Slot.TheVariants.{Field};
@@ -11,10 +13,13 @@ ghost use Rattle.sqz_tool.specs.Correspondence.{new_index, IsMovedObject, HasMov
 ghost use Rattle.sqz_examples.specs.DeadCycle.{dead_cycle};
 ghost use Rattle.sqz_examples.specs.MovedCycle.{cycle_marks, moved_cycle};
 
-/// The live objects become the objects 0 to 3, each one at its place. Object 3, now 2, still names object 1, which names it.
+/// The live objects become the objects 0 to 3, each one at its place. Object 3, now 2, still names
+/// object 1, which names it.
 fn dead_cycle()
-    ensures indexes { map (new_index dead_cycle cycle_marks) (0 ∷ 1 ∷ 3 ∷ 5 ∷ []) ≡ 0 ∷ 1 ∷ 2 ∷ 3 ∷ [] }
-    ensures places { map (place dead_cycle cycle_marks) (0 ∷ 1 ∷ 3 ∷ 5 ∷ []) ≡ 0x1000 ∷ 0x1004 ∷ 0x100C ∷ 0x1014 ∷ [] }
+    ensures indexes { map (new_index dead_cycle cycle_marks) (0 ∷ 1 ∷ 3 ∷ 5 ∷ [])
+        ≡ 0 ∷ 1 ∷ 2 ∷ 3 ∷ [] }
+    ensures places { map (place dead_cycle cycle_marks) (0 ∷ 1 ∷ 3 ∷ 5 ∷ [])
+        ≡ 0x1000 ∷ 0x1004 ∷ 0x100C ∷ 0x1014 ∷ [] }
     ensures names { strong_target moved_cycle Keep 2 (Field 0) ≡ Some 1 }
     ensures named { strong_target moved_cycle Keep 1 (Field 0) ≡ Some 2 }
     ensures objects { HasMovedObjects dead_cycle Keep cycle_marks moved_cycle }

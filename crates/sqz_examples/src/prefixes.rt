@@ -6,7 +6,9 @@ ghost use Rattle.std.specs.Prelude.{[], ◌∷◌, ◌++◌, take, slice_set};
 ghost use Rattle.std.specs.List.{repeat};
 ghost use Rattle.sqz_object.specs.declared.order.Order.TheVariants.{Little, Big};
 ghost use Rattle.sqz_object.specs.Bytes.{spelling_of};
-ghost use Rattle.sqz_image.specs.declared.fault.Fault.TheVariants.{TooShort, BadVersion, BadHeaderSize, Truncated, Overrun};
+ghost use Rattle.sqz_image.specs.declared.fault.Fault.TheVariants.{TooShort, BadVersion};
+ghost use Rattle.sqz_image.specs.declared.fault.Fault.TheVariants.{BadHeaderSize, Truncated};
+ghost use Rattle.sqz_image.specs.declared.fault.Fault.TheVariants.{Overrun};
 ghost use Rattle.sqz_trace.specs.declared.weak.Weak.{Weak};
 ghost use Rattle.sqz_trace.specs.declared.weak.Weak.TheVariants.{Keep, Clear};
 ghost use Rattle.sqz_tool.specs.Verdict.{IsRefused};
@@ -44,8 +46,8 @@ fn weak_slot()
         CompactsTo Clear (behind 512 file) (behind 512 answer) }
 {}
 
-/// A file that begins with the version in one order is read from there, though the version stands behind 512 bytes in
-/// the other.
+/// A file that begins with the version in one order is read from there, though the version stands
+/// behind 512 bytes in the other.
 fn version_at_both()
     ensures { let first = file_of Little (0x1007 ∷ 0x320F ∷ 1 ∷ 1 ∷ 0x320B ∷ 0x1000 ∷ []) 0x1010 in
         let second = file_of Big (0x1007 ∷ 0x320B ∷ 0x1000 ∷ []) 0x1004 in
@@ -121,5 +123,6 @@ fn first_unreadable_chunk()
 /// Another version behind 512 bytes is not read.
 fn other_version()
     ensures { let words = words_at 0x1000 (0x1007 ∷ 0x320F ∷ 1 ∷ 1 ∷ 0x320B ∷ 0x1000 ∷ []) 0x1010 in
-        (weak : Weak) → IsRefused weak (behind 512 (spelling_of Little (slice_set words 0 6504))) BadVersion }
+        (weak : Weak) → IsRefused weak (behind 512 (spelling_of Little (slice_set words 0 6504)))
+        BadVersion }
 {}

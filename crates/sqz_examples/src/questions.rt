@@ -1,8 +1,9 @@
 //! Why objects are there, and which objects a class has.
 //!
-//! The images are those of [`crate::compacted`] with a dead cycle and with a class word. In the first, object 5 is the special objects
-//! array, which names object 1 by its field 1; objects 1 and 3 name each other, and so do the dead objects 2 and 4. In the second, object
-//! 4 is that array, which names object 3, whose class word names object 2.
+//! The images are those of [`crate::compacted`] with a dead cycle and with a class word. In the
+//! first, object 5 is the special objects array, which names object 1 by its field 1; objects 1 and
+//! 3 name each other, and so do the dead objects 2 and 4. In the second, object 4 is that array,
+//! which names object 3, whose class word names object 2.
 
 ghost use Rattle.std.specs.Prelude.{[], ◌∷◌};
 ghost use Rattle.sqz_image.specs.declared.slot.Slot.TheVariants.{ClassWord, Field};
@@ -12,7 +13,8 @@ ghost use Rattle.sqz_paths.specs.Members.{AreMembers};
 ghost use Rattle.sqz_examples.specs.DeadCycle.{dead_cycle};
 ghost use Rattle.sqz_examples.specs.ClassEdge.{class_edge, class_edge_marks};
 
-/// The path into the cycle has two steps. The special objects array has one of no step, and no path leads to a dead object.
+/// The path into the cycle has two steps. The special objects array has one of no step, and no path
+/// leads to a dead object.
 fn paths_of_a_cycle()
     ensures into { IsShortestPath dead_cycle Keep 3
         (record { slot = Field 1; object = 1 } ∷ record { slot = Field 0; object = 3 } ∷ []) }
@@ -23,8 +25,12 @@ fn paths_of_a_cycle()
 /// To go once more round the cycle is no shortest path, nor is one whose step names another slot.
 fn no_shortest_paths()
     ensures round { IsShortestPath dead_cycle Keep 1
-        (record { slot = Field 1; object = 1 } ∷ record { slot = Field 0; object = 3 } ∷ record { slot = Field 0; object = 1 } ∷ []) → ⊥ }
-    ensures other_slot { IsShortestPath dead_cycle Keep 1 (record { slot = Field 0; object = 1 } ∷ []) → ⊥ }
+        (record { slot = Field 1; object = 1 } ∷ record { slot = Field 0; object = 3 } ∷ record {
+          slot = Field 0;
+          object = 1;
+        } ∷ []) → ⊥ }
+    ensures other_slot { IsShortestPath dead_cycle Keep 1 (record { slot = Field 0; object = 1 } ∷
+        []) → ⊥ }
 {}
 
 /// A class is kept by the class word of an instance.

@@ -1,13 +1,15 @@
-//! Files that are not images: faults of the header, of a chunk, and of the address of the special objects
-//! array.
+//! Files that are not images: faults of the header, of a chunk, and of the address of the special
+//! objects array.
 //!
 //! A file is given as an image is in [`crate::compacted`].
 
 ghost use Rattle.std.specs.Prelude.{[], ◌∷◌, ◌++◌, take, slice_set};
 ghost use Rattle.sqz_object.specs.declared.order.Order.TheVariants.{Little};
 ghost use Rattle.sqz_object.specs.Bytes.{spelling_of};
-ghost use Rattle.sqz_image.specs.declared.fault.Fault.TheVariants.{TooShort, BadVersion, BadHeaderSize, BadDataSize};
-ghost use Rattle.sqz_image.specs.declared.fault.Fault.TheVariants.{BadBase, Truncated, ZeroSize, HeaderMismatch};
+ghost use Rattle.sqz_image.specs.declared.fault.Fault.TheVariants.{TooShort, BadVersion};
+ghost use Rattle.sqz_image.specs.declared.fault.Fault.TheVariants.{BadHeaderSize, BadDataSize};
+ghost use Rattle.sqz_image.specs.declared.fault.Fault.TheVariants.{BadBase, Truncated, ZeroSize};
+ghost use Rattle.sqz_image.specs.declared.fault.Fault.TheVariants.{HeaderMismatch};
 ghost use Rattle.sqz_image.specs.declared.fault.Fault.TheVariants.{Overrun, BadSpecialObjects};
 ghost use Rattle.sqz_trace.specs.declared.weak.Weak.{Weak};
 ghost use Rattle.sqz_tool.specs.Verdict.{IsRefused};
@@ -62,31 +64,36 @@ fn cut_in_data()
 /// A file that ends within its header is too short, whatever its version.
 fn short_of_another_version()
     ensures { let words = words_at 0x1000 (0x1007 ∷ 0x320F ∷ 1 ∷ 1 ∷ 0x320B ∷ 0x1000 ∷ []) 0x1010 in
-        (weak : Weak) → IsRefused weak (take 63 (spelling_of Little (slice_set words 0 6504))) TooShort }
+        (weak : Weak) → IsRefused weak (take 63 (spelling_of Little (slice_set words 0 6504)))
+        TooShort }
 {}
 
 /// Of two faults the version is the first.
 fn other_version_and_header_size()
     ensures { let words = words_at 0x1000 (0x1007 ∷ 0x320F ∷ 1 ∷ 1 ∷ 0x320B ∷ 0x1000 ∷ []) 0x1010 in
-        (weak : Weak) → IsRefused weak (spelling_of Little (slice_set (slice_set words 0 6504) 1 68)) BadVersion }
+        (weak : Weak) → IsRefused weak (spelling_of Little (slice_set (slice_set words 0 6504) 1
+        68)) BadVersion }
 {}
 
 /// The size of the header comes before that of the data.
 fn other_header_size_and_uneven_data_size()
     ensures { let words = words_at 0x1000 (0x1007 ∷ 0x320F ∷ 1 ∷ 1 ∷ 0x320B ∷ 0x1000 ∷ []) 0x1010 in
-        (weak : Weak) → IsRefused weak (spelling_of Little (slice_set (slice_set words 1 68) 2 22)) BadHeaderSize }
+        (weak : Weak) → IsRefused weak (spelling_of Little (slice_set (slice_set words 1 68) 2 22))
+        BadHeaderSize }
 {}
 
 /// The size of the data comes before their address.
 fn uneven_data_size_and_base()
     ensures { let words = words_at 0x1000 (0x1007 ∷ 0x320F ∷ 1 ∷ 1 ∷ 0x320B ∷ 0x1000 ∷ []) 0x1010 in
-        (weak : Weak) → IsRefused weak (spelling_of Little (slice_set (slice_set words 2 22) 3 0x1002)) BadDataSize }
+        (weak : Weak) → IsRefused weak (spelling_of Little (slice_set (slice_set words 2 22) 3
+        0x1002)) BadDataSize }
 {}
 
 /// The address of the data comes before their end.
 fn uneven_base_of_truncated_data()
     ensures { let words = words_at 0x1000 (0x1007 ∷ 0x320F ∷ 1 ∷ 1 ∷ 0x320B ∷ 0x1000 ∷ []) 0x1010 in
-        (weak : Weak) → IsRefused weak (take 87 (spelling_of Little (slice_set words 3 0x1002))) BadBase }
+        (weak : Weak) → IsRefused weak (take 87 (spelling_of Little (slice_set words 3 0x1002)))
+        BadBase }
 {}
 
 /// A chunk that states no words is not read.

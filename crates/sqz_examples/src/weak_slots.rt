@@ -1,12 +1,13 @@
 //! Images with weak objects, where weak slots are cleared and where they are kept.
 //!
-//! An image is given as in [`crate::compacted`]. `0x409` is the base header of a weak object of one field behind a class word, and
-//! `0x1113` the header of a class of three fields, of which field 2 states the fixed fields of its instances: `0x405` none,
-//! `0x409` one, and `0x20005` 64.
+//! An image is given as in [`crate::compacted`]. `0x409` is the base header of a weak object of one
+//! field behind a class word, and `0x1113` the header of a class of three fields, of which field 2
+//! states the fixed fields of its instances: `0x405` none, `0x409` one, and `0x20005` 64.
 
 ghost use Rattle.std.specs.Prelude.{[], ◌∷◌};
 ghost use Rattle.sqz_object.specs.declared.order.Order.TheVariants.{Little, Big};
-ghost use Rattle.sqz_image.specs.declared.fault.Fault.TheVariants.{NoClass, BadWeak, NoNil, BadPointer};
+ghost use Rattle.sqz_image.specs.declared.fault.Fault.TheVariants.{NoClass, BadWeak, NoNil};
+ghost use Rattle.sqz_image.specs.declared.fault.Fault.TheVariants.{BadPointer};
 ghost use Rattle.sqz_image.specs.declared.slot.Slot.TheVariants.{Field};
 ghost use Rattle.sqz_trace.specs.declared.weak.Weak.TheVariants.{Keep, Clear};
 ghost use Rattle.sqz_tool.specs.Verdict.{IsRefused};
@@ -47,8 +48,8 @@ fn weak_slot_of_live_object()
         CompactsTo Clear file answer }
 {}
 
-/// A fixed field of a weak object keeps alive what it names. Its class states one such field, and the other field is
-/// weak.
+/// A fixed field of a weak object keeps alive what it names. Its class states one such field, and
+/// the other field is weak.
 fn fixed_field_of_weak_object()
     ensures { let file = file_of Little
         (0x1007 ∷ 0x1113 ∷ 1 ∷ 1 ∷ 0x409 ∷ 0x100B ∷ 1 ∷ 0x100B ∷ 1 ∷ 0x1005 ∷ 0x40D ∷ 0x1014 ∷ 0x101C ∷
@@ -78,8 +79,8 @@ fn sixty_four_fixed_fields()
         CompactsTo Clear file answer }
 {}
 
-/// The class of a weak object may be found by a compact index: the special objects array names the array of compact
-/// classes, and that the class.
+/// The class of a weak object may be found by a compact index: the special objects array names the
+/// array of compact classes, and that the class.
 fn weak_object_of_compact_class()
     ensures { let file = file_of Little
         (0x1007 ∷ 0x1113 ∷ 1 ∷ 1 ∷ 0x405 ∷ 0x100B ∷ 1 ∷ 0x140B ∷ 0x1014 ∷ 0x320B ∷ 0x1004 ∷ 0x327B ∷
@@ -94,7 +95,8 @@ fn weak_object_of_compact_class()
         CompactsTo Clear file answer }
 {}
 
-/// The class of a weak object may be that object: its own field 2 states that it has one fixed field.
+/// The class of a weak object may be that object: its own field 2 states that it has one fixed
+/// field.
 fn weak_object_that_is_its_own_class()
     ensures { let file = file_of Little
         (0x1007 ∷ 0x100B ∷ 1 ∷ 0x1011 ∷ 0x411 ∷ 1 ∷ 0x1004 ∷ 0x409 ∷ 0x320F ∷ 0x1000 ∷ 0x1010 ∷ [])
@@ -118,7 +120,8 @@ fn weak_class_of_weak_object()
         CompactsTo Clear file answer }
 {}
 
-/// The special objects array may be weak where its class word leads to its class: its field 0 is fixed here.
+/// The special objects array may be weak where its class word leads to its class: its field 0 is
+/// fixed here.
 fn weak_special_array_with_class_word()
     ensures { let file = file_of Little
         (0x1007 ∷ 0x1113 ∷ 1 ∷ 1 ∷ 0x409 ∷ 0x1005 ∷ 0x40D ∷ 0x1000 ∷ 1 ∷ [])
@@ -140,8 +143,8 @@ fn weak_special_array_kept()
         CompactsTo Keep file answer }
 {}
 
-/// A weak special objects array without a class word has no strong fields, for its class would be found by these. So
-/// there is no nil.
+/// A weak special objects array without a class word has no strong fields, for its class would be
+/// found by these. So there is no nil.
 fn weak_special_array()
     ensures { IsRefused Clear
         (file_of Little
@@ -214,7 +217,8 @@ fn too_many_fixed_fields()
         (BadWeak 0x1018) }
 {}
 
-/// Nothing is found by a compact index where the array of compact classes is weak and has no class word.
+/// Nothing is found by a compact index where the array of compact classes is weak and has no class
+/// word.
 fn weak_compact_classes()
     ensures { IsRefused Clear
         (file_of Little

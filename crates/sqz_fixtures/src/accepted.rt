@@ -161,7 +161,8 @@ pub const CLASS_EDGE: TestImage = TestImage {
     ..EMPTY
 };
 
-/// The same in a header of three words, of which the base header states 63 words that are not there.
+/// The same in a header of three words, of which the base header states 63 words that are not
+/// there.
 pub const CLASS_EDGE_OF_THREE_WORDS: TestImage = TestImage {
     chunks: &[
         NIL,
@@ -188,7 +189,8 @@ pub const BIG_ENDIAN_BYTES: TestImage = TestImage {
     ..EMPTY
 };
 
-/// Of the compact classes that the last field of the special objects array names, that of the compact index 1 has a name.
+/// Of the compact classes that the last field of the special objects array names, that of the
+/// compact index 1 has a name.
 pub const CLASS_NAMES: TestImage = TestImage {
     chunks: &[
         NIL,
@@ -227,7 +229,8 @@ const FORTY_FIVE_BYTES: &[u32] = &[
     0x2C65726F, 0x74756320, 0x72656820, 0x7A797865,
 ];
 
-/// Of a long name 40 bytes are printed, ` class` behind them, and `?` for each that is not printable.
+/// Of a long name 40 bytes are printed, ` class` behind them, and `?` for each that is not
+/// printable.
 pub const LONG_NAME: TestImage = TestImage {
     chunks: &[
         NIL,
@@ -255,10 +258,12 @@ pub const METHOD_LITERALS: TestImage = TestImage {
     ..EMPTY
 };
 
-/// The fields of a context: six fixed ones, of which the stack pointer says that the stack holds one, that one, and three above.
+/// The fields of a context: six fixed ones, of which the stack pointer says that the stack holds
+/// one, that one, and three above.
 const STACK_OF_ONE: &[u32] = &[0x1000, 1, 3, 0x1000, 0x1000, 0x1000, 0x100C, 0x1014, 2, ODD];
 
-/// The fields of a context up to the top of its stack, whose pointer is data word 10, are traced, and those above are kept as they are.
+/// The fields of a context up to the top of its stack, whose pointer is data word 10, are traced,
+/// and those above are kept as they are.
 pub const CONTEXT_STACK: TestImage = TestImage {
     chunks: &[
         NIL,
@@ -299,7 +304,8 @@ pub const CONTEXT_WITHOUT_STACK_POINTER: TestImage = TestImage {
     ..EMPTY
 };
 
-/// Format 3 with other compact indexes, and another format with that of a context, make no contexts.
+/// Format 3 with other compact indexes, and another format with that of a context, make no
+/// contexts.
 pub const LIKE_CONTEXTS: TestImage = TestImage {
     chunks: &[
         NIL,

@@ -5,20 +5,24 @@ ghost use Rattle.sqz_object.specs.Value.{base_of};
 
 use std::alloc::AllocError;
 
-/// A chunk: the parts of its header, and the words behind it. The size that the header states is counted.
+/// A chunk: the parts of its header, and the words behind it. The size that the header states is
+/// counted.
 #[derive(Clone, Copy)]
 pub enum Chunk {
     /// An object with a header of one word: its compact index, its format and its fields.
     Short(u32, u32, &'static [u32]),
-    /// An array whose class the compact index 3 names, as most special objects arrays are: its fields.
+    /// An array whose class the compact index 3 names, as most special objects arrays are: its
+    /// fields.
     Array(&'static [u32]),
-    /// An array of 29 fields, as a special objects array is that names the array of compact classes: its first fields, and the
-    /// last one, which does so. Those between hold the integer 0.
+    /// An array of 29 fields, as a special objects array is that names the array of compact
+    /// classes: its first fields, and the last one, which does so. Those between hold the integer
+    /// 0.
     LongArray(&'static [u32], u32),
-    /// An object with a header of two words: the address of its class, its compact index, its format and its fields.
+    /// An object with a header of two words: the address of its class, its compact index, its
+    /// format and its fields.
     Classed(u32, u32, u32, &'static [u32]),
-    /// An object with a header of three words, whose base header states no size: the address of its class, its compact index,
-    /// its format, its first fields and the others.
+    /// An object with a header of three words, whose base header states no size: the address of its
+    /// class, its compact index, its format, its first fields and the others.
     Long(u32, u32, u32, &'static [u32], &'static [u32]),
     /// A free chunk: the words behind its first.
     Free(&'static [u32]),
@@ -44,10 +48,17 @@ const OF_FREE: u32 = 2;
 /// The type of a header's only word.
 const OF_ONE: u32 = 3;
 
-/// The base header that states this, and a hash of 0. Of each part those bits count for which there is room.
+/// The base header that states this, and a hash of 0. Of each part those bits count for which there
+/// is room.
 fn base_header(kind: u32, compact: u32, format: u32, size: u32) -> u32
     requires { kind < 4 }
-    ensures { base_of result ≡ record { kind = kind; size_field = size % 64; format = format % 16; compact = compact % 32; hash = 0 } }
+    ensures { base_of result ≡ record {
+      kind = kind;
+      size_field = size % 64;
+      format = format % 16;
+      compact = compact % 32;
+      hash = 0;
+    } }
 {
     kind + size % 64 * 4 + format % 16 * 256 + compact % 32 * 4096
 }

@@ -3,7 +3,8 @@
 use super::chunks::Chunk::Words;
 use super::images::{EMPTY, TestImage};
 
-/// A dozen classes with their metaclasses and names, points, methods and contexts. Its headers have hashes.
+/// A dozen classes with their metaclasses and names, points, methods and contexts. Its headers have
+/// hashes.
 pub const DOZEN_CLASSES: TestImage = TestImage {
     chunks: &[Words(&[
         0x11F1, 0xEEC0005, 0x1249, 0x14360005, 0x1299, 0x19800005, 0x104D, 0x1ECA0121, 0x1004,

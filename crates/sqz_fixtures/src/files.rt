@@ -14,8 +14,8 @@ pub fn put_words(file: &mut Vec<u8>, order: Order, words: &[u32]) -> Result<(), 
     Ok(())
 }
 
-/// Puts the header at the end of a file that says how many bytes the data have, at which address they begin, and at which the
-/// special objects array is.
+/// Puts the header at the end of a file that says how many bytes the data have, at which address
+/// they begin, and at which the special objects array is.
 pub fn put_header(
     file: &mut Vec<u8>,
     order: Order,

@@ -7,8 +7,9 @@ use super::with_weak_objects::WITH_WEAK_OBJECTS;
 use sqz_object::Order;
 use std::alloc::{AllocError, Global};
 
-/// An image: its byte order, the address of its first data word, its chunks, and the address of its special objects array. Where
-/// a data word is changed, it counts in place of the one that the chunks have there.
+/// An image: its byte order, the address of its first data word, its chunks, and the address of its
+/// special objects array. Where a data word is changed, it counts in place of the one that the
+/// chunks have there.
 #[derive(Clone, Copy)]
 pub struct TestImage {
     pub order: Order,
@@ -22,7 +23,8 @@ pub struct TestImage {
 #[derive(Clone, Copy)]
 pub struct Change(pub usize, pub u32);
 
-/// No data words, in a little-endian file. They would have addresses from 0x1000 on, where the special objects array is sought.
+/// No data words, in a little-endian file. They would have addresses from 0x1000 on, where the
+/// special objects array is sought.
 pub const EMPTY: TestImage = TestImage {
     order: Order::Little,
     base: 0x1000,
@@ -31,8 +33,9 @@ pub const EMPTY: TestImage = TestImage {
     changed: None,
 };
 
-/// The images of the folder `images/` that can be read, since a test cannot read that folder: those that are accepted, without
-/// weak objects and with some, and those of which an object has a defect.
+/// The images of the folder `images/` that can be read, since a test cannot read that folder: those
+/// that are accepted, without weak objects and with some, and those of which an object has a
+/// defect.
 pub const IMAGES: [&[TestImage]; 3] = [&ACCEPTED, &WITH_WEAK_OBJECTS, &WITH_DEFECTS];
 
 /// The image with this data word changed, and no other.

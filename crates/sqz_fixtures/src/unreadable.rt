@@ -1,4 +1,5 @@
-//! Images of which a chunk cannot be read, mostly the second, and images without a special objects array.
+//! Images of which a chunk cannot be read, mostly the second, and images without a special objects
+//! array.
 
 use super::accepted::{CLASS_EDGE, SPECIAL_ARRAY_ALONE};
 use super::chunks::Chunk::{Array, Words};

@@ -26,8 +26,8 @@ pub const WITH_WEAK_OBJECTS: [TestImage; 16] = [
     WEAK_ARRAY,
 ];
 
-/// A weak object whose only slot names an object that nothing else does. Its class, whose field 2 is data word 4, states no
-/// fixed field.
+/// A weak object whose only slot names an object that nothing else does. Its class, whose field 2
+/// is data word 4, states no fixed field.
 pub const WEAK_FIELDS: TestImage = TestImage {
     chunks: &[
         NIL,

@@ -12,12 +12,13 @@ pub trait Source {
     /// What contracts see of a source.
     ghost state: { Self → SourceState };
 
-    /// Whether the source promises to give all its bytes: a read into a piece that is not empty gives none
-    /// only if none are left. A source that does not tell its bytes promises nothing by this.
+    /// Whether the source promises to give all its bytes: a read into a piece that is not empty
+    /// gives none only if none are left. A source that does not tell its bytes promises nothing by
+    /// this.
     ghost gives_all: { Bool };
 
-    /// Reads bytes into the front of `into`, and returns how many. Once the source has failed it refuses
-    /// each later call.
+    /// Reads bytes into the front of `into`, and returns how many. Once the source has failed it
+    /// refuses each later call.
     fn read(&mut self, into: &mut [u8]) -> Result<usize, DeviceFault>
         ensures read { IsRead gives_all (state self.old) (state self.new) into.new result };
 

@@ -5,6 +5,7 @@ ghost use Rattle.sqz_image.specs.declared.fault.Fault.TheVariants.{OutOfMemory};
 ghost use Rattle.sqz_image.specs.Numbers.{number_of_fault};
 
 use crate::slot::Slot;
+use sqz_object::{Address, WordIndex};
 use std::alloc::{AllocError, AllocFailed};
 use thiserror::Error;
 
@@ -25,21 +26,21 @@ pub enum Fault {
     #[error("data are truncated")]
     Truncated,
     #[error("size 0 at word {word}")]
-    ZeroSize { word: u32 },
+    ZeroSize { word: WordIndex },
     #[error("header words disagree at word {word}")]
-    HeaderMismatch { word: u32 },
+    HeaderMismatch { word: WordIndex },
     #[error("chunk runs past the end at word {word}")]
-    Overrun { word: u32 },
+    Overrun { word: WordIndex },
     #[error("special objects array not found")]
     BadSpecialObjects,
     #[error("no class for object {address:08x}")]
-    NoClass { address: u32 },
+    NoClass { address: Address },
     #[error("bad method {address:08x}")]
-    BadMethod { address: u32 },
+    BadMethod { address: Address },
     #[error("bad context {address:08x}")]
-    BadContext { address: u32 },
+    BadContext { address: Address },
     #[error("bad pointer in object {address:08x}, {slot}")]
-    BadPointer { address: u32, slot: Slot },
+    BadPointer { address: Address, slot: Slot },
     #[error("out of memory")]
     OutOfMemory,
     #[error("cannot read the image")]
@@ -51,7 +52,7 @@ pub enum Fault {
     #[error("region cut is not valid")]
     BadCut,
     #[error("bad weak object {address:08x}")]
-    BadWeak { address: u32 },
+    BadWeak { address: Address },
     #[error("nil not found")]
     NoNil,
 }

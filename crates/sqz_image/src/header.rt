@@ -53,8 +53,8 @@ fn order_of(bytes: &[u8]) -> Option<Order>
     None
 }
 
-/// The offset of the header in a file: 512 if the version stands there, in either order, and the file
-/// does not begin with it; else 0.
+/// The offset of the header in a file: 512 if the version stands there, in either order, and the
+/// file does not begin with it; else 0.
 pub(crate) fn header_offset(file: &[u8]) -> usize
     ensures offset { result ≡ header_offset file.now }
     ensures inside { result ≤ length file.now }

@@ -1,6 +1,7 @@
 //! The object memory of an image, and its objects.
 
-ghost use Rattle.std.specs.Prelude.{◌≡◌, ◌⊎◌, ℕ, ◌+◌, ◌-◌, ◌*◌, ◌%◌, ◌^◌, ◌<◌, ◌≤◌, List, map, length, slice_index};
+ghost use Rattle.std.specs.Prelude.{◌≡◌, ◌⊎◌, ℕ, ◌+◌, ◌-◌, ◌*◌, ◌%◌, ◌^◌, ◌<◌, ◌≤◌, List, map};
+ghost use Rattle.std.specs.Prelude.{length, slice_index};
 ghost use Rattle.std.specs.Prelude.{Some, IfOk, IfErr};
 ghost use Rattle.std.specs.List.{concat, AllByRecursion};
 ghost use Rattle.sqz_object.specs.Bytes.{words_of};
@@ -17,7 +18,7 @@ use crate::index::{Index, index_of};
 use crate::object::Object;
 use crate::ranks::{Block, place_of};
 use crate::starts::Start;
-use sqz_object::{Chunk, Order, Words, known_chunk};
+use sqz_object::{Address, Chunk, ObjectIndex, Order, WordIndex, Words, known_chunk};
 use std::alloc::Global;
 use std::marker::Model;
 
@@ -26,9 +27,9 @@ use std::marker::Model;
 #[derive(Drop)]
 pub struct Heap {
     order: Order,
-    base: u32,
-    special: u32,
-    special_object: u32,
+    base: Address,
+    special: Address,
+    special_object: ObjectIndex,
     /// The data words, as the bytes of the file.
     bytes: DataBytes,
     /// Where each object's chunk begins.
@@ -44,26 +45,30 @@ impl Model for Heap {
 
     ghost Value = { Memory };
 
-    ghost view = { λ heap. memory_of heap.order heap.base heap.special (words_of heap.order heap.bytes) };
+    ghost view = { λ heap. memory_of heap.order heap.base heap.special (words_of heap.order
+        heap.bytes) };
 
-    ghost invariant = { λ heap. IsKept (memory_of heap.order heap.base heap.special (words_of heap.order heap.bytes))
+    ghost invariant = { λ heap. IsKept (memory_of heap.order heap.base heap.special (words_of
+        heap.order heap.bytes))
         (words_of heap.order heap.bytes) heap.starts.items heap.headers.items heap.special_object };
 }
 
 impl Heap {
-    /// The object memory with these data. Refused if their words are not chunks one after the other, or if no
-    /// object has the address of the special objects array; otherwise it fails only by running out of memory.
+    /// The object memory with these data. Refused if their words are not chunks one after the
+    /// other, or if no object has the address of the special objects array; otherwise it fails only
+    /// by running out of memory.
     pub(crate) fn of(
         alloc: Global,
         order: Order,
-        base: u32,
-        special: u32,
+        base: Address,
+        special: Address,
         bytes: DataBytes,
     ) -> Result<Self, Fault>
         requires few { length (words_of order bytes) < 2 ^ 30 }
         requires within { base + 4 * length (words_of order bytes) ≤ 2 ^ 32 }
         requires aligned { base % 4 ≡ 0 }
-        ensures heap { IfOk result (λ heap. IsWholeMemory order base special (words_of order bytes) heap) }
+        ensures heap { IfOk result (λ heap.
+            IsWholeMemory order base special (words_of order bytes) heap) }
         ensures refused { IfErr result (λ fault. (fault ≡ OutOfMemory)
             ⊎ IsNoMemory order base special (words_of order bytes) fault) }
     {
@@ -101,7 +106,7 @@ impl Heap {
     }
 
     /// The address of the first data word.
-    pub fn base(&self) -> u32
+    pub fn base(&self) -> Address
         ensures base { result ≡ self.now.base }
         ensures aligned { result % 4 ≡ 0 }
     {
@@ -125,7 +130,7 @@ impl Heap {
     }
 
     /// The address of the object's base header.
-    pub fn address(&self, object: u32) -> u32
+    pub fn address(&self, object: ObjectIndex) -> Address
         requires { object < object_count self.now }
         ensures address { result ≡ address_of self.now object }
         ensures within { result + 4 ≤ 2 ^ 32 }
@@ -135,7 +140,7 @@ impl Heap {
     }
 
     /// The index of the first word of the object's chunk among the data words.
-    pub fn first(&self, object: u32) -> u32
+    pub fn first(&self, object: ObjectIndex) -> WordIndex
         requires { object < object_count self.now }
         ensures first { result ≡ (object_at self.now object).first }
         ensures inside { result + length (chunk_words self.now object) < 2 ^ 30 }
@@ -144,7 +149,7 @@ impl Heap {
     }
 
     /// The object: its chunk's header and words.
-    pub fn object(&self, object: u32) -> Object<'_>
+    pub fn object(&self, object: ObjectIndex) -> Object<'_>
         requires { object < object_count self.now }
         ensures { result ≡ chunk_words self.now object }
     {
@@ -155,7 +160,7 @@ impl Heap {
     }
 
     /// What the header words of the object's chunk say.
-    pub fn chunk(&self, object: u32) -> Chunk
+    pub fn chunk(&self, object: ObjectIndex) -> Chunk
         requires { object < object_count self.now }
         ensures described { result ≡ description (chunk_words self.now object) }
         ensures headed { result.before < result.length }
@@ -164,8 +169,9 @@ impl Heap {
         known_chunk(&self.data(), self.first(object) as usize)
     }
 
-    /// How many words the object's chunk has. Its header is read only where no object's chunk follows it directly.
-    pub fn chunk_length(&self, object: u32) -> u32
+    /// How many words the object's chunk has. Its header is read only where no object's chunk
+    /// follows it directly.
+    pub fn chunk_length(&self, object: ObjectIndex) -> u32
         requires { object < object_count self.now }
         ensures length { result ≡ length (chunk_words self.now object) }
         ensures few { result < 2 ^ 30 }
@@ -179,7 +185,7 @@ impl Heap {
     }
 
     /// Word `k` of the object's chunk, header words counted.
-    pub fn word(&self, object: u32, k: u32) -> u32
+    pub fn word(&self, object: ObjectIndex, k: u32) -> u32
         requires object { object < object_count self.now }
         requires word { k < length (chunk_words self.now object) }
         ensures { result ≡ slice_index (chunk_words self.now object) k }
@@ -188,7 +194,7 @@ impl Heap {
     }
 
     /// The number of the object's fields: the words after its base header.
-    pub fn fields(&self, object: u32) -> u32
+    pub fn fields(&self, object: ObjectIndex) -> u32
         requires { object < object_count self.now }
         ensures { result ≡ length (fields (chunk_words self.now object)) }
     {
@@ -197,7 +203,7 @@ impl Heap {
     }
 
     /// Field `k` of the object. The program goes over slices of fields, by `object`.
-    pub fn field(&self, object: u32, k: u32) -> u32
+    pub fn field(&self, object: ObjectIndex, k: u32) -> u32
         requires object { object < object_count self.now }
         requires field { k < length (fields (chunk_words self.now object)) }
         ensures { result ≡ slice_index (fields (chunk_words self.now object)) k }
@@ -206,14 +212,14 @@ impl Heap {
     }
 
     /// The object whose address it is.
-    pub fn find(&self, address: u32) -> Option<u32>
+    pub fn find(&self, address: Address) -> Option<ObjectIndex>
         ensures { result ≡ find self.now address }
     {
         place_at(&self.headers, self.base, address)
     }
 
     /// The special objects array.
-    pub fn special(&self) -> u32
+    pub fn special(&self) -> ObjectIndex
         ensures special { find self.now self.now.special ≡ Some result }
         ensures inside { result < object_count self.now }
     {
@@ -221,8 +227,8 @@ impl Heap {
     }
 }
 
-/// There are fewer than 2^30 objects and fewer than 2^30 data words, and no data word lies at 2^32 or above. A
-/// law of every heap: the call does nothing.
+/// There are fewer than 2^30 objects and fewer than 2^30 data words, and no data word lies at 2^32
+/// or above. A law of every heap: the call does nothing.
 pub fn heap_bounds(heap: &Heap)
     ensures objects { object_count heap.now < 2 ^ 30 }
     ensures words { length (concat heap.now.chunks) < 2 ^ 30 }
@@ -234,7 +240,7 @@ pub fn heap_bounds(heap: &Heap)
 
 /// The place of an address among those of the words whose indexes the table has, the first word's
 /// address being `base`.
-fn place_at(headers: &[Block], base: u32, address: u32) -> Option<u32>
+fn place_at(headers: &[Block], base: Address, address: Address) -> Option<ObjectIndex>
     requires { IsTable headers.now }
     ensures { (indexes : List ℕ) → IsRanked indexes headers.now
         → IsPlaceOf (map (λ index. base + 4 * index) indexes) address result }

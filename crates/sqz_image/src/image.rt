@@ -5,6 +5,7 @@ ghost use Rattle.sqz_image.specs.File.{prefix_size, renewed};
 
 use crate::header::{DATA_SIZE_WORD, HEADER_WORDS, SPECIAL_WORD};
 use crate::heap::Heap;
+use sqz_object::Address;
 use std::marker::Model;
 
 /// An image as it was saved.
@@ -22,9 +23,15 @@ impl Model for Image {
 
     ghost Value = { SavedImage };
 
-    ghost view = { λ image. record { prefix = image.prefix.items; header = image.header; memory = image.heap } };
+    ghost view = { λ image. record {
+      prefix = image.prefix.items;
+      header = image.header;
+      memory =
+          image.heap;
+    } };
 
-    ghost invariant = { λ image. (length image.prefix.items ≡ 0) ⊎ (length image.prefix.items ≡ prefix_size) };
+    ghost invariant = { λ image. (length image.prefix.items ≡ 0)
+        ⊎ (length image.prefix.items ≡ prefix_size) };
 }
 
 impl Image {
@@ -51,7 +58,7 @@ impl Image {
 
     /// The header words, with another data size in bytes and another address of the special objects
     /// array.
-    pub(crate) fn renewed_header(&self, size: u32, special: u32) -> [u32; HEADER_WORDS]
+    pub(crate) fn renewed_header(&self, size: u32, special: Address) -> [u32; HEADER_WORDS]
         ensures { result ≡ renewed self.now.header size special }
     {
         let mut header = self.header;

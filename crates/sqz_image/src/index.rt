@@ -8,7 +8,7 @@ ghost use Rattle.sqz_image.specs.Refusals.{HasNoPartition, refusal_of};
 use crate::fault::Fault;
 use crate::ranks::{Block, add};
 use crate::starts::{Start, begins_object};
-use sqz_object::{ChunkFault, Kind, Words, chunk_in};
+use sqz_object::{ChunkFault, Kind, WordIndex, Words, chunk_in};
 use std::alloc::Global;
 
 /// Where each object stands.
@@ -20,12 +20,14 @@ pub(crate) struct Index {
     pub headers: Vec<Block>,
 }
 
-/// The objects of words that are chunks, one after the other. Refused at the first chunk that cannot
-/// be read: `ZeroSize`, `HeaderMismatch` or `Overrun`; else for want of memory alone.
+/// The objects of words that are chunks, one after the other. Refused at the first chunk that
+/// cannot be read: `ZeroSize`, `HeaderMismatch` or `Overrun`; else for want of memory alone.
 pub(crate) fn index_of(alloc: Global, words: &Words<'_>) -> Result<Index, Fault>
     requires few { length words.now < 2 ^ 30 }
-    ensures index { IfOk result (λ index. IsIndex words.now index.starts.items index.headers.items) }
-    ensures refused { IfErr result (λ fault. (fault ≡ OutOfMemory) ⊎ HasNoPartition words.now fault) }
+    ensures index { IfOk result (λ index.
+        IsIndex words.now index.starts.items index.headers.items) }
+    ensures refused { IfErr result (λ fault.
+        (fault ≡ OutOfMemory) ⊎ HasNoPartition words.now fault) }
 {
     let mut starts = Vec::new(alloc);
     let mut headers = Vec::new(alloc);
@@ -50,7 +52,7 @@ pub(crate) fn index_of(alloc: Global, words: &Words<'_>) -> Result<Index, Fault>
 }
 
 /// The refusal of a chunk that cannot be read, by the index of its first word.
-fn refusal_of(reason: ChunkFault, word: u32) -> Fault
+fn refusal_of(reason: ChunkFault, word: WordIndex) -> Fault
     ensures { result ≡ refusal_of reason word }
 {
     match reason {

@@ -1,6 +1,7 @@
 //! A sink that keeps bytes in memory, which can be told to fail.
 
-ghost use Rattle.std.specs.Prelude.{◌≡◌, ◌+◌, ◌<◌, ◌≤◌, ◌↔◌, ◌⊎◌, true, false, Some, [], min, length, IfOk, OnOk};
+ghost use Rattle.std.specs.Prelude.{◌≡◌, ◌+◌, ◌<◌, ◌≤◌, ◌↔◌, ◌⊎◌, true, false, Some, [], min};
+ghost use Rattle.std.specs.Prelude.{length, IfOk, OnOk};
 ghost use Rattle.std.specs.Prelude.{IfErr, OnErr, IsErr, vec_len, vec_capacity};
 ghost use Rattle.sqz_image.specs.Devices.{SinkState, IsWrite, IsFlush, one_more};
 ghost use Rattle.sqz_image.specs.declared.fault.Fault.TheVariants.{OutOfMemory};
@@ -59,7 +60,8 @@ impl MemorySink {
 
     /// Counts a call, and refuses it where the sink failed before or is to fail now.
     fn begin(&mut self) -> Result<(), DeviceFault>
-        ensures fails { IsErr result ↔ ((self.old.failed ≡ true) ⊎ (failing_call self.old ≡ Some (calls_of self.old))) }
+        ensures fails { IsErr result ↔ ((self.old.failed ≡ true)
+            ⊎ (failing_call self.old ≡ Some (calls_of self.old))) }
         ensures went_on { OnOk result ((self.old.failed ≡ false) × (self.new.failed ≡ false)) }
         ensures refused { OnErr result (self.new.failed ≡ true) }
         ensures counted { calls_of self.new ≡ one_more (calls_of self.old) }
@@ -82,7 +84,13 @@ impl MemorySink {
 impl Sink for MemorySink {
     ghost use Rattle.sqz_image.specs.MemoryDevices.{room_left, calls_of, failing_call};
 
-    ghost state = { λ s. record { contents = Some s.taken.items; writes = s.writes; unflushed = s.unflushed; failed = s.failed } };
+    ghost state = { λ s. record {
+      contents = Some s.taken.items;
+      writes = s.writes;
+      unflushed =
+          s.unflushed;
+      failed = s.failed;
+    } };
 
     fn write(&mut self, from: &[u8]) -> Result<usize, DeviceFault>
         ensures written { IsWrite (⟦<MemorySink as Sink>⟧.state self.old)

@@ -17,8 +17,8 @@ pub(crate) struct Block {
     below: u32,
 }
 
-/// Adds a number to the table of so many numbers, which are all below it. The table has a block for each row of 32 numbers,
-/// from 0 on up to the last of them.
+/// Adds a number to the table of so many numbers, which are all below it. The table has a block for
+/// each row of 32 numbers, from 0 on up to the last of them.
 pub(crate) fn add(blocks: &mut Vec<Block>, count: u32, number: u32) -> Result<(), AllocError>
     ensures { IfOk result (λ _. (numbers : List ℕ) → IsFilled numbers blocks.old.items
         → length numbers ≡ count → IsAbove numbers number

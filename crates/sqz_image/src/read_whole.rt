@@ -17,14 +17,16 @@ const PIECE: usize = 1 << 16;
 /// How many bytes of room are added at least.
 const LEAST_ROOM: usize = 1 << 20;
 
-/// The bytes that the source gives up to the first read that gives none. If the source promises to give all
-/// its bytes, it then has none left.
+/// The bytes that the source gives up to the first read that gives none. If the source promises to
+/// give all its bytes, it then has none left.
 ///
-/// Fails with `OutOfMemory`, or with `ReadFailed` if a read fails or 2^32 reads do not come to the end. The
-/// bytes that were read are then lost.
+/// Fails with `OutOfMemory`, or with `ReadFailed` if a read fails or 2^32 reads do not come to the
+/// end. The bytes that were read are then lost.
 pub fn read_all<R: Source>(alloc: Global, source: &mut R) -> Result<Vec<u8>, Fault>
-    ensures whole { IfOk result (λ file. ReadsWhole R.gives_all (R.state source.old) (R.state source.new) file.items) }
-    ensures stopped { IfErr result (λ fault. ReadStops (R.state source.old) (R.state source.new) fault) }
+    ensures whole { IfOk result (λ file.
+        ReadsWhole R.gives_all (R.state source.old) (R.state source.new) file.items) }
+    ensures stopped { IfErr result (λ fault.
+        ReadStops (R.state source.old) (R.state source.new) fault) }
 {
     let mut file = Vec::new(alloc);
     let mut piece = [0; PIECE];
@@ -42,8 +44,8 @@ pub fn read_all<R: Source>(alloc: Global, source: &mut R) -> Result<Vec<u8>, Fau
     Err(Fault::ReadFailed)
 }
 
-/// Puts bytes at the end of a file. Room is added in steps of a quarter of what is there, so that the
-/// memory taken stays close to what is used.
+/// Puts bytes at the end of a file. Room is added in steps of a quarter of what is there, so that
+/// the memory taken stays close to what is used.
 fn append(file: &mut Vec<u8>, bytes: &[u8]) -> Result<(), Fault>
     ensures whole { OnOk result (file.new.items ≡ file.old.items ++ bytes.now) }
     ensures stopped { IfErr result (λ fault. fault ≡ OutOfMemory) }

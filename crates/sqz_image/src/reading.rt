@@ -14,15 +14,17 @@ use crate::image::Image;
 use crate::laws::byte_bounds;
 use std::alloc::Global;
 
-/// The image that the bytes of a file hold, over a copy of them. The header stands at the front, or after 512 other
-/// bytes, which the image keeps. Bytes after the data are ignored.
+/// The image that the bytes of a file hold, over a copy of them. The header stands at the front, or
+/// after 512 other bytes, which the image keeps. Bytes after the data are ignored.
 ///
-/// Fails with the first fault of a file that applies: `TooShort`, `BadVersion`, `BadHeaderSize`, `BadDataSize`,
-/// `BadBase`, `Truncated`; then `ZeroSize`, `HeaderMismatch` or `Overrun` at the first chunk that cannot be read; then
-/// `BadSpecialObjects`. Otherwise it fails only by running out of memory, and never so if the header has a fault.
+/// Fails with the first fault of a file that applies: `TooShort`, `BadVersion`, `BadHeaderSize`,
+/// `BadDataSize`, `BadBase`, `Truncated`; then `ZeroSize`, `HeaderMismatch` or `Overrun` at the
+/// first chunk that cannot be read; then `BadSpecialObjects`. Otherwise it fails only by running
+/// out of memory, and never so if the header has a fault.
 pub fn read_image(alloc: Global, bytes: &[u8]) -> Result<Image, Fault>
     ensures image { IfOk result (λ image. Holds bytes.now image) }
-    ensures refused { IfErr result (λ fault. ((fault ≡ OutOfMemory) × (file_fault bytes.now ≡ None)) ⊎ IsUnreadable bytes.now fault) }
+    ensures refused { IfErr result (λ fault.
+        ((fault ≡ OutOfMemory) × (file_fault bytes.now ≡ None)) ⊎ IsUnreadable bytes.now fault) }
 {
     // the copy is made only if the header is sound
     read_header(&bytes[header_offset(bytes)..])?;
@@ -30,11 +32,12 @@ pub fn read_image(alloc: Global, bytes: &[u8]) -> Result<Image, Fault>
     image_of_file(alloc, file)
 }
 
-/// The image that a file holds. Its words stay where they lie among the bytes of the file, which the image keeps. It
-/// fails as `read_image` does; the bytes are then lost.
+/// The image that a file holds. Its words stay where they lie among the bytes of the file, which
+/// the image keeps. It fails as `read_image` does; the bytes are then lost.
 pub fn image_of_file(alloc: Global, file: Vec<u8>) -> Result<Image, Fault>
     ensures image { IfOk result (λ image. Holds file.items image) }
-    ensures refused { IfErr result (λ fault. ((fault ≡ OutOfMemory) × (file_fault file.items ≡ None)) ⊎ IsUnreadable file.items fault) }
+    ensures refused { IfErr result (λ fault.
+        ((fault ≡ OutOfMemory) × (file_fault file.items ≡ None)) ⊎ IsUnreadable file.items fault) }
 {
     byte_bounds(&file); // each byte is below 256
     let offset = header_offset(&file);

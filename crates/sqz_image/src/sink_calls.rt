@@ -1,6 +1,7 @@
 //! What a sink over a writer keeps of its calls.
 
-ghost use Rattle.std.specs.Prelude.{◌≡◌, ◌<◌, ◌↔◌, ◌==◌, if◌then◌else◌, Ok, true, false, length, IfOk, OnOk, OnErr, IsErr};
+ghost use Rattle.std.specs.Prelude.{◌≡◌, ◌<◌, ◌↔◌, ◌==◌, if◌then◌else◌, Ok, true, false, length};
+ghost use Rattle.std.specs.Prelude.{IfOk, OnOk, OnErr, IsErr};
 ghost use Rattle.sqz_image.specs.Devices.{one_more};
 
 use crate::device::DeviceFault;
@@ -40,8 +41,9 @@ impl SinkCalls {
         self.begin_flush()
     }
 
-    /// Ends a write of a piece, of which the writer answered this. Each error of the writer is a failure, an interrupted
-    /// write too, and so is a write that took nothing of a piece that is not empty.
+    /// Ends a write of a piece, of which the writer answered this. Each error of the writer is a
+    /// failure, an interrupted write too, and so is a write that took nothing of a piece that is
+    /// not empty.
     pub fn end_write(
         &mut self,
         from: &[u8],
@@ -49,7 +51,8 @@ impl SinkCalls {
     ) -> Result<usize, DeviceFault>
         ensures answered { IfOk result (λ count. written ≡ Ok count) }
         ensures some { IfOk result (λ count. 0 < length from.now → 0 < count) }
-        ensures unflushed { IfOk result (λ count. self.new.unflushed ≡ (if count == 0 then self.old.unflushed else true)) }
+        ensures unflushed { IfOk result (λ count.
+            self.new.unflushed ≡ (if count == 0 then self.old.unflushed else true)) }
         ensures sound { OnOk result (self.new.failed ≡ self.old.failed) }
         ensures none { OnErr result (IfOk written (λ count. (count ≡ 0) × (0 < length from.now))) }
         ensures left { OnErr result (self.new.unflushed ≡ self.old.unflushed) }

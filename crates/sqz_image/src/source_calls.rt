@@ -1,6 +1,7 @@
 //! What a source keeps of its calls.
 
-ghost use Rattle.std.specs.Prelude.{◌≡◌, ◌↔◌, ◌==◌, ◌&&◌, if◌then◌else◌, nat_lt, Ok, true, false, length};
+ghost use Rattle.std.specs.Prelude.{◌≡◌, ◌↔◌, ◌==◌, ◌&&◌, if◌then◌else◌, nat_lt, Ok, true, false};
+ghost use Rattle.std.specs.Prelude.{length};
 ghost use Rattle.std.specs.Prelude.{IfOk, OnOk, OnErr, IsErr};
 ghost use Rattle.sqz_image.specs.Devices.{one_more};
 
@@ -49,7 +50,8 @@ impl SourceCalls {
     pub fn end_read(&mut self, into: &[u8], read: io::Result<usize>) -> Result<usize, DeviceFault>
         ensures given { IfOk result (λ count. read ≡ Ok count) }
         ensures empty { IfOk result (λ count. self.new.empty_reads
-            ≡ (if count == 0 && nat_lt 0 (length into.now) then one_more self.old.empty_reads else self.old.empty_reads)) }
+            ≡ (if count == 0 && nat_lt 0 (length into.now) then one_more self.old.empty_reads else
+            self.old.empty_reads)) }
         ensures sound { OnOk result (self.new.failed ≡ self.old.failed) }
         ensures refused { OnErr result (IsErr read) }
         ensures failed { OnErr result (self.new.failed ≡ true) }

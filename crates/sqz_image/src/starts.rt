@@ -4,7 +4,7 @@ ghost use Rattle.std.specs.Prelude.{◌≡◌, ◌^◌, ◌<◌, ◌↔◌, true
 ghost use Rattle.sqz_object.specs.Chunk.{is_object};
 ghost use Rattle.sqz_image.specs.Starts.{first_of, IsFollowed};
 
-use sqz_object::Words;
+use sqz_object::{WordIndex, Words};
 
 /// The indexes of words are below this.
 const WORDS: u32 = 1 << 30;
@@ -12,8 +12,8 @@ const WORDS: u32 = 1 << 30;
 /// The low two bits of the first word of a free chunk.
 const FREE: u32 = 2;
 
-/// Where an object's chunk begins among the data words, and whether the next object's follows it directly, with no free
-/// chunk between.
+/// Where an object's chunk begins among the data words, and whether the next object's follows it
+/// directly, with no free chunk between.
 #[derive(Clone, Copy)]
 pub(crate) struct Start {
     /// The index of the chunk's first word; where no object's chunk follows directly, 2^30 more.
@@ -22,7 +22,7 @@ pub(crate) struct Start {
 
 impl Start {
     /// The start of a chunk that begins at this word.
-    pub(crate) fn new(first: u32, is_followed: bool) -> Start
+    pub(crate) fn new(first: WordIndex, is_followed: bool) -> Start
         requires { first < 2 ^ 30 }
         ensures first { first_of result ≡ first }
         ensures followed { IsFollowed result ↔ (is_followed ≡ true) }
@@ -33,7 +33,7 @@ impl Start {
     }
 
     /// The index of the chunk's first word.
-    pub(crate) fn first(&self) -> u32
+    pub(crate) fn first(&self) -> WordIndex
         ensures first { result ≡ first_of self.now }
         ensures few { result < 2 ^ 30 }
     {
@@ -48,7 +48,8 @@ impl Start {
     }
 }
 
-/// Whether an object's chunk begins at word `p`, if a chunk does: its first word has not the type of a free one.
+/// Whether an object's chunk begins at word `p`, if a chunk does: its first word has not the type
+/// of a free one.
 pub(crate) fn begins_object(words: &Words<'_>, p: usize) -> bool
     ensures { result ≡ is_object (drop p words.now) }
 {

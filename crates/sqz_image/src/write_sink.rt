@@ -7,8 +7,8 @@ use crate::device::{DeviceFault, Sink};
 use crate::sink_calls::SinkCalls;
 use std::io::Write;
 
-/// Passes bytes on to a writer. Each error of the writer is a failure, an interrupted write too, and
-/// so is a write that takes nothing of a piece that is not empty.
+/// Passes bytes on to a writer. Each error of the writer is a failure, an interrupted write too,
+/// and so is a write that takes nothing of a piece that is not empty.
 #[derive(Drop)]
 pub struct WriteSink<W> {
     inner: W,
@@ -19,7 +19,13 @@ impl<W: Write> WriteSink<W> {
     /// A sink that was not written to yet.
     pub fn new(inner: W) -> Self
         ensures { ⟦<WriteSink<W> as Sink>⟧.state result
-            ≡ record { contents = W.contents inner; writes = 0; unflushed = false; failed = false } }
+            ≡ record {
+              contents = W.contents inner;
+              writes = 0;
+              unflushed = false;
+              failed =
+                  false;
+            } }
     {
         WriteSink {
             inner,

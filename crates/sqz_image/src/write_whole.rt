@@ -11,11 +11,12 @@ pub(crate) const TURNS: u64 = 1 << 32;
 
 /// Writes all the bytes, and then flushes. It takes no memory.
 ///
-/// Fails with `WriteFailed` where a write or the flush fails, and where 2^32 writes were made. Bytes
-/// from the front on, perhaps all, were then taken.
+/// Fails with `WriteFailed` where a write or the flush fails, and where 2^32 writes were made.
+/// Bytes from the front on, perhaps all, were then taken.
 pub fn write_all<W: Sink>(sink: &mut W, bytes: &[u8]) -> Result<(), Fault>
     ensures whole { OnOk result (WritesWhole (W.state sink.old) (W.state sink.new) bytes.now) }
-    ensures stopped { IfErr result (λ fault. WriteStops (W.state sink.old) (W.state sink.new) bytes.now fault) }
+    ensures stopped { IfErr result (λ fault.
+        WriteStops (W.state sink.old) (W.state sink.new) bytes.now fault) }
 {
     let mut turns = TURNS;
     send(sink, bytes, &mut turns)?;
@@ -25,8 +26,10 @@ pub fn write_all<W: Sink>(sink: &mut W, bytes: &[u8]) -> Result<(), Fault>
 /// Writes all the bytes, one turn a write. It fails where no turn is left after a write.
 pub(crate) fn send<W: Sink>(sink: &mut W, bytes: &[u8], turns: &mut u64) -> Result<(), Fault>
     requires { 0 < turns.old }
-    ensures whole { OnOk result (Sends (W.state sink.old) (W.state sink.new) bytes.now turns.old turns.new) }
-    ensures stopped { IfErr result (λ fault. SendStops (W.state sink.old) (W.state sink.new) bytes.now turns.old fault) }
+    ensures whole { OnOk result (Sends (W.state sink.old) (W.state sink.new) bytes.now turns.old
+        turns.new) }
+    ensures stopped { IfErr result (λ fault.
+        SendStops (W.state sink.old) (W.state sink.new) bytes.now turns.old fault) }
 {
     let mut rest = bytes;
     while !rest.is_empty() {

@@ -16,11 +16,11 @@ const BLOCK_WORDS: usize = 1 << 14;
 /// The bytes of so many words.
 const BLOCK: usize = 4 * BLOCK_WORDS;
 
-/// Writes the bytes of the prefix, then the header words and the words of each piece, in this byte order, and then
-/// flushes. It takes no memory.
+/// Writes the bytes of the prefix, then the header words and the words of each piece, in this byte
+/// order, and then flushes. It takes no memory.
 ///
-/// Fails with `WriteFailed` where a write or the flush fails, and where 2^32 writes were made. Bytes
-/// from the front on, perhaps all, were then taken.
+/// Fails with `WriteFailed` where a write or the flush fails, and where 2^32 writes were made.
+/// Bytes from the front on, perhaps all, were then taken.
 pub(crate) fn write_words<W: Sink>(
     sink: &mut W,
     order: Order,
@@ -31,7 +31,8 @@ pub(crate) fn write_words<W: Sink>(
     ensures whole { OnOk result (WritesWhole (W.state sink.old) (W.state sink.new)
         (prefix.now ++ spelling_of order (header.now ++ concat (map (λ v. v.items) pieces.now)))) }
     ensures stopped { IfErr result (λ fault. WriteStops (W.state sink.old) (W.state sink.new)
-        (prefix.now ++ spelling_of order (header.now ++ concat (map (λ v. v.items) pieces.now))) fault) }
+        (prefix.now ++ spelling_of order (header.now ++ concat (map (λ v.
+        v.items) pieces.now))) fault) }
 {
     let mut block = [0; BLOCK];
     let mut turns = TURNS;

@@ -9,7 +9,8 @@ use sqz_object::base_of;
 use sqz_trace::{Weak, class_of};
 use std::alloc::{AllocError, Global};
 
-/// The name of an object's class, as a census has it; `compact K` with its compact index where it has no class.
+/// The name of an object's class, as a census has it; `compact K` with its compact index where it
+/// has no class.
 pub(crate) fn name_of_class(
     alloc: Global,
     heap: &Heap,

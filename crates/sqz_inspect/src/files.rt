@@ -12,9 +12,9 @@ use sqz_trace::{Marks, Weak, first_defect, lacks_nil, mark_plain};
 use std::alloc::{AllocError, Global};
 use std::thread::Threads;
 
-/// The facts of an image: its byte order, where it begins in its file, the base and the data, the special objects array,
-/// the objects, the free chunks, the live objects and their bytes, and the first fault for which it would not be
-/// compacted. Fails only with `OutOfMemory`.
+/// The facts of an image: its byte order, where it begins in its file, the base and the data, the
+/// special objects array, the objects, the free chunks, the live objects and their bytes, and the
+/// first fault for which it would not be compacted. Fails only with `OutOfMemory`.
 pub fn file_text(
     rt: &(impl Threads + Sync),
     alloc: Global,

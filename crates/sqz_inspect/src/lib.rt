@@ -1,4 +1,5 @@
-//! What a file holds, what an object in it is and why it is there, and which objects a class has: facts about an image, as text.
+//! What a file holds, what an object in it is and why it is there, and which objects a class has:
+//! facts about an image, as text.
 #![tactic(auto)]
 
 mod byte_text;

@@ -10,8 +10,9 @@ use sqz_paths::members_of;
 use sqz_trace::{Weak, mark_plain};
 use std::alloc::{AllocError, Global};
 
-/// A line for each live object of a class, most bytes first: its bytes, right-aligned in 12 places, and its address; and a last line
-/// with the sum, and what is listed. Fails with `OutOfMemory` alone.
+/// A line for each live object of a class, most bytes first: its bytes, right-aligned in 12 places,
+/// and its address; and a last line with the sum, and what is listed. Fails with `OutOfMemory`
+/// alone.
 pub fn members_text(alloc: Global, heap: &Heap, weak: Weak, class: u32) -> Result<Vec<u8>, Fault>
     requires inside { class < object_count heap.now }
     ensures refused { IfErr result (λ fault. fault ≡ OutOfMemory) }

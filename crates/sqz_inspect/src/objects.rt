@@ -14,7 +14,8 @@ use sqz_object::base_of;
 use sqz_trace::{Weak, class_of};
 use std::alloc::{AllocError, Global};
 
-/// The facts of an object, what its slots hold, its bytes as text where it has such, and a path to it. Fails with `OutOfMemory` alone.
+/// The facts of an object, what its slots hold, its bytes as text where it has such, and a path to
+/// it. Fails with `OutOfMemory` alone.
 pub fn object_text(alloc: Global, heap: &Heap, weak: Weak, object: u32) -> Result<Vec<u8>, Fault>
     requires inside { object < object_count heap.now }
     ensures refused { IfErr result (λ fault. fault ≡ OutOfMemory) }

@@ -30,7 +30,8 @@ pub(crate) fn add_path(
     Ok(())
 }
 
-/// Adds how many steps a path to an object has, and a line for each object on it, with the slot that names the next one.
+/// Adds how many steps a path to an object has, and a line for each object on it, with the slot
+/// that names the next one.
 fn add_steps(
     alloc: Global,
     facts: &mut Facts,

@@ -14,7 +14,8 @@ use std::alloc::{AllocError, Global};
 /// How many fields that are not traced are printed at most.
 const MOST_UNTRACED: usize = 16;
 
-/// Adds a line for the class word of an object, if it has one, and for each of its fields, unless they are bytes.
+/// Adds a line for the class word of an object, if it has one, and for each of its fields, unless
+/// they are bytes.
 pub(crate) fn add_slots(
     alloc: Global,
     facts: &mut Facts,
@@ -78,7 +79,8 @@ fn add_field(
     facts.add_text(name.as_str(), text)
 }
 
-/// What a slot holds, behind what is to be said of the slot: an integer, an object with its class, or a bad word.
+/// What a slot holds, behind what is to be said of the slot: an integer, an object with its class,
+/// or a bad word.
 fn held_text(
     alloc: Global,
     heap: &Heap,

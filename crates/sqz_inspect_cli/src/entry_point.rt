@@ -16,12 +16,14 @@ use std::thread::Threads;
 /// The length in bytes of the line for an address that no object has.
 const NO_OBJECT: usize = 22;
 
-/// Answers the question that a command line asks about an image, and answers what the program is to end with: 0 where the answer
-/// was printed, 1 where the image is at fault or has no object at the address, 2 where the words are, 3 where a file could not be
-/// read or the answer not printed, and 4 where memory was refused. The first word is the program's name; `out` and `err` stand for
+/// Answers the question that a command line asks about an image, and answers what the program is to
+/// end with: 0 where the answer was printed, 1 where the image is at fault or has no object at the
+/// address, 2 where the words are, 3 where a file could not be read or the answer not printed, and
+/// 4 where memory was refused. The first word is the program's name; `out` and `err` stand for
 /// standard output and standard error.
 ///
-/// Nothing is printed on `out` before the whole answer is known. A fault is printed as one line on `err`.
+/// Nothing is printed on `out` before the whole answer is known. A fault is printed as one line on
+/// `err`.
 pub fn look<T: Files + Threads + Sync, C: Sink, E: Sink>(
     rt: &T,
     alloc: Global,

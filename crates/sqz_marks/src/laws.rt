@@ -11,13 +11,16 @@ ghost use Rattle.sqz_regions.specs.Regions.{Regioning};
 ghost use Rattle.sqz_marks.specs.Core.{State, Event, IsLegalRun, marking_of};
 ghost use Rattle.sqz_marks.specs.Lawful.{IsLawful};
 
-/// Each state of each legal run is lawful; and in a lawful state without a grey object the marked objects are exactly the
-/// reachable ones.
+/// Each state of each legal run is lawful; and in a lawful state without a grey object the marked
+/// objects are exactly the reachable ones.
 pub fn core()
-    ensures lawful { (heap : Regioning) (weak : Weak) (workers start : ℕ) (run : List (ℕ × Event)) (state : State)
+    ensures lawful { (heap : Regioning) (weak : Weak) (workers start : ℕ) (run : List (ℕ
+        × Event)) (state : State)
         → find heap.memory heap.memory.special ≡ Some start → 1 ≤ workers
-        → IsLegalRun (marking_of heap weak workers start) run state → IsLawful (marking_of heap weak workers start) state }
+        → IsLegalRun (marking_of heap weak workers start) run state
+        → IsLawful (marking_of heap weak workers start) state }
     ensures reachable { (heap : Regioning) (weak : Weak) (workers start : ℕ) (state : State)
         → IsLawful (marking_of heap weak workers start) state
-        → ((object : ℕ) → shade_at state.shades object ≢ Grey) → MarksReachable (graph_from start heap.memory weak) (marks_of state.shades) }
+        → ((object : ℕ) → shade_at state.shades object ≢ Grey)
+        → MarksReachable (graph_from start heap.memory weak) (marks_of state.shades) }
 {}

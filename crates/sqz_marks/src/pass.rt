@@ -7,8 +7,8 @@ use crate::workers::Workers;
 use atomic_table::Seat;
 use std::marker::Model;
 
-/// What a worker marks with: one or more workers' share of the marking, which can be split and joined. Contracts see what
-/// it knows.
+/// What a worker marks with: one or more workers' share of the marking, which can be split and
+/// joined. Contracts see what it knows.
 #[derive(Drop)]
 pub struct Pass {
     pub(crate) seat: Seat<(), View>,
@@ -22,9 +22,15 @@ impl Model for Pass {
 
     ghost Value = { HeldPass };
 
-    ghost view = { λ pass. record { table = pass.seat.table_id; workers = pass.workers; view = pass.seat.me.0 } };
+    ghost view = { λ pass. record {
+      table = pass.seat.table_id;
+      workers = pass.workers;
+      view =
+          pass.seat.me.0;
+    } };
 
-    ghost invariant = { λ pass. (pass.seat.me.1 ≡ []) × (pass.weight ≡ pass.seat.me.0.weight) × (1 ≤ pass.weight) };
+    ghost invariant = { λ pass. (pass.seat.me.1 ≡ []) × (pass.weight ≡ pass.seat.me.0.weight)
+        × (1 ≤ pass.weight) };
 }
 
 impl Pass {

@@ -10,7 +10,8 @@ use sqz_trace::Weak;
 use std::marker::{Brand, PhantomData};
 use std::snapshot::Snapshot;
 
-/// What the rule is told once: the regions, and with them the heap, what becomes of weak slots, and the workers.
+/// What the rule is told once: the regions, and with them the heap, what becomes of weak slots, and
+/// the workers.
 pub(crate) type Key<'a> = (Snapshot<Regions<'a>>, Weak, Workers);
 
 /// The words and the passes are a lawful state of marking.

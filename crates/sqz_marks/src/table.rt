@@ -1,6 +1,7 @@
 //! The table of marks that workers share without waiting.
 
-ghost use Rattle.std.specs.Prelude.{◌≡◌, ◌≢◌, ℕ, ◌+◌, ◌*◌, ◌^◌, ◌<◌, ◌≤◌, [], length, map, take, sum, slice_index, Some, IfOk, IfErr};
+ghost use Rattle.std.specs.Prelude.{◌≡◌, ◌≢◌, ℕ, ◌+◌, ◌*◌, ◌^◌, ◌<◌, ◌≤◌, [], length, map, take};
+ghost use Rattle.std.specs.Prelude.{sum, slice_index, Some, IfOk, IfErr};
 ghost use Rattle.std.specs.Slots.{slots_items, slots_len, IsFull};
 ghost use Rattle.sqz_image.specs.declared.fault.Fault.TheVariants.{OutOfMemory};
 ghost use Rattle.sqz_image.specs.Objects.{object_count, chunk_words};
@@ -11,8 +12,10 @@ ghost use Rattle.sqz_regions.specs.Bases.{AreSums};
 ghost use Rattle.sqz_regions.specs.Places.{live_words};
 ghost use Rattle.sqz_regions.specs.Regions.{region_at, region_count};
 ghost use Rattle.sqz_marks.specs.declared.claim.Claim.TheVariants.{Won};
-ghost use Rattle.sqz_marks.specs.Core.{times, HasWon, HasSeen, HasBlackened, first_view, looked, counted, blackened, kept_of, part_of, joined};
-ghost use Rattle.sqz_marks.specs.Table.{IsPassOf, knowing, KeepsSeen, IsNewTo, HasCountedAll, AreEdgesOfSeen, start_of, shade_of, AreClosed};
+ghost use Rattle.sqz_marks.specs.Core.{times, HasWon, HasSeen, HasBlackened, first_view, looked};
+ghost use Rattle.sqz_marks.specs.Core.{counted, blackened, kept_of, part_of, joined};
+ghost use Rattle.sqz_marks.specs.Table.{IsPassOf, knowing, KeepsSeen, IsNewTo, HasCountedAll};
+ghost use Rattle.sqz_marks.specs.Table.{AreEdgesOfSeen, start_of, shade_of, AreClosed};
 ghost use Rattle.sqz_marks.specs.Claims.{IsClaim};
 
 use crate::claim::Claim;
@@ -26,15 +29,16 @@ use crate::workers::Workers;
 use atomic_table::{Seat, Table};
 use sqz_image::laws::heap_bounds;
 use sqz_image::{Fault, Heap, Slot};
+use sqz_object::ObjectIndex;
 use sqz_regions::Regions;
 use sqz_trace::{OutEdges, Shade, Shades, Weak};
 use std::alloc::Global;
 use std::marker::{Brand, Model};
 use std::snapshot::Snapshot;
 
-/// A word for each object of a heap, which says its shade, and one for each region, which says how many words of marked
-/// objects were counted there. They change in single atomic steps. Workers share them by `&`, each with a pass of its own; no
-/// call waits.
+/// A word for each object of a heap, which says its shade, and one for each region, which says how
+/// many words of marked objects were counted there. They change in single atomic steps. Workers
+/// share them by `&`, each with a pass of its own; no call waits.
 #[derive(Drop)]
 pub struct MarkTable<'a> {
     heap: &'a Heap,
@@ -52,13 +56,21 @@ impl<'a> Model for MarkTable<'a> {
 
     ghost Value = { SharedMarks };
 
-    ghost view = { λ marks. record { table = marks.table.shared.table_id; heap = marks.regions.now; weak = marks.weak; workers = marks.workers } };
+    ghost view = { λ marks. record {
+      table = marks.table.shared.table_id;
+      heap = marks.regions.now;
+      weak = marks.weak;
+      workers = marks.workers;
+    } };
 
     ghost invariant = { λ marks. (marks.heap.now ≡ marks.regions.now.memory)
-        × (marks.table.shared.key.0.value ≡ marks.regions.now) × (marks.table.shared.key.1 ≡ marks.weak) × (marks.table.shared.key.2 ≡ marks.workers)
-        × (marks.table.shared.table_id.words ≡ object_count marks.regions.now.memory + region_count marks.regions.now.cut marks.regions.now.memory)
+        × (marks.table.shared.key.0.value ≡ marks.regions.now)
+        × (marks.table.shared.key.1 ≡ marks.weak) × (marks.table.shared.key.2 ≡ marks.workers)
+        × (marks.table.shared.table_id.words ≡ object_count marks.regions.now.memory + region_count
+        marks.regions.now.cut marks.regions.now.memory)
         × (marks.table.shared.table_id.slots ≡ 0)
-        × (find marks.regions.now.memory marks.regions.now.memory.special ≡ Some (start_of marks.regions.now.memory)) };
+        × (find marks.regions.now.memory marks.regions.now.memory.special
+        ≡ Some (start_of marks.regions.now.memory)) };
 }
 
 /// What is left of a mark table when all have marked.
@@ -71,9 +83,9 @@ pub struct Closed {
 }
 
 impl<'a> MarkTable<'a> {
-    /// The table at which marking begins, and the pass that is all workers' share: the special objects array is grey, won by
-    /// it and counted, all else white. Takes 8 bytes for each object and each region, and as much again while it is made.
-    /// Fails for want of memory alone.
+    /// The table at which marking begins, and the pass that is all workers' share: the special
+    /// objects array is grey, won by it and counted, all else white. Takes 8 bytes for each object
+    /// and each region, and as much again while it is made. Fails for want of memory alone.
     pub fn new(
         alloc: Global,
         heap: &'a Heap,
@@ -82,8 +94,10 @@ impl<'a> MarkTable<'a> {
         workers: Workers,
     ) -> Result<(Self, Pass), Fault>
         requires { regions.now.memory ≡ heap.now }
-        ensures table { IfOk result (λ made. (made.0.heap ≡ regions.now) × (made.0.weak ≡ weak) × (made.0.workers ≡ workers)) }
-        ensures pass { IfOk result (λ made. IsPassOf made.0 made.1 × (made.1.view ≡ first_view workers (start_of heap.now))) }
+        ensures table { IfOk result (λ made.
+            (made.0.heap ≡ regions.now) × (made.0.weak ≡ weak) × (made.0.workers ≡ workers)) }
+        ensures pass { IfOk result (λ made.
+            IsPassOf made.0 made.1 × (made.1.view ≡ first_view workers (start_of heap.now))) }
         ensures refused { IfErr result (λ fault. fault ≡ OutOfMemory) }
     {
         heap_bounds(heap);
@@ -112,9 +126,9 @@ impl<'a> MarkTable<'a> {
         ))
     }
 
-    /// The shade of an object. What the pass won or has seen marked is never white, and what it knows to be black is black; of
-    /// what it has not seen the answer may be old.
-    pub fn look(&self, pass: &mut Pass, object: u32) -> Shade
+    /// The shade of an object. What the pass won or has seen marked is never white, and what it
+    /// knows to be black is black; of what it has not seen the answer may be old.
+    pub fn look(&self, pass: &mut Pass, object: ObjectIndex) -> Shade
         requires of { IsPassOf self.now pass.old }
         requires inside { object < object_count self.now.heap.memory }
         ensures step { pass.new ≡ knowing pass.old (looked object result pass.old.view) }
@@ -132,12 +146,14 @@ impl<'a> MarkTable<'a> {
 
     /// Makes the object that a strong slot of a parent points to grey, if it is white. The pass has
     /// seen the parent marked. An object that it wins it had neither seen nor counted.
-    pub fn claim(&self, pass: &mut Pass, parent: u32, slot: Slot) -> Claim
+    pub fn claim(&self, pass: &mut Pass, parent: ObjectIndex, slot: Slot) -> Claim
         requires of { IsPassOf self.now pass.old }
         requires inside { parent < object_count self.now.heap.memory }
         requires seen { HasSeen pass.old.view parent }
-        ensures claim { IsClaim (strong_target self.now.heap.memory self.now.weak parent slot) pass.old pass.new result }
-        ensures inside { (object : ℕ) → result ≡ Won object → object < object_count self.now.heap.memory }
+        ensures claim { IsClaim (strong_target self.now.heap.memory self.now.weak parent slot)
+            pass.old pass.new result }
+        ensures inside { (object : ℕ) → result ≡ Won object
+            → object < object_count self.now.heap.memory }
         ensures new { (object : ℕ) → result ≡ Won object → IsNewTo pass.old.view object }
         ensures keeps { KeepsSeen pass.old.view pass.new.view }
     {
@@ -153,7 +169,7 @@ impl<'a> MarkTable<'a> {
 
     /// The outgoing edges of an object, by which its targets are claimed. The header of the object
     /// is read here, and not again.
-    pub fn edges(&self, object: u32) -> OutEdges<'_>
+    pub fn edges(&self, object: ObjectIndex) -> OutEdges<'_>
         requires { object < object_count self.now.heap.memory }
         ensures { result ≡ out_edges self.now.heap.memory self.now.weak object }
     {
@@ -166,7 +182,8 @@ impl<'a> MarkTable<'a> {
         requires of { IsPassOf self.now pass.old }
         requires seen { AreEdgesOfSeen self.now.heap.memory self.now.weak pass.old.view edges.now }
         ensures claim { IsClaim (edge_target edges.now slot) pass.old pass.new result }
-        ensures inside { (object : ℕ) → result ≡ Won object → object < object_count self.now.heap.memory }
+        ensures inside { (object : ℕ) → result ≡ Won object
+            → object < object_count self.now.heap.memory }
         ensures new { (object : ℕ) → result ≡ Won object → IsNewTo pass.old.view object }
         ensures keeps { KeepsSeen pass.old.view pass.new.view }
     {
@@ -183,8 +200,9 @@ impl<'a> MarkTable<'a> {
         }
     }
 
-    /// Adds the length of an object's chunk to the number of its region. The pass won the object and has not counted it.
-    pub fn count(&self, pass: &mut Pass, object: u32)
+    /// Adds the length of an object's chunk to the number of its region. The pass won the object
+    /// and has not counted it.
+    pub fn count(&self, pass: &mut Pass, object: ObjectIndex)
         requires of { IsPassOf self.now pass.old }
         requires inside { object < object_count self.now.heap.memory }
         requires won { HasWon pass.old.view object }
@@ -197,11 +215,12 @@ impl<'a> MarkTable<'a> {
     }
 
     /// Makes an object black. The pass has seen it marked, and all objects to which it has an edge.
-    pub fn blacken(&self, pass: &mut Pass, object: u32)
+    pub fn blacken(&self, pass: &mut Pass, object: ObjectIndex)
         requires of { IsPassOf self.now pass.old }
         requires inside { object < object_count self.now.heap.memory }
         requires seen { HasSeen pass.old.view object }
-        requires targets { (target : ℕ) → HasEdge self.now.heap.memory self.now.weak object target → HasSeen pass.old.view target }
+        requires targets { (target : ℕ) → HasEdge self.now.heap.memory self.now.weak object target
+            → HasSeen pass.old.view target }
         ensures step { pass.new ≡ knowing pass.old (blackened object pass.old.view) }
     {
         self.table
@@ -226,7 +245,8 @@ impl<'a> MarkTable<'a> {
         }
     }
 
-    /// Cuts a pass in two: the first keeps what it knows and the rest of the weight, the second has this weight.
+    /// Cuts a pass in two: the first keeps what it knows and the rest of the weight, the second has
+    /// this weight.
     pub fn split(&self, mut pass: Pass, weight: u32) -> (Pass, Pass)
         requires of { IsPassOf self.now pass }
         requires positive { 1 ≤ weight }
@@ -264,17 +284,22 @@ impl<'a> MarkTable<'a> {
         pass
     }
 
-    /// Ends the marking by the pass that is all workers' share, which has counted all that it won. Gives the shades, and the
-    /// sums of the regions; behind the heap's base there is room below 2^32 for all of these, which `bases` asks for. Refused
-    /// for want of memory alone; table and pass come back as they were.
+    /// Ends the marking by the pass that is all workers' share, which has counted all that it won.
+    /// Gives the shades, and the sums of the regions; behind the heap's base there is room below
+    /// 2^32 for all of these, which `bases` asks for. Refused for want of memory alone; table and
+    /// pass come back as they were.
     pub fn close(self, alloc: Global, pass: Pass) -> Result<Closed, (Self, Pass)>
         requires of { IsPassOf self pass }
         requires whole { pass.view.weight ≡ self.workers }
         requires counted { HasCountedAll pass.view }
-        ensures closed { IfOk result (λ closed. AreClosed self.entry.heap.memory self.entry.weak pass.view closed.shades.items) }
-        ensures sums { IfOk result (λ closed. AreSums self.entry.heap (marks_of closed.shades.items) closed.live_words.items) }
-        ensures whole { IfOk result (λ closed. sum closed.live_words.items ≡ live_words self.entry.heap.memory (marks_of closed.shades.items)) }
-        ensures room { IfOk result (λ closed. self.entry.heap.memory.base + 4 * sum closed.live_words.items ≤ 2 ^ 32) }
+        ensures closed { IfOk result (λ closed.
+            AreClosed self.entry.heap.memory self.entry.weak pass.view closed.shades.items) }
+        ensures sums { IfOk result (λ closed.
+            AreSums self.entry.heap (marks_of closed.shades.items) closed.live_words.items) }
+        ensures whole { IfOk result (λ closed. sum closed.live_words.items
+            ≡ live_words self.entry.heap.memory (marks_of closed.shades.items)) }
+        ensures room { IfOk result (λ closed.
+            self.entry.heap.memory.base + 4 * sum closed.live_words.items ≤ 2 ^ 32) }
         ensures refused { IfErr result (λ back. (back.0 ≡ self.entry) × (back.1 ≡ pass)) }
     {
         heap_bounds(self.heap);
@@ -309,7 +334,7 @@ impl<'a> MarkTable<'a> {
     fn grow<O: CountedObject>(
         &self,
         seat: &mut Seat<(), View>,
-        object: u32,
+        object: ObjectIndex,
         region: u32,
         words: u32,
     )
@@ -336,7 +361,8 @@ impl<'a> MarkTable<'a> {
         requires weight { weight ≡ W.weight }
         requires positive { 1 ≤ weight }
         requires rest { weight < seat.old.me.0.weight }
-        ensures kept { (seat.new.table_id ≡ seat.old.table_id) × (seat.new.me ≡ (kept_of weight seat.old.me.0, seat.old.me.1)) }
+        ensures kept { (seat.new.table_id ≡ seat.old.table_id)
+            × (seat.new.me ≡ (kept_of weight seat.old.me.0, seat.old.me.1)) }
         ensures part { (result.table_id ≡ seat.old.table_id) × (result.me ≡ (part_of weight, [])) }
     {
         let _ = weight;
@@ -370,9 +396,11 @@ fn read_shades(closed: &atomic_table::Closed<(), Global>, shades: &mut [Shade])
 fn read_sums(closed: &atomic_table::Closed<(), Global>, first: usize, sums: &mut [u32])
     requires inside { first + length sums.old ≤ slots_len closed.now.words }
     requires full { IsFull closed.now.words }
-    requires few { (region : ℕ) → region < length sums.old → slice_index (slots_items closed.now.words) (first + region) < 2 ^ 30 }
+    requires few { (region : ℕ) → region < length sums.old
+        → slice_index (slots_items closed.now.words) (first + region) < 2 ^ 30 }
     ensures sized { length sums.new ≡ length sums.old }
-    ensures read { (region : ℕ) → region < length sums.old → slice_index sums.new region ≡ slice_index (slots_items closed.now.words) (first + region) }
+    ensures read { (region : ℕ) → region < length sums.old → slice_index sums.new region
+        ≡ slice_index (slots_items closed.now.words) (first + region) }
 {
     for region in 0..sums.len() {
         sums[region] = closed.word(first + region) as u32;

@@ -9,7 +9,8 @@ use std::marker::Model;
 /// The most workers that there may be.
 const MOST: u32 = 64;
 
-/// How many workers share the work: from 1 to 64. They are numbered from 0 on. Contracts see the number of them.
+/// How many workers share the work: from 1 to 64. They are numbered from 0 on. Contracts see the
+/// number of them.
 #[derive(Clone, Copy)]
 pub struct Workers {
     number: u32,

@@ -1,6 +1,7 @@
 //! One chunk of the object memory, read from its header words.
 
-ghost use Rattle.std.specs.Prelude.{◌≡◌, ◌==◌, ◌-◌, ◌^◌, ◌<◌, ◌≤◌, length, take, drop, slice_index, IfOk, IfErr};
+ghost use Rattle.std.specs.Prelude.{◌≡◌, ◌==◌, ◌-◌, ◌^◌, ◌<◌, ◌≤◌, length, take, drop, slice_index};
+ghost use Rattle.std.specs.Prelude.{IfOk, IfErr};
 ghost use Rattle.std.specs.List.{list_all};
 ghost use Rattle.sqz_object.specs.Chunk.{header_type, kind_of, words_before};
 ghost use Rattle.sqz_object.specs.Partition.{size_stated};
@@ -136,7 +137,8 @@ fn words_before(kind: Kind) -> u32
 fn is_of_one_type<W: WordList>(words: &W, start: usize, end: usize) -> bool
     requires some { start < end }
     requires inside { end ≤ length (W.words words.now) }
-    ensures { result ≡ list_all (λ word. header_type word == header_type (slice_index (W.words words.now) start))
+    ensures { result ≡ list_all (λ word.
+        header_type word == header_type (slice_index (W.words words.now) start))
         (take (end - start) (drop start (W.words words.now))) }
 {
     let first = words.word(start) % 4;
@@ -148,8 +150,8 @@ fn is_of_one_type<W: WordList>(words: &W, start: usize, end: usize) -> bool
     true
 }
 
-/// How many words the header says that a chunk of this kind has from its base header on, by its first
-/// word and its base header.
+/// How many words the header says that a chunk of this kind has from its base header on, by its
+/// first word and its base header.
 fn stated_size(kind: Kind, first: u32, base: u32) -> u32
     ensures { result ≡ size_stated kind first base }
 {

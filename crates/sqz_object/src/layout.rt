@@ -13,7 +13,8 @@ pub enum Layout {
     Fields,
     /// Slots, of which those after the fixed ones are weak: format 4.
     Weak,
-    /// The slots of a context up to the top of its stack: format 3 with compact class index 13 or 14.
+    /// The slots of a context up to the top of its stack: format 3 with compact class index 13 or
+    /// 14.
     Context,
     /// Words that are no slots: formats 5 to 7.
     Words,

@@ -1,6 +1,7 @@
 //! Words as they lie in a file.
 
-ghost use Rattle.std.specs.Prelude.{◌≡◌, ◌-◌, ◌<◌, ◌≤◌, ◌↔◌, [], IsTrue, length, take, drop, slice_index, slice_get};
+ghost use Rattle.std.specs.Prelude.{◌≡◌, ◌-◌, ◌<◌, ◌≤◌, ◌↔◌, [], IsTrue, length, take, drop};
+ghost use Rattle.std.specs.Prelude.{slice_index, slice_get};
 ghost use Rattle.std.specs.Iterator.{YieldsFirst, item_count};
 ghost use Rattle.sqz_object.specs.Bytes.{words_of};
 
@@ -9,7 +10,8 @@ use crate::word::word_of;
 use crate::word_list::WordList;
 use std::marker::Model;
 
-/// Words of 32 bits as they lie in a file: four bytes each, in one order. Contracts see the list of the words.
+/// Words of 32 bits as they lie in a file: four bytes each, in one order. Contracts see the list of
+/// the words.
 #[derive(Drop)]
 pub struct Words<'a> {
     order: Order,

@@ -1,4 +1,5 @@
-//! What keeps an object alive: a shortest path to it from the special objects array; and the live objects of a class.
+//! What keeps an object alive: a shortest path to it from the special objects array; and the live
+//! objects of a class.
 #![tactic(auto)]
 
 mod members;

@@ -7,6 +7,7 @@ ghost use Rattle.sqz_paths.specs.Members.{AreMembers, AreMembersBelow};
 
 use sqz_image::laws::heap_bounds;
 use sqz_image::{Fault, Heap};
+use sqz_object::ObjectIndex;
 use sqz_trace::{Marks, Weak, class_of};
 use std::alloc::{AllocError, Global};
 
@@ -14,22 +15,24 @@ use std::alloc::{AllocError, Global};
 #[derive(Clone, Copy, Debug, PartialEq, Eq)]
 pub struct Member {
     /// The index of the object.
-    pub object: u32,
+    pub object: ObjectIndex,
     /// The words of its chunk, header words among them.
     pub words: u32,
 }
 
-/// The marked objects of the class with this index, each once: those with more bytes come first, of as many bytes those with lower
-/// addresses. With the marks of the reachable objects these are the live ones. Fails for want of memory alone.
+/// The marked objects of the class with this index, each once: those with more bytes come first, of
+/// as many bytes those with lower addresses. With the marks of the reachable objects these are the
+/// live ones. Fails for want of memory alone.
 pub fn members_of(
     alloc: Global,
     heap: &Heap,
     weak: Weak,
     marks: &Marks,
-    class: u32,
+    class: ObjectIndex,
 ) -> Result<Vec<Member>, Fault>
     requires { length marks.now ≡ object_count heap.now }
-    ensures members { IfOk result (λ members. AreMembers heap.now weak marks.now class members.items) }
+    ensures members { IfOk result (λ members.
+        AreMembers heap.now weak marks.now class members.items) }
     ensures refused { IfErr result (λ fault. fault ≡ OutOfMemory) }
 {
     heap_bounds(heap); // fewer than 2^30 words in each chunk
@@ -48,10 +51,11 @@ fn members_by_address(
     heap: &Heap,
     weak: Weak,
     marks: &Marks,
-    class: u32,
+    class: ObjectIndex,
 ) -> Result<Vec<Member>, AllocError>
     requires { length marks.now ≡ object_count heap.now }
-    ensures { IfOk result (λ members. AreMembersBelow heap.now weak marks.now class (object_count heap.now) members.items) }
+    ensures { IfOk result (λ members.
+        AreMembersBelow heap.now weak marks.now class (object_count heap.now) members.items) }
 {
     let mut members = Vec::new(alloc);
     for object in 0..heap.len() {

@@ -1,6 +1,7 @@
 //! Paths along strong slots.
 
-ghost use Rattle.std.specs.Prelude.{◌≡◌, ◌<◌, ◌≤◌, length, slice_index, IfOk, IfErr, IfSome, IfNone};
+ghost use Rattle.std.specs.Prelude.{◌≡◌, ◌<◌, ◌≤◌, length, slice_index, IfOk, IfErr, IfSome};
+ghost use Rattle.std.specs.Prelude.{IfNone};
 ghost use Rattle.sqz_image.specs.declared.fault.Fault.TheVariants.{OutOfMemory};
 ghost use Rattle.sqz_paths.specs.Paths.{IsShortestPath, IsUnreachable};
 ghost use Rattle.sqz_paths.specs.Search.{IsPathBack};
@@ -9,6 +10,7 @@ ghost use Rattle.sqz_paths.specs.Searching.{IsSearching};
 use crate::search::Search;
 use crate::slots_between::slot_between;
 use sqz_image::{Fault, Heap, Slot};
+use sqz_object::ObjectIndex;
 use sqz_trace::{OutEdges, Weak};
 use std::alloc::{AllocError, Global};
 
@@ -19,7 +21,7 @@ pub struct Step {
     /// The slot of the object before.
     pub slot: Slot,
     /// The index of the object that it points to.
-    pub object: u32,
+    pub object: ObjectIndex,
 }
 
 /// A path from the special objects array. The path to that array itself has no step.
@@ -36,8 +38,14 @@ pub struct Path {
 /// Objects are looked at in the order in which they are found, those nearest to the special objects
 /// array first, until this one comes. That is linear in the words, and takes two numbers for each
 /// object. Fails only if it is out of memory.
-pub fn path_to(alloc: Global, heap: &Heap, weak: Weak, object: u32) -> Result<Option<Path>, Fault>
-    ensures path { IfOk result (λ found. IfSome found (λ path. IsShortestPath heap.now weak object path.steps.items)) }
+pub fn path_to(
+    alloc: Global,
+    heap: &Heap,
+    weak: Weak,
+    object: ObjectIndex,
+) -> Result<Option<Path>, Fault>
+    ensures path { IfOk result (λ found.
+        IfSome found (λ path. IsShortestPath heap.now weak object path.steps.items)) }
     ensures none { IfOk result (λ found. IfNone found (IsUnreachable heap.now weak object)) }
     ensures refused { IfErr result (λ fault. fault ≡ OutOfMemory) }
 {
@@ -58,7 +66,8 @@ pub fn path_to(alloc: Global, heap: &Heap, weak: Weak, object: u32) -> Result<Op
 fn path_back(alloc: Global, search: &Search<'_>, place: usize) -> Result<Path, AllocError>
     requires searching { IsSearching search.now place }
     requires inside { place < length search.now.found.items }
-    ensures { IfOk result (λ path. IsPathBack search.now.heap.now search.now.weak search.now.found.items search.now.from.items
+    ensures { IfOk result (λ path.
+        IsPathBack search.now.heap.now search.now.weak search.now.found.items search.now.from.items
         place path.steps.items) }
 {
     let mut steps = Vec::new(alloc);

@@ -6,12 +6,14 @@ ghost use Rattle.sqz_regions.specs.Regions.{Every, At, points_up_to, region_coun
 ghost use Rattle.sqz_regions.specs.Cuts.{IsCutList, IsValidCut};
 
 use sqz_image::{Fault, Heap};
+use sqz_object::WordIndex;
 use std::marker::Model;
 
 /// The most words that a region has, and the highest cut point.
 const MOST: u32 = 1 << 30;
 
-/// Where data words are cut into regions: at each multiple of a number of words, or at listed words.
+/// Where data words are cut into regions: at each multiple of a number of words, or at listed
+/// words.
 #[derive(Drop)]
 pub struct Cut {
     division: Division,
@@ -51,8 +53,8 @@ impl Cut {
         })
     }
 
-    /// Cuts at these words, which the program never asks for; no point is one region. Refused with `BadCut`, and the list is
-    /// dropped, unless each is above the one before, and none above 2^30.
+    /// Cuts at these words, which the program never asks for; no point is one region. Refused with
+    /// `BadCut`, and the list is dropped, unless each is above the one before, and none above 2^30.
     pub fn at(list: Vec<u32>) -> Result<Cut, Fault>
         ensures cut { IfOk result (λ cut. cut ≡ At list.items) }
         ensures refused { IfErr result (λ fault. fault ≡ BadCut) }
@@ -79,7 +81,7 @@ impl Cut {
     }
 
     /// The region that a word is in.
-    pub(crate) fn region(&self, word: u32) -> u32
+    pub(crate) fn region(&self, word: WordIndex) -> u32
         ensures region { result ≡ points_up_to self.now word }
         ensures valid { IsValidCut self.now }
     {
@@ -91,7 +93,8 @@ impl Cut {
 
     /// The first word behind this region, in constant time; 2^32 where no cut point is behind it.
     pub(crate) fn end(&self, region: u32) -> u64
-        ensures { (word : ℕ) → word < 2 ^ 32 → (word < result) ↔ (points_up_to self.now word ≤ region) }
+        ensures { (word : ℕ) → word < 2 ^ 32 → (word < result)
+            ↔ (points_up_to self.now word ≤ region) }
     {
         match &self.division {
             Division::Every(words) => (u64::from(region) + 1) * u64::from(*words),

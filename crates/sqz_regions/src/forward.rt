@@ -1,6 +1,7 @@
 //! The new address of each live object.
 
-ghost use Rattle.std.specs.Prelude.{◌≡◌, ◌+◌, ◌*◌, ◌^◌, ◌<◌, ◌≤◌, None, length, slice_index_or, IfOk, IfErr, IfSome};
+ghost use Rattle.std.specs.Prelude.{◌≡◌, ◌+◌, ◌*◌, ◌^◌, ◌<◌, ◌≤◌, None, length, slice_index_or};
+ghost use Rattle.std.specs.Prelude.{IfOk, IfErr, IfSome};
 ghost use Rattle.std.specs.List.{concat, flat_map};
 ghost use Rattle.sqz_image.specs.declared.fault.Fault.TheVariants.{OutOfMemory};
 ghost use Rattle.sqz_image.specs.Objects.{object_count};
@@ -12,6 +13,7 @@ use crate::regions::Regions;
 use rayon::prelude::*;
 use sqz_image::laws::heap_bounds;
 use sqz_image::{Fault, Heap};
+use sqz_object::{Address, ObjectIndex};
 use sqz_trace::Marks;
 use std::alloc::{AllocError, Global};
 use std::marker::Model;
@@ -21,15 +23,17 @@ use std::thread::Threads;
 /// The entry of an object that is not marked. No address is odd.
 const DEAD: u32 = u32::MAX;
 
-/// The number of objects of a range, before its ends are moved to the first objects of their regions.
+/// The number of objects of a range, before its ends are moved to the first objects of their
+/// regions.
 const RANGE: u32 = 4096;
 
-/// The place of each marked object: its new address (the forwarding address) in the compacted memory.
-/// Contracts see a list with an entry for each object: the new address of its base header, or none.
+/// The place of each marked object: its new address (the forwarding address) in the compacted
+/// memory. Contracts see a list with an entry for each object: the new address of its base header,
+/// or none.
 #[derive(Drop)]
 pub struct Forward {
     /// The address for each object; `DEAD` where it has none. Addresses are multiples of four.
-    places: Vec<u32>,
+    places: Vec<Address>,
 }
 
 impl Model for Forward {
@@ -45,9 +49,9 @@ impl Model for Forward {
 }
 
 impl Forward {
-    /// The new addresses of the marked objects, by the bases of their regions. Several threads build them
-    /// if there are more than 4096 objects and more than one region: each takes whole regions. Fails only
-    /// if out of memory.
+    /// The new addresses of the marked objects, by the bases of their regions. Several threads
+    /// build them if there are more than 4096 objects and more than one region: each takes whole
+    /// regions. Fails only if out of memory.
     pub fn build(
         rt: &(impl Threads + Sync),
         alloc: Global,
@@ -82,7 +86,7 @@ impl Forward {
     }
 
     /// The new address of the object's base header; none for an object that is not marked.
-    pub fn place(&self, object: u32) -> Option<u32>
+    pub fn place(&self, object: ObjectIndex) -> Option<Address>
         requires { object < length self.now }
         ensures place { result ≡ slice_index_or self.now object None }
         ensures within { IfSome result (λ place. place + 4 ≤ 2 ^ 32) }
@@ -94,7 +98,7 @@ impl Forward {
 
 /// The first object of the range with this number: the first one of the region of object
 /// `range * RANGE`. After the last range it is the number of objects.
-fn first_of_range(regions: &Regions<'_>, objects: u32, range: u32) -> u32
+fn first_of_range(regions: &Regions<'_>, objects: u32, range: u32) -> ObjectIndex
     requires objects { objects ≡ object_count regions.now.memory }
     requires few { range * RANGE < 2 ^ 32 }
     ensures { result ≡ range_begin regions.now.cut regions.now.memory range }
@@ -135,15 +139,17 @@ fn places_between(
     alloc: Global,
     heap: &Heap,
     marks: &Marks,
-    objects: Range<u32>,
+    objects: Range<ObjectIndex>,
     address: u64,
 ) -> Result<Vec<u32>, AllocError>
     requires ordered { objects.start ≤ objects.end }
     requires inside { objects.end ≤ object_count heap.now }
     requires sized { length marks.now ≡ object_count heap.now }
-    requires begins { address ≡ heap.now.base + 4 * live_words_below heap.now marks.now objects.start }
+    requires begins { address ≡ heap.now.base + 4 * live_words_below heap.now marks.now
+        objects.start }
     requires within { heap.now.base + 4 * length (concat heap.now.chunks) ≤ 2 ^ 32 }
-    ensures { IfOk result (λ places. AreEntriesOf heap.now marks.now objects.start objects.end places.items) }
+    ensures { IfOk result (λ places.
+        AreEntriesOf heap.now marks.now objects.start objects.end places.items) }
 {
     let from = objects.start;
     let to = objects.end;

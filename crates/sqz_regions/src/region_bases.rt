@@ -5,11 +5,12 @@ ghost use Rattle.sqz_image.specs.declared.fault.Fault.TheVariants.{OutOfMemory};
 ghost use Rattle.sqz_regions.specs.Bases.{AreBases};
 
 use sqz_image::Fault;
+use sqz_object::Address;
 use std::alloc::Global;
 
-/// For each region the address at which its live words begin: the base, and behind it the live words of the regions before. An
-/// address may be 2^32. Fails for want of memory alone.
-pub fn bases(alloc: Global, base: u32, sums: &[u32]) -> Result<Vec<u64>, Fault>
+/// For each region the address at which its live words begin: the base, and behind it the live
+/// words of the regions before. An address may be 2^32. Fails for want of memory alone.
+pub fn bases(alloc: Global, base: Address, sums: &[u32]) -> Result<Vec<u64>, Fault>
     requires { base + 4 * sum sums.now ≤ 2 ^ 32 }
     ensures bases { IfOk result (λ bases. AreBases base sums.now bases.items) }
     ensures refused { IfErr result (λ fault. fault ≡ OutOfMemory) }

@@ -7,6 +7,7 @@ ghost use Rattle.sqz_regions.specs.Regions.{region_count, region_at, objects_bef
 
 use crate::cut::Cut;
 use sqz_image::{Fault, Heap};
+use sqz_object::ObjectIndex;
 use std::alloc::Global;
 use std::marker::Model;
 
@@ -31,9 +32,11 @@ impl<'a> Model for Regions<'a> {
 }
 
 impl<'a> Regions<'a> {
-    /// The regions of the heap under this cut. Fails only if out of memory. Linear in objects plus regions.
+    /// The regions of the heap under this cut. Fails only if out of memory. Linear in objects plus
+    /// regions.
     pub fn of(alloc: Global, heap: &'a Heap, cut: &'a Cut) -> Result<Self, Fault>
-        ensures regions { IfOk result (λ regions. regions ≡ record { cut = cut.now; memory = heap.now }) }
+        ensures regions { IfOk result (λ regions.
+            regions ≡ record { cut = cut.now; memory = heap.now }) }
         ensures refused { IfErr result (λ fault. fault ≡ OutOfMemory) }
     {
         let count = cut.count(heap);
@@ -56,14 +59,15 @@ impl<'a> Regions<'a> {
     /// The number of regions. Each object is in one of them.
     pub fn count(&self) -> u32
         ensures count { result ≡ region_count self.now.cut self.now.memory }
-        ensures all { objects_before self.now.cut self.now.memory result ≡ object_count self.now.memory }
+        ensures all { objects_before self.now.cut self.now.memory result
+            ≡ object_count self.now.memory }
     {
         self.cut.count(self.heap)
     }
 
-    /// The object's region: the number of cut points that are not above its chunk's first word. Takes
-    /// constant time for a cut by `every`, and a binary search for one by `at`.
-    pub fn region(&self, object: u32) -> u32
+    /// The object's region: the number of cut points that are not above its chunk's first word.
+    /// Takes constant time for a cut by `every`, and a binary search for one by `at`.
+    pub fn region(&self, object: ObjectIndex) -> u32
         requires { object < object_count self.now.memory }
         ensures region { result ≡ region_at self.now.cut self.now.memory object }
         ensures inside { result < region_count self.now.cut self.now.memory }
@@ -71,22 +75,24 @@ impl<'a> Regions<'a> {
         self.cut.region(self.heap.first(object))
     }
 
-    /// The objects of a region: the index of the first, and the one after the last. For a region without
-    /// objects both are the number of objects in the regions before.
-    pub fn objects(&self, region: u32) -> (u32, u32)
+    /// The objects of a region: the index of the first, and the one after the last. For a region
+    /// without objects both are the number of objects in the regions before.
+    pub fn objects(&self, region: u32) -> (ObjectIndex, ObjectIndex)
         requires { region < region_count self.now.cut self.now.memory }
         ensures first { result.0 ≡ objects_before self.now.cut self.now.memory region }
         ensures end { result.1 ≡ objects_before self.now.cut self.now.memory (region + 1) }
         ensures ordered { result.0 ≤ result.1 }
         ensures inside { result.1 ≤ object_count self.now.memory }
         ensures exact { (object : ℕ) → object < object_count self.now.memory
-            → ((result.0 ≤ object) × (object < result.1)) ↔ (region_at self.now.cut self.now.memory object ≡ region) }
+            → ((result.0 ≤ object) × (object < result.1))
+            ↔ (region_at self.now.cut self.now.memory object ≡ region) }
     {
         let region = region as usize;
         (self.before(region), self.before(region + 1))
     }
 
-    /// The number of objects in the regions before this one, or in all if it is the one after the last.
+    /// The number of objects in the regions before this one, or in all if it is the one after the
+    /// last.
     fn before(&self, region: usize) -> u32
         requires { region ≤ region_count self.now.cut self.now.memory }
         ensures { result ≡ objects_before self.now.cut self.now.memory region }
@@ -99,7 +105,8 @@ impl<'a> Regions<'a> {
     }
 }
 
-/// The number of objects in this region and in those before, if the number in those before is known.
+/// The number of objects in this region and in those before, if the number in those before is
+/// known.
 fn end_of(heap: &Heap, cut: &Cut, region: u32, known: u32) -> u32
     requires { known ≡ objects_before cut.now heap.now region }
     ensures { result ≡ objects_before cut.now heap.now (region + 1) }

@@ -10,16 +10,18 @@ ghost use Rattle.sqz_regions.specs.Bases.{AreSums};
 use crate::regions::Regions;
 use sqz_image::laws::heap_bounds;
 use sqz_image::{Fault, Heap};
+use sqz_object::ObjectIndex;
 use sqz_trace::Marks;
 use std::alloc::Global;
 
 /// The sum of the lengths of the chunks of the marked ones among the objects `from..to`, in words.
-fn live_words_between(heap: &Heap, marks: &Marks, from: u32, to: u32) -> u32
+fn live_words_between(heap: &Heap, marks: &Marks, from: ObjectIndex, to: ObjectIndex) -> u32
     requires ordered { from ≤ to }
     requires inside { to ≤ object_count heap.now }
     requires sized { length marks.now ≡ object_count heap.now }
     requires few { length (concat heap.now.chunks) < 2 ^ 30 }
-    ensures { live_words_below heap.now marks.now from + result ≡ live_words_below heap.now marks.now to }
+    ensures { live_words_below heap.now marks.now from + result
+        ≡ live_words_below heap.now marks.now to }
 {
     let mut words = 0;
     for object in from..to {
@@ -30,8 +32,9 @@ fn live_words_between(heap: &Heap, marks: &Marks, from: u32, to: u32) -> u32
     words
 }
 
-/// For each region the sum of the lengths of its marked objects' chunks, in words. Behind the base there is room below
-/// 2^32 for all of them, which `bases` asks for. Fails for want of memory alone.
+/// For each region the sum of the lengths of its marked objects' chunks, in words. Behind the base
+/// there is room below 2^32 for all of them, which `bases` asks for. Fails for want of memory
+/// alone.
 pub fn live_words(
     alloc: Global,
     heap: &Heap,

@@ -8,15 +8,15 @@ ghost use Rattle.sqz_slide.specs.Moved.{moved};
 
 use crate::mover::Mover;
 use sqz_image::Heap;
-use sqz_object::Kind;
+use sqz_object::{Kind, ObjectIndex};
 use sqz_regions::Forward;
 use sqz_trace::{Weak, is_weak, strong_fields};
 
-/// Word `k` of the object's chunk after the move, header words counted; the program moves whole objects.
-/// A traced field that points to a live object becomes that object's new address, a class word too but
-/// for its low two bits; a weak field that points to a dead object becomes nil's new address; each other
-/// word stays.
-pub fn moved_word(heap: &Heap, weak: Weak, forward: &Forward, object: u32, k: u32) -> u32
+/// Word `k` of the object's chunk after the move, header words counted; the program moves whole
+/// objects. A traced field that points to a live object becomes that object's new address, a class
+/// word too but for its low two bits; a weak field that points to a dead object becomes nil's new
+/// address; each other word stays.
+pub fn moved_word(heap: &Heap, weak: Weak, forward: &Forward, object: ObjectIndex, k: u32) -> u32
     requires object { object < object_count heap.now }
     requires word { k < length (chunk_words heap.now object) }
     requires one_each { length forward.now ≡ object_count heap.now }

@@ -12,13 +12,13 @@ ghost use Rattle.sqz_slide.specs.Pieces.{moved_in};
 
 use crate::piece_sizes::piece_size;
 use sqz_image::{Heap, Object};
-use sqz_object::{Kind, Words};
+use sqz_object::{Address, Kind, Words};
 use sqz_regions::{Forward, Regions};
 use sqz_trace::{Weak, is_weak, named_by, nil, strong_fields};
 use std::alloc::{AllocError, Global};
 
-/// What objects are moved by: their heap, what becomes of weak slots, and the new address of each live
-/// object.
+/// What objects are moved by: their heap, what becomes of weak slots, and the new address of each
+/// live object.
 #[derive(Drop)]
 pub(crate) struct Mover<'a> {
     pub heap: &'a Heap,
@@ -28,8 +28,8 @@ pub(crate) struct Mover<'a> {
 }
 
 impl Mover<'_> {
-    /// The word of a slot after the move: the new address of the object that it points to, or the word
-    /// as it is if it points to none, or to one that is dead.
+    /// The word of a slot after the move: the new address of the object that it points to, or the
+    /// word as it is if it points to none, or to one that is dead.
     pub(crate) fn moved_field(&self, word: u32) -> u32
         ensures moved { (marks : List Bool)
             → ArePlacesOf self.now.heap.now marks self.now.forward.now
@@ -56,7 +56,7 @@ impl Mover<'_> {
     }
 
     /// The new address of nil, if nil is live.
-    pub(crate) fn nil_place(&self) -> Option<u32>
+    pub(crate) fn nil_place(&self) -> Option<Address>
         ensures { (marks : List Bool)
             → ArePlacesOf self.now.heap.now marks self.now.forward.now
             → result ≡ nil_place self.now.heap.now self.now.weak marks }
@@ -64,10 +64,10 @@ impl Mover<'_> {
         self.forward.place(nil(self.heap, self.weak)?)
     }
 
-    /// The word of a weak slot after the move, if this is the new address of nil: the new address of the
-    /// object that the slot points to, or nil's if that object is dead, or the word as it is if it points
-    /// to none.
-    pub(crate) fn moved_weak(&self, word: u32, nil: Option<u32>) -> u32
+    /// The word of a weak slot after the move, if this is the new address of nil: the new address
+    /// of the object that the slot points to, or nil's if that object is dead, or the word as it is
+    /// if it points to none.
+    pub(crate) fn moved_weak(&self, word: u32, nil: Option<Address>) -> u32
         ensures { (weak : Weak) (marks : List Bool)
             → ArePlacesOf self.now.heap.now marks self.now.forward.now
             → nil ≡ nil_place self.now.heap.now weak marks
@@ -79,8 +79,8 @@ impl Mover<'_> {
         self.forward.place(named).or(nil).unwrap_or(word)
     }
 
-    /// The words of the region's live objects after the move, in their order. Room is made for all of them
-    /// at once.
+    /// The words of the region's live objects after the move, in their order. Room is made for all
+    /// of them at once.
     pub(crate) fn piece_of(
         &self,
         alloc: Global,
@@ -109,7 +109,8 @@ impl Mover<'_> {
     fn push_moved(&self, object: &Object<'_>, words: &mut Vec<u32>) -> Result<(), AllocError>
         ensures { IfOk result (λ _. (marks : List Bool)
             → ArePlacesOf self.now.heap.now marks self.now.forward.now
-            → words.new.items ≡ words.old.items ++ moved self.now.heap.now self.now.weak marks object.now) }
+            → words.new.items ≡ words.old.items
+            ++ moved self.now.heap.now self.now.weak marks object.now) }
     {
         self.push_header(object, words)?;
         let count = strong_fields(self.heap, self.weak, object) as usize;
@@ -149,7 +150,8 @@ impl Mover<'_> {
     fn push_strong(&self, fields: &Words<'_>, words: &mut Vec<u32>) -> Result<(), AllocError>
         ensures { IfOk result (λ _. (marks : List Bool)
             → ArePlacesOf self.now.heap.now marks self.now.forward.now
-            → words.new.items ≡ words.old.items ++ map (moved_field self.now.heap.now marks) fields.now) }
+            → words.new.items ≡ words.old.items
+            ++ map (moved_field self.now.heap.now marks) fields.now) }
     {
         for index in 0..fields.len() {
             words.push(self.moved_field(fields.at(index)))?;
@@ -161,13 +163,14 @@ impl Mover<'_> {
     fn push_weak(
         &self,
         fields: &Words<'_>,
-        nil: Option<u32>,
+        nil: Option<Address>,
         words: &mut Vec<u32>,
     ) -> Result<(), AllocError>
         ensures { IfOk result (λ _. (weak : Weak) (marks : List Bool)
             → ArePlacesOf self.now.heap.now marks self.now.forward.now
             → nil ≡ nil_place self.now.heap.now weak marks
-            → words.new.items ≡ words.old.items ++ map (moved_weak self.now.heap.now weak marks) fields.now) }
+            → words.new.items ≡ words.old.items
+            ++ map (moved_weak self.now.heap.now weak marks) fields.now) }
     {
         for index in 0..fields.len() {
             words.push(self.moved_weak(fields.at(index), nil))?;

@@ -1,6 +1,7 @@
 //! How many words a piece has.
 
-ghost use Rattle.std.specs.Prelude.{◌≡◌, ℕ, ◌+◌, ◌-◌, ◌*◌, ◌^◌, ◌<◌, ◌≤◌, Bool, true, List, None, is_some, length};
+ghost use Rattle.std.specs.Prelude.{◌≡◌, ℕ, ◌+◌, ◌-◌, ◌*◌, ◌^◌, ◌<◌, ◌≤◌, Bool, true, List, None};
+ghost use Rattle.std.specs.Prelude.{is_some, length};
 ghost use Rattle.std.specs.Prelude.{slice_index_or};
 ghost use Rattle.sqz_image.specs.Objects.{object_count};
 ghost use Rattle.sqz_trace.specs.Graph.{is_marked};
@@ -8,11 +9,12 @@ ghost use Rattle.sqz_regions.specs.Places.{live_words_below};
 ghost use Rattle.sqz_regions.specs.Bases.{ArePlacesOf};
 
 use sqz_image::Heap;
+use sqz_object::ObjectIndex;
 use sqz_regions::Forward;
 
-/// How many words the live objects among `from..to` have together: from where the first of them begins to where the
-/// last ends, in the new memory. Of the objects between it reads no header.
-pub(crate) fn piece_size(heap: &Heap, forward: &Forward, from: u32, to: u32) -> u64
+/// How many words the live objects among `from..to` have together: from where the first of them
+/// begins to where the last ends, in the new memory. Of the objects between it reads no header.
+pub(crate) fn piece_size(heap: &Heap, forward: &Forward, from: ObjectIndex, to: ObjectIndex) -> u64
     requires ordered { from ≤ to }
     requires inside { to ≤ object_count heap.now }
     requires one_each { length forward.now ≡ object_count heap.now }
@@ -32,7 +34,7 @@ pub(crate) fn piece_size(heap: &Heap, forward: &Forward, from: u32, to: u32) -> 
 }
 
 /// The address of the first word of the object's chunk in the new memory.
-fn begin_of(heap: &Heap, forward: &Forward, object: u32) -> u64
+fn begin_of(heap: &Heap, forward: &Forward, object: ObjectIndex) -> u64
     requires object { object < object_count heap.now }
     requires one_each { length forward.now ≡ object_count heap.now }
     ensures begin { (marks : List Bool)
@@ -46,12 +48,13 @@ fn begin_of(heap: &Heap, forward: &Forward, object: u32) -> u64
 }
 
 /// The first object among `from..to` that has a place; `to` where none has.
-fn first_live(forward: &Forward, from: u32, to: u32) -> u32
+fn first_live(forward: &Forward, from: ObjectIndex, to: ObjectIndex) -> ObjectIndex
     requires ordered { from ≤ to }
     requires inside { to ≤ length forward.now }
     ensures low { from ≤ result }
     ensures high { result ≤ to }
-    ensures none { (index : ℕ) → from ≤ index → index < result → slice_index_or forward.now index None ≡ None }
+    ensures none { (index : ℕ) → from ≤ index → index < result
+        → slice_index_or forward.now index None ≡ None }
     ensures there { result < to → is_some (slice_index_or forward.now result None) ≡ true }
 {
     for object in from..to {
@@ -63,12 +66,13 @@ fn first_live(forward: &Forward, from: u32, to: u32) -> u32
 }
 
 /// The object behind the last among `from..to` that has a place; `from` where none has.
-fn end_of_live(forward: &Forward, from: u32, to: u32) -> u32
+fn end_of_live(forward: &Forward, from: ObjectIndex, to: ObjectIndex) -> ObjectIndex
     requires ordered { from ≤ to }
     requires inside { to ≤ length forward.now }
     ensures low { from ≤ result }
     ensures high { result ≤ to }
-    ensures none { (index : ℕ) → result ≤ index → index < to → slice_index_or forward.now index None ≡ None }
+    ensures none { (index : ℕ) → result ≤ index → index < to → slice_index_or forward.now index None
+        ≡ None }
     ensures there { from < result → is_some (slice_index_or forward.now (result - 1) None) ≡ true }
 {
     let mut end = to;

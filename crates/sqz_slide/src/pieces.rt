@@ -4,8 +4,8 @@ ghost use Rattle.std.specs.Prelude.{◌≡◌, map};
 
 use std::marker::Model;
 
-/// The words of the live objects in their new places: a piece for each region, in their order. Contracts see the
-/// list of the pieces.
+/// The words of the live objects in their new places: a piece for each region, in their order.
+/// Contracts see the list of the pieces.
 #[derive(Drop)]
 pub struct Pieces {
     pieces: Vec<Vec<u32>>,

@@ -22,8 +22,8 @@ pub(crate) struct SharedRegions<'a, 'g, G> {
 }
 
 impl<G: Gate> SharedRegions<'_, '_, G> {
-    /// The pieces of the worker with this number. It passes the gate before it takes any memory, and then
-    /// before each region but its first.
+    /// The pieces of the worker with this number. It passes the gate before it takes any memory,
+    /// and then before each region but its first.
     pub(crate) fn pieces_of_worker(
         &self,
         alloc: Global,

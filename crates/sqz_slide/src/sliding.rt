@@ -23,9 +23,10 @@ use std::alloc::{AllocError, Global};
 use std::thread;
 use std::thread::Threads;
 
-/// The live objects of each region in their new places, moved by this many workers, each in a thread of
-/// its own if one can be started. Of `R` regions and `n` workers, worker `w` has those from `w * R / n` up
-/// to `(w + 1) * R / n`, and passes the gate before each. Fails only if out of memory.
+/// The live objects of each region in their new places, moved by this many workers, each in a
+/// thread of its own if one can be started. Of `R` regions and `n` workers, worker `w` has those
+/// from `w * R / n` up to `(w + 1) * R / n`, and passes the gate before each. Fails only if out of
+/// memory.
 pub fn slide<'a, R: Threads + Sync, G: Gate>(
     rt: &R,
     alloc: Global,

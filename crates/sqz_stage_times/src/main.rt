@@ -1,5 +1,6 @@
-//! The program `sqz_stage_times`: takes the command line of `sqzcompact`, and prints how many milliseconds each stage
-//! of three such runs takes, each with a census. It is for those who work on the product.
+//! The program `sqz_stage_times`: takes the command line of `sqzcompact`, and prints how many
+//! milliseconds each stage of three such runs takes, each with a census. It is for those who work
+//! on the product.
 #![tactic(auto)]
 
 mod stage_printer;
@@ -47,7 +48,8 @@ fn plan_of(arguments: &Arguments<'_>) -> Result<Plan> {
     })
 }
 
-/// Compacts the image of a command line, and prints how long each stage takes. The census is dropped.
+/// Compacts the image of a command line, and prints how long each stage takes. The census is
+/// dropped.
 fn print_run<R: Files + Threads + Sync + Clock + Print>(
     rt: &R,
     alloc: Global,

@@ -8,8 +8,8 @@ pub(crate) fn print_refused<R: Print>(rt: &R, name: &str) -> Result<(), Fail> {
     Ok(())
 }
 
-/// What a call gives, as the result of a function. Where it is refused memory it prints its name and is made again, with the
-/// same arguments.
+/// What a call gives, as the result of a function. Where it is refused memory it prints its name
+/// and is made again, with the same arguments.
 macro_rules! again {
     ($rt:expr, $name:literal, $call:expr) => {
         match $call {

@@ -1,5 +1,6 @@
-//! Tests of public calls that are refused memory: each serves when it is made again. They are run under a library that
-//! refuses the process one request for memory; a call that was refused prints its name.
+//! Tests of public calls that are refused memory: each serves when it is made again. They are run
+//! under a library that refuses the process one request for memory; a call that was refused prints
+//! its name.
 #![tactic(auto)]
 
 #[cfg(test)]

@@ -25,8 +25,8 @@ fn run_once<R: Threads + Sync + AllocGlobal>(
     run(rt, rt.alloc(), plan, &mut source, sink, report, &OpenGate)
 }
 
-/// The same. Where it is refused memory it asserts that nothing was written, and is made again with a new source and the same
-/// sinks.
+/// The same. Where it is refused memory it asserts that nothing was written, and is made again with
+/// a new source and the same sinks.
 fn run_again<R: Threads + Sync + Abort + Print + AllocGlobal>(
     rt: &R,
     plan: &Plan,
@@ -84,7 +84,8 @@ fn run_serves_again(rt: HostRuntime) -> Result<(), Fail> {
     Ok(())
 }
 
-/// The devices of a run: where the image comes from, and where what is left of it and its census go.
+/// The devices of a run: where the image comes from, and where what is left of it and its census
+/// go.
 #[derive(Drop)]
 struct Devices {
     source: MemorySource,
@@ -138,7 +139,8 @@ fn assert_runs<R: Threads + Sync + Abort + Print + AllocGlobal>(
     Ok(())
 }
 
-/// The same. Where the run is refused memory it asserts that nothing was written, and makes the run again over new devices.
+/// The same. Where the run is refused memory it asserts that nothing was written, and makes the run
+/// again over new devices.
 fn assert_row<R: Threads + Sync + Abort + Print + AllocGlobal>(
     rt: &R,
     plan: &Plan,

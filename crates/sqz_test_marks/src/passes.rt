@@ -7,11 +7,11 @@ ghost use Rattle.sqz_marks.specs.Table.{IsPassOf, HasCountedAll, start_of};
 ghost use Rattle.sqz_test_marks.specs.Passes.{IsLater, Knows};
 
 use super::steps::{assert_closed, assert_dead_cycle, assert_looks, claim, closed_after, new_cut};
+use sqz_fixtures::accepted::DEAD_CYCLE;
+use sqz_fixtures::image_of;
 use sqz_image::{Heap, Slot};
 use sqz_marks::{Claim, Closed, MarkTable, Pass, Workers};
 use sqz_regions::{Cut, Regions};
-use sqz_fixtures::accepted::DEAD_CYCLE;
-use sqz_fixtures::image_of;
 use sqz_trace::{Shade, Weak};
 use std::process::Abort;
 use std::test::Fail;
@@ -20,7 +20,8 @@ use std::thread::{Threads, join_mut};
 /// How often two threads claim one object.
 const RACES: u32 = 200;
 
-/// The objects that are grey after a race, in the order in which they are made black, and what each of them wins.
+/// The objects that are grey after a race, in the order in which they are made black, and what each
+/// of them wins.
 const REST: &[(u32, &[u32])] = &[(5, &[0]), (1, &[3]), (3, &[]), (0, &[])];
 
 /// Two passes claim what a slot of the special objects array names, each in a thread of its own.
@@ -58,7 +59,8 @@ pub(crate) fn assert_parts<R: Abort>(rt: &R, first: &Pass, second: &Pass) {
     assert_eq!(rt; (first.weight(), second.weight()), (1, 1));
 }
 
-/// Asserts that a pass of two workers' share is whole, that its parts are not, and that they are joined to a whole one.
+/// Asserts that a pass of two workers' share is whole, that its parts are not, and that they are
+/// joined to a whole one.
 fn assert_splits<R: Abort>(rt: &R, table: &MarkTable<'_>, pass: Pass)
     requires of { IsPassOf table.now pass }
     requires two { pass.view.weight ≡ 2 }
@@ -110,8 +112,8 @@ fn assert_one_wins<R: Abort>(rt: &R, answers: (Claim, Claim)) {
     assert!(rt; first_wins || second_wins, "{answers:?}");
 }
 
-/// A pass of two workers' share that was split and is joined again. One of its parts won object 1 and counted it, and
-/// the other one saw it, whichever came first.
+/// A pass of two workers' share that was split and is joined again. One of its parts won object 1
+/// and counted it, and the other one saw it, whichever came first.
 fn raced<R: Threads + Abort>(rt: &R, table: &MarkTable<'_>, pass: Pass) -> Pass
     requires of { IsPassOf table.now pass }
     requires two { pass.view.weight ≡ 2 }

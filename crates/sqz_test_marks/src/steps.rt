@@ -8,11 +8,11 @@ ghost use Rattle.sqz_marks.specs.Table.{IsPassOf, HasCountedAll, start_of};
 ghost use Rattle.sqz_test_marks.specs.Passes.{IsLater, Knows};
 
 use super::targets::mark_targets;
+use sqz_fixtures::accepted::DEAD_CYCLE;
+use sqz_fixtures::image_of;
 use sqz_image::{Fault, Heap, Slot};
 use sqz_marks::{Claim, Closed, MarkTable, Pass, Workers};
 use sqz_regions::{Cut, Regions};
-use sqz_fixtures::accepted::DEAD_CYCLE;
-use sqz_fixtures::image_of;
 use sqz_trace::{Shade, Weak};
 use std::alloc::Global;
 use std::process::Abort;
@@ -28,7 +28,8 @@ const DEAD_CYCLE_SHADES: [Shade; 6] = [
     Shade::Black,
 ];
 
-/// How many words the marked objects of it have in each region, which is cut before objects 1 and 2.
+/// How many words the marked objects of it have in each region, which is cut before objects 1 and
+/// 2.
 const DEAD_CYCLE_WORDS: [u32; 3] = [1, 2, 5];
 
 /// The cut of it before objects 1 and 2.
@@ -36,7 +37,8 @@ pub(crate) fn new_cut(alloc: Global) -> Result<Cut, Fail> {
     Ok(Cut::at([1, 3].to_vec(alloc)?)?)
 }
 
-/// Asserts that a heap has six objects, of which the last is the special objects array, as that of the dead cycle.
+/// Asserts that a heap has six objects, of which the last is the special objects array, as that of
+/// the dead cycle.
 pub(crate) fn assert_dead_cycle<R: Abort>(rt: &R, heap: &Heap)
     ensures count { object_count heap.now ≡ 6 }
     ensures start { start_of heap.now ≡ 5 }
@@ -121,7 +123,8 @@ pub(crate) fn assert_claims<R: Abort>(
     );
 }
 
-/// Asserts that an object is grey, claims all that it names, asserts that this won these objects, and makes the object black.
+/// Asserts that an object is grey, claims all that it names, asserts that this won these objects,
+/// and makes the object black.
 fn assert_blackens<R: Abort + AllocGlobal>(
     rt: &R,
     table: &MarkTable<'_>,
@@ -140,7 +143,8 @@ fn assert_blackens<R: Abort + AllocGlobal>(
     Ok(())
 }
 
-/// Asserts it of objects of an image of six, one after the other: which they are, and what each of them wins.
+/// Asserts it of objects of an image of six, one after the other: which they are, and what each of
+/// them wins.
 fn assert_each_blackens<R: Abort + AllocGlobal>(
     rt: &R,
     table: &MarkTable<'_>,
@@ -158,7 +162,8 @@ fn assert_each_blackens<R: Abort + AllocGlobal>(
     Ok(())
 }
 
-/// What is left of a table. Where memory is refused once, it is asked for again: table and pass are as before.
+/// What is left of a table. Where memory is refused once, it is asked for again: table and pass are
+/// as before.
 pub(crate) fn close_again(alloc: Global, table: MarkTable<'_>, pass: Pass) -> Result<Closed, Fault>
     requires of { IsPassOf table pass }
     requires whole { pass.view.weight ≡ table.workers }
@@ -174,7 +179,8 @@ pub(crate) fn close_again(alloc: Global, table: MarkTable<'_>, pass: Pass) -> Re
     Ok(closed)
 }
 
-/// What is left of the table of an image of six objects when these have been made black, as is asserted of them.
+/// What is left of the table of an image of six objects when these have been made black, as is
+/// asserted of them.
 pub(crate) fn closed_after<R: Abort + AllocGlobal>(
     rt: &R,
     table: MarkTable<'_>,
@@ -258,7 +264,8 @@ fn mark_dead_cycle<R: Abort + AllocGlobal>(
     closed_after(rt, table, pass, REST)
 }
 
-/// Asserts what is left of a table where the pass is one worker's share, two's, or that of the most that there can be.
+/// Asserts what is left of a table where the pass is one worker's share, two's, or that of the most
+/// that there can be.
 fn assert_one_pass<R: Abort + AllocGlobal>(rt: &R, heap: &Heap, cut: &Cut) -> Result<(), Fail>
     requires { object_count heap.now ≡ 6 }
 {

@@ -44,7 +44,8 @@ pub(crate) fn mark_targets(
     requires of { IsPassOf table.now pass.old }
     requires inside { object < object_count table.now.heap.memory }
     requires seen { HasSeen pass.old.view object }
-    ensures { OnOk result (ClaimsTargets (HasEdge table.now.heap.memory table.now.weak object) pass.old pass.new) }
+    ensures { OnOk result (ClaimsTargets (HasEdge table.now.heap.memory table.now.weak object)
+        pass.old pass.new) }
 {
     let edges = table.edges(object);
     for slot in edges.slots() {

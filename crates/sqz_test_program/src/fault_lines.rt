@@ -1,4 +1,5 @@
-//! The lines of faults that no other test meets, and that of words that are no text, and the exit that goes with each.
+//! The lines of faults that no other test meets, and that of words that are no text, and the exit
+//! that goes with each.
 
 use sqz_cli::{refuse, refuse_words};
 use sqz_image::{Fault, MemorySink, Slot};

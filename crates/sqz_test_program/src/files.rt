@@ -42,7 +42,8 @@ fn assert_holds<R: Abort + AllocGlobal + Files>(
     Ok(())
 }
 
-/// Asserts that the program, given these words, prints nothing, and that a file then holds these bytes.
+/// Asserts that the program, given these words, prints nothing, and that a file then holds these
+/// bytes.
 fn assert_makes<R: Threads + Wait + Sync + Abort + AllocGlobal + Files>(
     rt: &R,
     words: &[&str],

@@ -42,8 +42,9 @@ fn put_large_image(file: &mut Vec<u8>, has_dead: bool) -> Result<(), AllocError>
     put_words(file, order, &[0x320F, 0x1000, named])
 }
 
-/// An image of more than a MiB, which is several blocks of 64 KiB: a class, a dead array of two fields if it is to have
-/// one, then an object of many bytes, and the special objects array, which names it.
+/// An image of more than a MiB, which is several blocks of 64 KiB: a class, a dead array of two
+/// fields if it is to have one, then an object of many bytes, and the special objects array, which
+/// names it.
 pub(crate) fn large_image(alloc: Global, has_dead: bool) -> Result<Vec<u8>, AllocError> {
     let mut file = Vec::new(alloc);
     put_large_image(&mut file, has_dead)?;

@@ -13,7 +13,8 @@ use std::sync::Wait;
 use std::test::Fail;
 use std::thread::Threads;
 
-/// Asserts that the program, given these words, refuses an image with 1 and this line, and does nothing to the other file.
+/// Asserts that the program, given these words, refuses an image with 1 and this line, and does
+/// nothing to the other file.
 fn assert_refuses_at<R: Threads + Wait + Sync + Abort + AllocGlobal + Drop>(
     rt: &R,
     words: &[&str],
@@ -29,7 +30,8 @@ fn assert_refuses_at<R: Threads + Wait + Sync + Abort + AllocGlobal + Drop>(
 /// The two paths alone.
 const PATHS: [&str; 2] = [IN, OUT];
 
-/// What a byte of the image of three objects is changed to, how many bytes of the image are left, and what is printed.
+/// What a byte of the image of three objects is changed to, how many bytes of the image are left,
+/// and what is printed.
 const HEADERS: &[(usize, u8, usize, &str)] = &[
     (0, 0x68, 88, "fault 2: version is not 6502\n"),
     (4, 68, 88, "fault 3: header size is not 64\n"),

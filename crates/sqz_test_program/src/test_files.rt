@@ -1,5 +1,5 @@
-//! A file system of two files: one that can be read, and one that can be made and written. They fail where
-//! a test wants it, and the test sees what was done to the second.
+//! A file system of two files: one that can be read, and one that can be made and written. They
+//! fail where a test wants it, and the test sees what was done to the second.
 
 ghost use Rattle.std.specs.Prelude.{◌≤◌, length, IfOk};
 

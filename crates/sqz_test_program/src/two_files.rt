@@ -25,8 +25,8 @@ fn assert_writes<R: Threads + Wait + Sync + Abort + AllocGlobal + Drop>(
     Ok(())
 }
 
-/// Asserts that the program ends with 3 and this line where IN has the image of three objects, or a front of so many bytes
-/// of it. Answers what it did to OUT.
+/// Asserts that the program ends with 3 and this line where IN has the image of three objects, or a
+/// front of so many bytes of it. Answers what it did to OUT.
 fn assert_fails<R: Threads + Wait + Sync + Abort + AllocGlobal + Drop>(
     rt: &R,
     count: usize,

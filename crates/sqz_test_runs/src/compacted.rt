@@ -2,7 +2,6 @@
 
 use super::prefixes::assert_array_left_out;
 use super::runs::assert_compacts;
-use sqz_object::Order;
 use sqz_fixtures::Chunk::{Array, Classed, Free, Long, Short, Words};
 use sqz_fixtures::accepted::{
     CLASS_EDGE, CLASS_EDGE_OF_THREE_WORDS, CLASS_NAMES, CONTEXT_STACK, CONTEXT_WITH_CLASS_WORD,
@@ -11,6 +10,7 @@ use sqz_fixtures::accepted::{
 };
 use sqz_fixtures::answers::CLASS_EDGE_ANSWER;
 use sqz_fixtures::{EMPTY, NIL, ODD, TestImage, with_word};
+use sqz_object::Order;
 use sqz_trace::Weak;
 use std::process::Abort;
 use std::sync::Wait;
@@ -56,8 +56,8 @@ const INDEX_OF_CONTEXT: TestImage = TestImage {
     ..EMPTY
 };
 
-/// The fields of a method: a header that states one literal, of which the bits that count none are all set, that literal, and a
-/// word behind it.
+/// The fields of a method: a header that states one literal, of which the bits that count none are
+/// all set, that literal, and a word behind it.
 const ONE_LITERAL: &[u32] = &[0xFFFC_07FF, 0x1000, 0x1002];
 
 /// They are a method in the lowest format of one.
@@ -161,7 +161,8 @@ fn class_words_that_move(rt: HostRuntime) -> Result<(), Fail> {
     assert_left(&rt, &CLASS_EDGE_OF_THREE_WORDS, answer)
 }
 
-/// The fields of the context of `CONTEXT_STACK`, of which the one on the stack names an object that has moved.
+/// The fields of the context of `CONTEXT_STACK`, of which the one on the stack names an object that
+/// has moved.
 const MOVED_STACK: &[u32] = &[0x1000, 1, 3, 0x1000, 0x1000, 0x1000, 0x1004, 0x1014, 2, ODD];
 
 /// What `CONTEXT_STACK` is compacted to.
@@ -241,7 +242,8 @@ fn methods(rt: HostRuntime) -> Result<(), Fail> {
     assert_left(&rt, &LITERALS_ALONE, &LITERALS_ALONE_ANSWER)
 }
 
-/// A dead array, and an object of format 5 whose word is an address and stays. Its header is data word 3.
+/// A dead array, and an object of format 5 whose word is an address and stays. Its header is data
+/// word 3.
 const UNTRACED_WORD: TestImage = TestImage {
     chunks: &[
         NIL,

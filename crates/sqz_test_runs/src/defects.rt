@@ -1,8 +1,7 @@
-//! Images of which a reachable object has a defect: the lowest such object counts, and of its defects the
-//! first.
+//! Images of which a reachable object has a defect: the lowest such object counts, and of its
+//! defects the first.
 
 use super::runs::assert_image_refused;
-use sqz_image::{Fault, Slot};
 use sqz_fixtures::Chunk::{Array, Long, Short};
 use sqz_fixtures::accepted::{CONTEXT_STACK, NIL_ALONE};
 use sqz_fixtures::with_defects::{
@@ -11,6 +10,7 @@ use sqz_fixtures::with_defects::{
     METHOD_WITHOUT_CLASS, METHOD_WITHOUT_FIELDS, NO_CLASS, SHORT_CONTEXT, TOO_MANY_LITERALS,
 };
 use sqz_fixtures::{Change, EMPTY, NIL, TestImage, with_word};
+use sqz_image::{Fault, Slot};
 use sqz_trace::Weak;
 use std::process::Abort;
 use std::sync::Wait;

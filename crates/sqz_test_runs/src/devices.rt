@@ -3,9 +3,9 @@
 use super::censuses::{CLASS_CENSUS, NIL_CENSUS};
 use super::prefixes::file_behind;
 use super::runs::{Devices, Outcome, SOUND, assert_bytes, assert_writes_both, plan_by, run_over};
-use sqz_image::Fault;
 use sqz_fixtures::TestImage;
 use sqz_fixtures::accepted::{CLASS_NAMES, DEAD_ARRAY, NIL_ALONE};
+use sqz_image::Fault;
 use sqz_tool::Plan;
 use sqz_trace::Weak;
 use std::alloc::{AllocError, Global};
@@ -55,7 +55,8 @@ const SAMPLES: &[Sample] = &[
     },
 ];
 
-/// The samples. A function that names the constant itself holds all of it, and each such costs its check anew.
+/// The samples. A function that names the constant itself holds all of it, and each such costs its
+/// check anew.
 fn samples() -> &'static [Sample] {
     SAMPLES
 }
@@ -71,7 +72,8 @@ fn case_of(alloc: Global, sample: &Sample) -> Result<Case, AllocError> {
     })
 }
 
-/// A plan by one worker, and one by two. In regions of one word each object is written by a call of its own.
+/// A plan by one worker, and one by two. In regions of one word each object is written by a call of
+/// its own.
 fn two_plans() -> Result<[Plan; 2], Fault> {
     Ok([plan_by(1, 1, Weak::Keep)?, plan_by(2, 65_536, Weak::Keep)?])
 }
@@ -138,7 +140,8 @@ fn first(bytes: &[u8], count: usize) -> &[u8] {
     &bytes[..count.min(bytes.len())]
 }
 
-/// Asserts that a run could not write this sink, and that so many bytes went there: no byte of the census before the whole image.
+/// Asserts that a run could not write this sink, and that so many bytes went there: no byte of the
+/// census before the whole image.
 fn assert_stopped<R: Abort>(rt: &R, case: &Case, outcome: &Outcome, output: Output, count: usize) {
     let (image_count, text_count) = match output {
         Output::Image => (count, 0),
@@ -181,8 +184,8 @@ fn count_stopped<R: Abort>(
     Some(written)
 }
 
-/// How many bytes go to this sink in a run that is stopped at this call of it. Where the call does not come, none is told,
-/// and the run writes all.
+/// How many bytes go to this sink in a run that is stopped at this call of it. Where the call does
+/// not come, none is told, and the run writes all.
 fn written_until<R: Threads + Wait + Sync + Abort + AllocGlobal>(
     rt: &R,
     plan: &Plan,
@@ -198,8 +201,8 @@ fn written_until<R: Threads + Wait + Sync + Abort + AllocGlobal>(
     Ok(written)
 }
 
-/// Asserts that a run is stopped at each call of this sink, and writes all where no call fails. At least one call comes
-/// before the flush, which is the last and fails with all written.
+/// Asserts that a run is stopped at each call of this sink, and writes all where no call fails. At
+/// least one call comes before the flush, which is the last and fails with all written.
 fn assert_each_call<R: Threads + Wait + Sync + Abort + AllocGlobal>(
     rt: &R,
     plan: &Plan,
@@ -219,13 +222,15 @@ fn assert_each_call<R: Threads + Wait + Sync + Abort + AllocGlobal>(
     Ok(())
 }
 
-/// Asserts that so many calls are at least two, and fewer than the most, and that all was written before the last.
+/// Asserts that so many calls are at least two, and fewer than the most, and that all was written
+/// before the last.
 fn assert_flushed<R: Abort>(rt: &R, calls: u64, written: usize, wanted: usize) {
     assert!(rt; 2 <= calls && calls < MOST_CALLS);
     assert_eq!(rt; written, wanted);
 }
 
-/// Asserts that a run is stopped where this sink has room for fewer bytes than it is to take, and fills it.
+/// Asserts that a run is stopped where this sink has room for fewer bytes than it is to take, and
+/// fills it.
 fn assert_each_room<R: Threads + Wait + Sync + Abort + AllocGlobal>(
     rt: &R,
     plan: &Plan,
@@ -281,7 +286,8 @@ fn each_room_of_a_sink(rt: HostRuntime) -> Result<(), Fail> {
     Ok(())
 }
 
-/// How many reads a run makes of a file in pieces of so many bytes: one for each piece, and one that gives none.
+/// How many reads a run makes of a file in pieces of so many bytes: one for each piece, and one
+/// that gives none.
 fn count_reads<R: Abort>(rt: &R, file: &[u8], piece: u32) -> u64 {
     assert!(rt; 0 < piece && file.len() <= 4096);
     file.len().div_ceil(piece as usize) as u64 + 1

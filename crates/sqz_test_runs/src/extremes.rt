@@ -1,12 +1,13 @@
-//! Large images: a chain of many objects, and an array of many fields. A test of these takes a second or two as `rt test`
-//! builds it, and minutes under `rt try --test`, which ends it before unless it is given `--seconds 600`.
+//! Large images: a chain of many objects, and an array of many fields. A test of these takes a
+//! second or two as `rt test` builds it, and minutes under `rt try --test`, which ends it before
+//! unless it is given `--seconds 600`.
 
 ghost use Rattle.std.specs.Prelude.{◌<◌, IfSome};
 
 use super::prefixes::behind;
 use super::runs::{Devices, Outcome, SOUND, nine_plans, plan_of, run_over};
-use sqz_object::Order;
 use sqz_fixtures::{put_header, put_words};
+use sqz_object::Order;
 use sqz_tool::{Plan, Summary};
 use sqz_trace::Weak;
 use std::alloc::{AllocError, Global};
@@ -42,7 +43,8 @@ fn large_file<R: Abort + AllocGlobal>(
     Ok(file)
 }
 
-/// A large file, what is written of it, what a run over it counts, and the last line of its census behind the end of the line before.
+/// A large file, what is written of it, what a run over it counts, and the last line of its census
+/// behind the end of the line before.
 #[derive(Clone, Copy)]
 struct Large<'a> {
     file: &'a [u8],
@@ -119,8 +121,8 @@ fn assert_large_behind_512<R: Threads + Wait + Sync + Abort + AllocGlobal>(
     assert_large_by_two(rt, moved)
 }
 
-/// In which order the objects on a chain name each other: the next one, the one before, or by turns one of the lower and one of
-/// the upper half, from both ends to the middle.
+/// In which order the objects on a chain name each other: the next one, the one before, or by turns
+/// one of the lower and one of the upper half, from both ends to the middle.
 #[derive(Clone, Copy)]
 enum Path {
     Up,
@@ -152,7 +154,8 @@ fn word_of(path: Path, object: u32) -> u32
     }
 }
 
-/// The words of nil, of the objects on a path and of the special objects array, which names the first.
+/// The words of nil, of the objects on a path and of the special objects array, which names the
+/// first.
 fn chain(alloc: Global, path: Path, first: u32) -> Result<Vec<u32>, AllocError> {
     let mut words = Vec::from_slice(alloc, &[0x1007])?;
     for object in 0..COUNT {
@@ -199,8 +202,8 @@ fn chain_from_both_ends(rt: HostRuntime) -> Result<(), Fail> {
     assert_chain_kept(&rt, Path::Zigzag, 0x1004)
 }
 
-/// The words of so many objects without fields, of which the first is nil, and of an array, which is the special objects array
-/// and holds these words.
+/// The words of so many objects without fields, of which the first is nil, and of an array, which
+/// is the special objects array and holds these words.
 fn array_behind(alloc: Global, count: usize, fields: &[u32]) -> Result<Vec<u32>, AllocError> {
     let mut words = Vec::new(alloc);
     words.resize(count, 0x1007)?;

@@ -1,9 +1,9 @@
 //! Files that are refused for what their headers say, in either byte order: nothing is written.
 
 use super::runs::assert_refused;
+use sqz_fixtures::put_words;
 use sqz_image::Fault;
 use sqz_object::Order;
-use sqz_fixtures::put_words;
 use sqz_trace::Weak;
 use std::alloc::{AllocError, Global};
 use std::process::Abort;

@@ -16,7 +16,8 @@ use std::thread::{self, Threads};
 /// How often a worker that is held lets others go on.
 const YIELDS: u32 = 10_000;
 
-/// A gate that holds the first worker at its first turn of marking, and counts how often it let it through after that.
+/// A gate that holds the first worker at its first turn of marking, and counts how often it let it
+/// through after that.
 #[derive(Drop)]
 struct HoldingGate {
     held: AtomicU64,

@@ -1,10 +1,10 @@
 //! What an observer of a run is told.
 
 use super::runs::plan_of;
-use sqz_image::{Fault, MemorySink, MemorySource};
 use sqz_fixtures::accepted::DEAD_ARRAY;
 use sqz_fixtures::with_defects::ODD_FIELD;
 use sqz_fixtures::{TestImage, file_of};
+use sqz_image::{Fault, MemorySink, MemorySource};
 use sqz_tool::{Plan, Session, Stage, StageObserver, Summary, run_observed};
 use sqz_trace::Weak;
 use sqz_workers::OpenGate;

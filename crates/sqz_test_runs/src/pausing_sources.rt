@@ -1,12 +1,13 @@
-//! A source that gives no byte once although it has bytes left: a run reads up to there, and leaves the rest.
+//! A source that gives no byte once although it has bytes left: a run reads up to there, and leaves
+//! the rest.
 
 ghost use Rattle.std.specs.Prelude.{◌≡◌, false};
 ghost use Rattle.sqz_image.specs.Devices.{SourceState};
 
 use super::runs::{assert_bytes, plan_of};
-use sqz_image::{DeviceFault, MemorySink, MemorySource, Source, read_all};
 use sqz_fixtures::accepted::{DEAD_ARRAY, NIL_ALONE};
 use sqz_fixtures::file_of;
+use sqz_image::{DeviceFault, MemorySink, MemorySource, Source, read_all};
 use sqz_tool::{Plan, run};
 use sqz_trace::Weak;
 use sqz_workers::OpenGate;

@@ -2,12 +2,12 @@
 
 use super::runs::{SOUND, assert_writes_both, nine_plans};
 use super::weak_censuses::{WEAK_CLASS, WEAK_CLASS_CENSUS, WEAK_CLASS_CLEARED};
-use sqz_image::Fault;
-use sqz_marks::Workers;
-use sqz_regions::Cut;
 use sqz_fixtures::accepted::DEAD_CYCLE;
 use sqz_fixtures::answers::DEAD_CYCLE_ANSWER;
 use sqz_fixtures::{TestImage, file_of};
+use sqz_image::Fault;
+use sqz_marks::Workers;
+use sqz_regions::Cut;
 use sqz_tool::Plan;
 use sqz_trace::Weak;
 use std::alloc::Global;

@@ -4,10 +4,10 @@ use super::runs::{
     SOUND, assert_bytes, assert_refused, assert_writes, assert_writes_both, plan_of,
 };
 use super::weak_censuses::{WEAK_CLASS, WEAK_CLASS_CENSUS, WEAK_CLASS_CLEARED};
-use sqz_image::{Fault, Image, MemorySink, read_image, write_image};
-use sqz_object::Order;
 use sqz_fixtures::accepted::{DEAD_ARRAY, NIL_ALONE};
 use sqz_fixtures::{EMPTY, TestImage, file_in, file_of, put_words};
+use sqz_image::{Fault, Image, MemorySink, read_image, write_image};
+use sqz_object::Order;
 use sqz_tool::{Plan, Summary};
 use sqz_trace::Weak;
 use std::alloc::{AllocError, Global};
@@ -67,7 +67,8 @@ fn array_with_tail(alloc: Global, count: usize, order: Order) -> Result<Vec<u8>,
     with_tail(file_in_behind(alloc, count, order, &DEAD_ARRAY)?)
 }
 
-/// Asserts that a run over these bytes keeps so many before the header, and none of those behind the data.
+/// Asserts that a run over these bytes keeps so many before the header, and none of those behind
+/// the data.
 pub(crate) fn assert_array_left_out<R: Threads + Wait + Sync + Abort + AllocGlobal>(
     rt: &R,
     count: usize,
@@ -205,7 +206,8 @@ fn broken_header_at_the_front(rt: HostRuntime) -> Result<(), Fail> {
     Ok(())
 }
 
-/// Asserts what a run that clears weak slots writes of an image behind 512 bytes, where words are in this order.
+/// Asserts what a run that clears weak slots writes of an image behind 512 bytes, where words are
+/// in this order.
 fn assert_cleared_behind_512<R: Threads + Wait + Sync + Abort + AllocGlobal>(
     rt: &R,
     plan: &Plan,

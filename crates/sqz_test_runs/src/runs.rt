@@ -1,10 +1,10 @@
 //! A run over a file in memory, and what it is to do.
 
+use sqz_fixtures::{TestImage, file_in};
 use sqz_image::{Fault, MemorySink, MemorySource};
 use sqz_marks::Workers;
 use sqz_object::Order;
 use sqz_regions::Cut;
-use sqz_fixtures::{TestImage, file_in};
 use sqz_tool::{Plan, Summary, run};
 use sqz_trace::Weak;
 use sqz_workers::{Gate, OpenGate};
@@ -14,8 +14,9 @@ use std::sync::Wait;
 use std::test::Fail;
 use std::thread::Threads;
 
-/// How the devices of a run behave: how many bytes the source gives at once, which are at least one, at which call each
-/// device fails, if at all, and how many bytes those take that are written to.
+/// How the devices of a run behave: how many bytes the source gives at once, which are at least
+/// one, at which call each device fails, if at all, and how many bytes those take that are written
+/// to.
 #[derive(Clone, Copy)]
 pub(crate) struct Devices {
     pub piece: u32,
@@ -64,7 +65,8 @@ pub(crate) fn plan_by(workers: u32, words: u32, weak: Weak) -> Result<Plan, Faul
     })
 }
 
-/// The plans by 1, 2 and 64 workers, in regions of one word, of 65536 words and of all words, with a census.
+/// The plans by 1, 2 and 64 workers, in regions of one word, of 65536 words and of all words, with
+/// a census.
 pub(crate) fn nine_plans(alloc: Global, weak: Weak) -> Result<Vec<Plan>, Fault> {
     let mut plans = Vec::new(alloc);
     for workers in [1, 2, 64] {
@@ -238,7 +240,8 @@ pub(crate) fn assert_compacts<R: Threads + Wait + Sync + Abort + AllocGlobal>(
     Ok(())
 }
 
-/// Asserts that a run over an image is refused with this fault in either byte order, and writes nothing.
+/// Asserts that a run over an image is refused with this fault in either byte order, and writes
+/// nothing.
 pub(crate) fn assert_image_refused<R: Threads + Wait + Sync + Abort + AllocGlobal>(
     rt: &R,
     weak: Weak,

@@ -1,22 +1,24 @@
-//! Files of which an end is missing, data that say that they are shorter, and words that state the most and the least.
+//! Files of which an end is missing, data that say that they are shorter, and words that state the
+//! most and the least.
 
 use super::plans::{Case, assert_answers};
 use super::prefixes::behind;
 use super::runs::{assert_refused, assert_refused_by, nine_plans};
-use sqz_image::Fault;
-use sqz_object::{Order, put_word};
 use sqz_fixtures::Chunk::Words;
 use sqz_fixtures::accepted::{CLASS_EDGE, CLASS_NAMES};
 use sqz_fixtures::answers::CLASS_EDGE_ANSWER;
 use sqz_fixtures::with_defects::ALL_ONES;
 use sqz_fixtures::{EMPTY, TestImage, file_in, file_of};
+use sqz_image::Fault;
+use sqz_object::{Order, put_word};
 use sqz_trace::Weak;
 use std::process::Abort;
 use std::sync::Wait;
 use std::test::Fail;
 use std::thread::Threads;
 
-/// Asserts that runs over a file by each of nine plans are refused with this fault, and write nothing.
+/// Asserts that runs over a file by each of nine plans are refused with this fault, and write
+/// nothing.
 fn assert_refused_by_all<R: Threads + Wait + Sync + Abort + AllocGlobal>(
     rt: &R,
     weak: Weak,
@@ -98,7 +100,8 @@ fn file_that_says<R: Abort + AllocGlobal>(rt: &R, size: u32) -> Result<Vec<u8>, 
     Ok(file)
 }
 
-/// Asserts that runs over a file are refused with this fault, whether weak slots are kept or cleared.
+/// Asserts that runs over a file are refused with this fault, whether weak slots are kept or
+/// cleared.
 fn assert_refused_by_both<R: Threads + Wait + Sync + Abort + AllocGlobal>(
     rt: &R,
     file: &[u8],
@@ -166,7 +169,8 @@ const FOUR_ONES: TestImage = TestImage {
     ..EMPTY
 };
 
-/// Asserts that runs over an image are refused with this fault by each of nine plans, in either byte order.
+/// Asserts that runs over an image are refused with this fault by each of nine plans, in either
+/// byte order.
 fn assert_image_refused_by_all<R: Threads + Wait + Sync + Abort + AllocGlobal>(
     rt: &R,
     weak: Weak,
@@ -179,8 +183,9 @@ fn assert_image_refused_by_all<R: Threads + Wait + Sync + Abort + AllocGlobal>(
     Ok(())
 }
 
-/// Images whose words state the least size or the most, and the fault of each where weak slots are kept and where they
-/// are cleared: 63 words of ones are a method with fewer literals than it states, whose field 0 names nothing.
+/// Images whose words state the least size or the most, and the fault of each where weak slots are
+/// kept and where they are cleared: 63 words of ones are a method with fewer literals than it
+/// states, whose field 0 names nothing.
 const ZEROS_AND_ONES: &[(TestImage, Fault, Fault)] = &[
     (
         TWO_ZEROS,

@@ -2,11 +2,11 @@
 
 use super::prefixes::{file_behind, with_tail};
 use super::runs::{Outcome, SOUND, assert_bytes, assert_writes, run_by_two, run_over};
+use sqz_fixtures::accepted::NIL_ALONE;
+use sqz_fixtures::{IMAGES, TestImage, file_of};
 use sqz_image::Fault;
 use sqz_marks::Workers;
 use sqz_regions::Cut;
-use sqz_fixtures::accepted::NIL_ALONE;
-use sqz_fixtures::{IMAGES, TestImage, file_of};
 use sqz_tool::{Plan, Summary};
 use sqz_trace::Weak;
 use std::alloc::{AllocError, Global};
@@ -64,7 +64,8 @@ fn assert_same<R: Abort>(rt: &R, outcome: &Outcome, written: &[u8], counts: Summ
     assert_bytes(rt, &outcome.image, written);
 }
 
-/// Asserts that what a run over a file writes is compacted to itself, and tells whether the file was accepted.
+/// Asserts that what a run over a file writes is compacted to itself, and tells whether the file
+/// was accepted.
 fn settles<R: Threads + Wait + Sync + Abort + AllocGlobal>(
     rt: &R,
     weak: Weak,
@@ -154,7 +155,8 @@ fn assert_tail_settles<R: Threads + Wait + Sync + Abort + AllocGlobal>(
     Ok(())
 }
 
-/// The first run leaves out five bytes that stand behind the data, and the second run changes nothing.
+/// The first run leaves out five bytes that stand behind the data, and the second run changes
+/// nothing.
 #[test]
 fn bytes_after_data_are_left_out_once(rt: HostRuntime) -> Result<(), Fail> {
     assert_lengths(&rt)?;

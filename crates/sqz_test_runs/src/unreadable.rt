@@ -1,7 +1,6 @@
 //! Images of which a chunk cannot be read, and images without a special objects array.
 
 use super::runs::assert_image_refused;
-use sqz_image::Fault;
 use sqz_fixtures::unreadable::{
     FIRST_UNREADABLE_CHUNK, FREE_CHUNK_AT_SPECIAL, FREE_OVERRUN, FREE_ZERO_SIZE, HEADER_OVERRUN,
     HEADER_OVERRUN_BEFORE_MIXED, LONE_CLASS_WORD, LONE_SIZE_WORD, MIXED_BEFORE_OVERRUN,
@@ -10,13 +9,15 @@ use sqz_fixtures::unreadable::{
     ZERO_SIZE_OF_THREE, ZERO_SIZE_OF_TWO,
 };
 use sqz_fixtures::{EMPTY, TestImage};
+use sqz_image::Fault;
 use sqz_trace::Weak;
 use std::process::Abort;
 use std::sync::Wait;
 use std::test::Fail;
 use std::thread::Threads;
 
-/// Asserts that runs over an image are refused with this fault, whether weak slots are kept or cleared.
+/// Asserts that runs over an image are refused with this fault, whether weak slots are kept or
+/// cleared.
 fn assert_unreadable<R: Threads + Wait + Sync + Abort + AllocGlobal>(
     rt: &R,
     image: &TestImage,

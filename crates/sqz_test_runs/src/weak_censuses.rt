@@ -6,8 +6,8 @@ use sqz_fixtures::{EMPTY, NIL, TestImage};
 use sqz_trace::Weak;
 use std::test::Fail;
 
-/// A weak object with a class word. Of its weak slots one names an object of another class, and one that class; nothing else
-/// leads to these.
+/// A weak object with a class word. Of its weak slots one names an object of another class, and one
+/// that class; nothing else leads to these.
 pub(crate) const WEAK_CLASS: TestImage = TestImage {
     chunks: &[
         NIL,
@@ -41,7 +41,8 @@ pub(crate) const WEAK_CLASS_CENSUS: &str = concat!(
     "         4           48 total\n",
 );
 
-/// The class of the weak object is counted. What only its weak slots name is counted where these are kept.
+/// The class of the weak object is counted. What only its weak slots name is counted where these
+/// are kept.
 #[test]
 fn census_of_weak_object(rt: HostRuntime) -> Result<(), Fail> {
     assert_census(&rt, Weak::Clear, &WEAK_CLASS, WEAK_CLASS_CENSUS)?;

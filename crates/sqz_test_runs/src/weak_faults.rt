@@ -1,7 +1,6 @@
 //! Images with weak objects that are refused, and images without nil.
 
 use super::runs::{assert_compacts, assert_image_refused};
-use sqz_image::{Fault, Slot};
 use sqz_fixtures::TestImage;
 use sqz_fixtures::accepted::SPECIAL_ARRAY_ALONE;
 use sqz_fixtures::with_defects::{
@@ -12,13 +11,15 @@ use sqz_fixtures::with_weak_objects::{
     WEAK_BAD_CLASS, WEAK_COMPACT_CLASSES, WEAK_NEGATIVE_FIXED, WEAK_SMALL_CLASS, WEAK_SPECIAL,
     WEAK_TOO_MANY_FIXED,
 };
+use sqz_image::{Fault, Slot};
 use sqz_trace::Weak;
 use std::process::Abort;
 use std::sync::Wait;
 use std::test::Fail;
 use std::thread::Threads;
 
-/// Asserts that an image is refused with this fault where weak slots are cleared, and that where they are kept all is as it was.
+/// Asserts that an image is refused with this fault where weak slots are cleared, and that where
+/// they are kept all is as it was.
 fn assert_not_cleared<R: Threads + Wait + Sync + Abort + AllocGlobal>(
     rt: &R,
     image: &TestImage,
@@ -65,8 +66,9 @@ const BAD_FIELD: Fault = Fault::BadPointer {
     slot: Slot::Field(0),
 };
 
-/// Images that are refused under both policies, and the faults where weak slots are cleared and where they are kept: nil
-/// counts before a missing class, this before a bad weak object, that before a bad field, and a weak slot may not be bad.
+/// Images that are refused under both policies, and the faults where weak slots are cleared and
+/// where they are kept: nil counts before a missing class, this before a bad weak object, that
+/// before a bad field, and a weak slot may not be bad.
 const REFUSED_BY_BOTH: &[(TestImage, Fault, Fault)] = &[
     (
         WEAK_NO_NIL_BEFORE_NO_CLASS,

@@ -1,4 +1,5 @@
-//! Images with weak objects, and what is left of them where weak slots are cleared and where they are kept.
+//! Images with weak objects, and what is left of them where weak slots are cleared and where they
+//! are kept.
 
 use super::runs::assert_compacts;
 use sqz_fixtures::Chunk::{Array, Classed, Long, LongArray, Short};
@@ -14,7 +15,8 @@ use std::sync::Wait;
 use std::test::Fail;
 use std::thread::Threads;
 
-/// Asserts what is left of an image where weak slots are cleared, and that where they are kept all is as it was.
+/// Asserts what is left of an image where weak slots are cleared, and that where they are kept all
+/// is as it was.
 fn assert_cleared<R: Threads + Wait + Sync + Abort + AllocGlobal>(
     rt: &R,
     image: &TestImage,

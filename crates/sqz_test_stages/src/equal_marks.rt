@@ -6,11 +6,11 @@ ghost use Rattle.sqz_image.specs.Objects.{object_count};
 use super::images::{FIXED_FIELD_BY_INDEX, FREE_AT_THE_END, THREE_WEAK_SLOTS};
 use super::marking::marked_by;
 use super::tracing::{finished, flags_of, marked};
+use sqz_fixtures::with_weak_objects::{WEAK_FIXED_FIELD, WEAK_TOO_MANY_FIXED};
+use sqz_fixtures::{IMAGES, TestImage, image_of, words_of};
 use sqz_image::Heap;
 use sqz_marks::Workers;
 use sqz_regions::{Cut, Regions, live_words};
-use sqz_fixtures::with_weak_objects::{WEAK_FIXED_FIELD, WEAK_TOO_MANY_FIXED};
-use sqz_fixtures::{IMAGES, TestImage, image_of, words_of};
 use sqz_trace::Weak;
 use sqz_workers::{Marked, OpenGate, mark};
 use std::process::Abort;
@@ -29,8 +29,8 @@ fn marked_by_stealing<R: Threads + Sync + Abort + AllocGlobal>(
     Ok(flags_of(rt.alloc(), heap, &marked.marks)?)
 }
 
-/// What the marking by three workers who steal gives. Asserts that the words that they counted in each region are those of
-/// the marked objects there.
+/// What the marking by three workers who steal gives. Asserts that the words that they counted in
+/// each region are those of the marked objects there.
 fn counted<R: Threads + Sync + Abort + AllocGlobal>(
     rt: &R,
     heap: &Heap,
@@ -46,7 +46,8 @@ fn counted<R: Threads + Sync + Abort + AllocGlobal>(
     Ok(marked)
 }
 
-/// Asserts that the words that workers counted in each region are those of the marked objects there.
+/// Asserts that the words that workers counted in each region are those of the marked objects
+/// there.
 fn assert_sums<R: Abort + AllocGlobal>(
     rt: &R,
     heap: &Heap,
@@ -65,8 +66,8 @@ fn assert_sums<R: Abort + AllocGlobal>(
     Ok(())
 }
 
-/// Asserts that objects are marked alike by a worklist, from the first shades on without memory, by workers under a lock, and
-/// by workers who steal.
+/// Asserts that objects are marked alike by a worklist, from the first shades on without memory, by
+/// workers under a lock, and by workers who steal.
 fn assert_equal_marks<R: Threads + Wait + Sync + Abort + AllocGlobal>(
     rt: &R,
     heap: &Heap,

@@ -2,11 +2,11 @@
 
 ghost use Rattle.std.specs.Prelude.{◌<◌};
 
-use sqz_image::{Image, read_image};
-use sqz_object::Order;
 use sqz_fixtures::Chunk::{Array, Classed, Free, Long, LongArray, Short, Words};
 use sqz_fixtures::accepted::DEAD_CYCLE;
 use sqz_fixtures::{EMPTY, NIL, ODD, TestImage, image_of, put_header, put_words};
+use sqz_image::{Image, read_image};
+use sqz_object::Order;
 use std::alloc::Global;
 use std::test::Fail;
 
@@ -72,8 +72,9 @@ pub(crate) const CONTEXT_AND_METHOD: TestImage = TestImage {
     ..EMPTY
 };
 
-/// A weak object, of whose three weak slots one names a live object, one a dead one, and one holds an integer. Its class word
-/// names a class without fixed fields. The first object is dead, so that all others move.
+/// A weak object, of whose three weak slots one names a live object, one a dead one, and one holds
+/// an integer. Its class word names a class without fixed fields. The first object is dead, so that
+/// all others move.
 pub(crate) const THREE_WEAK_SLOTS: TestImage = TestImage {
     chunks: &[
         Array(&[1, 1]),
@@ -115,8 +116,8 @@ pub(crate) const THREE_WEAK_SLOTS_KEPT: TestImage = TestImage {
     ..EMPTY
 };
 
-/// A weak object of two fields, of which one is fixed, as the class says that its compact index names. Its weak slot names a
-/// dead object.
+/// A weak object of two fields, of which one is fixed, as the class says that its compact index
+/// names. Its weak slot names a dead object.
 pub(crate) const FIXED_FIELD_BY_INDEX: TestImage = TestImage {
     chunks: &[
         NIL,
@@ -170,7 +171,8 @@ pub(crate) fn long_object_image(alloc: Global, words: u32) -> Result<Image, Fail
     Ok(read_image(alloc, &file)?)
 }
 
-/// An image of nil, of so many objects that each name the next one, and of the special objects array, which names the first.
+/// An image of nil, of so many objects that each name the next one, and of the special objects
+/// array, which names the first.
 pub(crate) fn chain_image(alloc: Global, count: u32) -> Result<Image, Fail>
     requires { count < 10000 }
 {

@@ -1,4 +1,5 @@
-//! A chain of more objects than the turns that a worker has besides those for each object: one worker marks all of it.
+//! A chain of more objects than the turns that a worker has besides those for each object: one
+//! worker marks all of it.
 
 use super::gates::TurnGate;
 use super::images::chain_image;
@@ -19,7 +20,8 @@ fn assert_turns<R: Abort>(rt: &R, gate: &TurnGate<'_>) {
     assert_eq!(rt; (gate.turns(0), gate.out_of_order()), (6065, 0));
 }
 
-/// The worker wins each object but the special objects array, and leaves none to the thread that called.
+/// The worker wins each object but the special objects array, and leaves none to the thread that
+/// called.
 #[test]
 fn one_worker_wins_all(rt: HostRuntime) -> Result<(), Fail> {
     let gate = TurnGate::new(Phase::Mark, &[]);
@@ -29,7 +31,8 @@ fn one_worker_wins_all(rt: HostRuntime) -> Result<(), Fail> {
     Ok(())
 }
 
-/// A turn takes each object, and then 64 find none: the worker leaves none to the thread that called.
+/// A turn takes each object, and then 64 find none: the worker leaves none to the thread that
+/// called.
 #[test]
 fn one_worker_takes_a_turn_for_each_object_under_a_lock(rt: HostRuntime) -> Result<(), Fail> {
     let image = chain_image(rt.alloc(), CHAINED)?;

@@ -24,7 +24,8 @@ pub(crate) fn marked_by<R: Threads + Wait + Sync + AllocGlobal, G: Gate>(
     Ok(flags_of(rt.alloc(), heap, &marks)?)
 }
 
-/// Asserts that so many workers, who pass a gate, mark the four reachable objects of an image of six.
+/// Asserts that so many workers, who pass a gate, mark the four reachable objects of an image of
+/// six.
 fn assert_marks<R: Threads + Wait + Sync + Abort + AllocGlobal, G: Gate>(
     rt: &R,
     workers: u32,
@@ -65,7 +66,8 @@ fn two_workers_mark_at_one_time(rt: HostRuntime) -> Result<(), Fail> {
     Ok(())
 }
 
-/// Asserts that one of two workers marks while the other one is held at its first turn until it has taken its last one.
+/// Asserts that one of two workers marks while the other one is held at its first turn until it has
+/// taken its last one.
 fn assert_marks_alone<R: Threads + Wait + Sync + Abort + AllocGlobal>(
     rt: &R,
     held: u32,
@@ -83,8 +85,8 @@ fn assert_marks_alone<R: Threads + Wait + Sync + Abort + AllocGlobal>(
     Ok(())
 }
 
-/// While one worker is held at its first turn the other one finds all objects, and takes its last turn. So the one that
-/// is held had not begun to work.
+/// While one worker is held at its first turn the other one finds all objects, and takes its last
+/// turn. So the one that is held had not begun to work.
 #[test]
 fn each_worker_marks_while_the_other_is_held(rt: HostRuntime) -> Result<(), Fail> {
     assert_marks_alone(&rt, 0, 1)?;

@@ -8,13 +8,13 @@ use super::images::{
     THREE_WEAK_SLOTS_KEPT, dead_cycle_image,
 };
 use super::regions::{cut_at, places_of};
+use sqz_fixtures::accepted::{DEAD_ARRAY, NIL_ALONE};
+use sqz_fixtures::answers::DEAD_CYCLE_ANSWER;
+use sqz_fixtures::{TestImage, image_of, words_of};
 use sqz_image::{Heap, Image};
 use sqz_marks::Workers;
 use sqz_regions::{Cut, Forward, Regions};
 use sqz_slide::{Pieces, moved_word, slide};
-use sqz_fixtures::accepted::{DEAD_ARRAY, NIL_ALONE};
-use sqz_fixtures::answers::DEAD_CYCLE_ANSWER;
-use sqz_fixtures::{TestImage, image_of, words_of};
 use sqz_trace::Weak;
 use sqz_workers::{Gate, OpenGate};
 use std::alloc::{AllocError, Global};
@@ -164,7 +164,8 @@ fn region_of_dead_objects_alone(rt: HostRuntime) -> Result<(), Fail> {
     assert_pieces(&rt, &pieces, &[1, 0, 2], &NIL_ALONE)
 }
 
-/// Asserts that the words of an image after the move are those of another, in two pieces of so many words.
+/// Asserts that the words of an image after the move are those of another, in two pieces of so many
+/// words.
 fn assert_two_pieces<R: Threads + Sync + Abort + AllocGlobal>(
     rt: &R,
     image: &Image,
@@ -177,7 +178,8 @@ fn assert_two_pieces<R: Threads + Sync + Abort + AllocGlobal>(
     assert_pieces(rt, &pieces, sizes, wanted)
 }
 
-/// Asserts that the words of an image after the move are those of another, in two pieces of so many words and one by one.
+/// Asserts that the words of an image after the move are those of another, in two pieces of so many
+/// words and one by one.
 fn assert_moves<R: Threads + Sync + Abort + AllocGlobal>(
     rt: &R,
     image: &TestImage,
@@ -198,8 +200,8 @@ fn class_words_and_headers_of_three_words(rt: HostRuntime) -> Result<(), Fail> {
     assert_moves(&rt, &CLASS_WORDS, Weak::Keep, 9, &[6, 7], wanted)
 }
 
-/// A weak slot that names a dead object names nil, in its new place. One that names a live object names that, and an integer
-/// and the class word are as where slots are kept.
+/// A weak slot that names a dead object names nil, in its new place. One that names a live object
+/// names that, and an integer and the class word are as where slots are kept.
 #[test]
 fn weak_slots_cleared(rt: HostRuntime) -> Result<(), Fail> {
     let wanted = &THREE_WEAK_SLOTS_CLEARED;

@@ -3,10 +3,10 @@
 use super::gates::{Hold, MEETING, TurnGate, assert_held, turn_of};
 use super::images::{dead_cycle_image, long_object_image};
 use super::sliding::{assert_pieces, assert_sizes, slid, slid_by};
+use sqz_fixtures::answers::DEAD_CYCLE_ANSWER;
 use sqz_image::Image;
 use sqz_regions::Cut;
 use sqz_slide::Pieces;
-use sqz_fixtures::answers::DEAD_CYCLE_ANSWER;
 use sqz_trace::Weak;
 use sqz_workers::Phase;
 use std::process::Abort;
@@ -31,7 +31,8 @@ fn assert_slides_to<R: Threads + Sync + Abort + AllocGlobal>(
     assert_pieces(rt, &pieces, sizes, &DEAD_CYCLE_ANSWER)
 }
 
-/// Asserts that two workers pass a gate, of which the first has the first region and the second the two others.
+/// Asserts that two workers pass a gate, of which the first has the first region and the second the
+/// two others.
 fn assert_slides<R: Threads + Sync + Abort + AllocGlobal>(
     rt: &R,
     gate: &TurnGate<'_>,

@@ -3,10 +3,10 @@
 use super::gates::{Hold, TurnGate, assert_held, turn_of};
 use super::sliding::{slid, slid_by};
 use super::sliding_gates::assert_turns;
+use sqz_fixtures::{put_header, put_words};
 use sqz_image::{Image, read_image};
 use sqz_object::Order;
 use sqz_regions::Cut;
-use sqz_fixtures::{put_header, put_words};
 use sqz_trace::Weak;
 use sqz_workers::{Gate, Phase};
 use std::alloc::Global;
@@ -17,10 +17,12 @@ use std::rt::Files;
 use std::sync::atomic::{AtomicU64, Ordering};
 use std::test::Fail;
 
-/// How many bytes the large object has. Of so many that are asked for at once the process becomes larger.
+/// How many bytes the large object has. Of so many that are asked for at once the process becomes
+/// larger.
 const MANY: u32 = 40 << 20;
 
-/// An image with an object of many bytes, from its second word on, and a special objects array that names it.
+/// An image with an object of many bytes, from its second word on, and a special objects array that
+/// names it.
 fn large_image(alloc: Global) -> Result<Image, Fail> {
     let special = 0x1010 + MANY;
     let order = Order::Little;
@@ -68,7 +70,8 @@ impl<R: Files + Sync> Gate for SizeGate<'_, R> {
     }
 }
 
-/// Asserts that the process had a size before, and by how many pages at least it was larger behind it.
+/// Asserts that the process had a size before, and by how many pages at least it was larger behind
+/// it.
 fn assert_grows<R: Abort>(rt: &R, before: &AtomicU64, behind: &AtomicU64, least: u64) {
     let before = before.load(Ordering::SeqCst);
     let more = behind.load(Ordering::SeqCst).saturating_sub(before);
@@ -78,8 +81,8 @@ fn assert_grows<R: Abort>(rt: &R, before: &AtomicU64, behind: &AtomicU64, least:
     );
 }
 
-/// The room for the list of pieces, 60 MiB, and the first piece, 40 MiB, are taken behind the first turn and before the
-/// second.
+/// The room for the list of pieces, 60 MiB, and the first piece, 40 MiB, are taken behind the first
+/// turn and before the second.
 #[test]
 fn first_turn_is_before_all_memory(rt: HostRuntime) -> Result<(), Fail> {
     let image = large_image(rt.alloc())?;
@@ -93,7 +96,8 @@ fn first_turn_is_before_all_memory(rt: HostRuntime) -> Result<(), Fail> {
     Ok(())
 }
 
-/// How many bytes each of two large objects has. So many that are asked for at once are never a part of what was freed.
+/// How many bytes each of two large objects has. So many that are asked for at once are never a
+/// part of what was freed.
 const PIECE: u32 = 33 << 20;
 
 /// How many pages those are.
@@ -102,7 +106,8 @@ const PIECE_PAGES: u64 = (PIECE / 4096) as u64;
 /// A large object's header, of three words.
 const LARGE: [u32; 3] = [PIECE + 4, 0x1000, 0x800];
 
-/// An image with nil, a small object, two large ones and the special objects array, which names all of them.
+/// An image with nil, a small object, two large ones and the special objects array, which names all
+/// of them.
 fn image_of_two(alloc: Global) -> Result<Image, Fail> {
     let special = 0x1024 + 2 * PIECE;
     let order = Order::Little;
@@ -121,7 +126,8 @@ fn image_of_two(alloc: Global) -> Result<Image, Fail> {
     Ok(read_image(alloc, &file)?)
 }
 
-/// A gate that notes how large the process is at the first three turns of the second worker, and before that holds workers.
+/// A gate that notes how large the process is at the first three turns of the second worker, and
+/// before that holds workers.
 #[derive(Drop)]
 struct SecondGate<'a, R> {
     rt: &'a R,
@@ -141,8 +147,9 @@ impl<R: Files + Sync> Gate for SecondGate<'_, R> {
     }
 }
 
-/// At its second turn a worker has the memory of its first piece, and not yet that of its second one, which it has at its third
-/// turn. The other worker, whose pieces are small, is held meanwhile: it has three regions, and the second one four.
+/// At its second turn a worker has the memory of its first piece, and not yet that of its second
+/// one, which it has at its third turn. The other worker, whose pieces are small, is held
+/// meanwhile: it has three regions, and the second one four.
 #[test]
 fn each_turn_is_before_the_memory_of_its_piece(rt: HostRuntime) -> Result<(), Fail> {
     let image = image_of_two(rt.alloc())?;

@@ -1,4 +1,5 @@
-//! Marking by workers who steal: what is marked, who won it, and who takes turns, as a gate sees it.
+//! Marking by workers who steal: what is marked, who won it, and who takes turns, as a gate sees
+//! it.
 
 ghost use Rattle.std.specs.Prelude.{◌≡◌, ◌≤◌, length, IfOk};
 ghost use Rattle.sqz_image.specs.Objects.{object_count};
@@ -7,10 +8,10 @@ use super::gates::{Hold, MEETING, Turn, TurnGate, assert_held, turn_of};
 use super::images::{FAN, chain_image, dead_cycle_image};
 use super::regions::cut_at;
 use super::tracing::{DEAD_CYCLE_MARKS, assert_all, flags_of};
+use sqz_fixtures::image_of;
 use sqz_image::Image;
 use sqz_marks::Workers;
 use sqz_regions::{Cut, Regions};
-use sqz_fixtures::image_of;
 use sqz_trace::Weak;
 use sqz_workers::{Gate, Marked, OpenGate, Phase, mark};
 use std::alloc::{AllocError, Global};
@@ -42,7 +43,8 @@ fn flags_in(alloc: Global, image: &Image, marked: &Marked) -> Result<Vec<bool>, 
     flags_of(alloc, image.heap(), &marked.marks)
 }
 
-/// What the marking of an image of six objects gives, of which it asserts that the four reachable ones are marked.
+/// What the marking of an image of six objects gives, of which it asserts that the four reachable
+/// ones are marked.
 fn marked_dead_cycle<R: Threads + Sync + Abort + AllocGlobal, G: Gate>(
     rt: &R,
     cut: &Cut,
@@ -73,8 +75,8 @@ fn won(marked: &Marked) -> u64 {
     won
 }
 
-/// Asserts of what the marking of that image gives the live words, that there is a count for each worker, and that four
-/// objects were won.
+/// Asserts of what the marking of that image gives the live words, that there is a count for each
+/// worker, and that four objects were won.
 fn assert_counts<R: Abort>(rt: &R, workers: u32, live_words: &[u32], marked: &Marked) {
     let found = (
         marked.live_words.as_slice(),
@@ -101,7 +103,8 @@ fn assert_marked<R: Threads + Sync + Abort + AllocGlobal>(
     Ok(())
 }
 
-/// Asserts that workers won so many objects each, and that the special objects array alone was won outside of their turns.
+/// Asserts that workers won so many objects each, and that the special objects array alone was won
+/// outside of their turns.
 pub(crate) fn assert_won<R: Abort>(rt: &R, marked: &Marked, claims: &[u32]) {
     let won = (marked.claims.as_slice(), marked.finished);
     assert_eq!(rt;
@@ -142,8 +145,8 @@ fn worker_leaves_after_64_empty_turns(rt: HostRuntime) -> Result<(), Fail> {
     Ok(())
 }
 
-/// The first worker, in whose deque the marking begins, is held at its first turn: the other one steals what is there, and
-/// marks all.
+/// The first worker, in whose deque the marking begins, is held at its first turn: the other one
+/// steals what is there, and marks all.
 #[test]
 fn worker_marks_all_while_the_first_is_held(rt: HostRuntime) -> Result<(), Fail> {
     let holds = [Hold {
@@ -174,8 +177,8 @@ fn marked_fan<R: Threads + Sync + AllocGlobal>(
     marked_by(rt, &image, &Cut::every(1)?, 2, gate)
 }
 
-/// Asserts how many objects of the fan each of two workers won, where the first stops at this turn until the other has won
-/// the rest.
+/// Asserts how many objects of the fan each of two workers won, where the first stops at this turn
+/// until the other has won the rest.
 fn assert_fan<R: Threads + Sync + Abort + AllocGlobal>(
     rt: &R,
     stop: u64,
@@ -198,8 +201,9 @@ fn assert_fan<R: Threads + Sync + Abort + AllocGlobal>(
     Ok(())
 }
 
-/// A worker takes the objects of its own deque first in, first out: behind the special objects array the one that names one
-/// object, then the one that names two, and then the one that names four.
+/// A worker takes the objects of its own deque first in, first out: behind the special objects
+/// array the one that names one object, then the one that names two, and then the one that names
+/// four.
 #[test]
 fn worker_takes_first_what_it_won_first(rt: HostRuntime) -> Result<(), Fail> {
     for (stop, claims) in &[(1, [3, 7]), (2, [4, 6]), (3, [6, 4]), (4, [10, 0])] {
@@ -208,14 +212,14 @@ fn worker_takes_first_what_it_won_first(rt: HostRuntime) -> Result<(), Fail> {
     Ok(())
 }
 
-/// The turn at which a worker of a chain stops. The second worker stops a turn later, since it first takes the object at
-/// the lowest address, which names none.
+/// The turn at which a worker of a chain stops. The second worker stops a turn later, since it
+/// first takes the object at the lowest address, which names none.
 const fn stop_of(worker: u32) -> Turn {
     turn_of(worker, if worker == 1 { 2 } else { 1 })
 }
 
-/// Each worker but the last stops until the last one has come to its turn 8, and each but the first begins when the one
-/// before it stops.
+/// Each worker but the last stops until the last one has come to its turn 8, and each but the first
+/// begins when the one before it stops.
 fn chain_holds(alloc: Global, last: u32) -> Result<Vec<Hold>, AllocError>
     requires { last ≤ 7 }
 {
@@ -273,7 +277,8 @@ fn assert_chain_by<R: Threads + Sync + Abort + AllocGlobal>(
     Ok(())
 }
 
-/// Asserts that in a chain of objects each worker steals one from the worker before it, and wins the next.
+/// Asserts that in a chain of objects each worker steals one from the worker before it, and wins
+/// the next.
 fn assert_chain<R: Threads + Sync + Abort + AllocGlobal>(rt: &R, last: u32) -> Result<(), Fail>
     requires { last ≤ 7 }
 {

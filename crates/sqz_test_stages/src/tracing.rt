@@ -4,11 +4,11 @@ ghost use Rattle.std.specs.Prelude.{◌≡◌, length};
 ghost use Rattle.sqz_image.specs.Objects.{object_count};
 
 use super::images::{CONTEXT_AND_METHOD, FIXED_FIELD_BY_INDEX, dead_cycle_image};
-use sqz_image::{Fault, Heap, Image, Slot};
 use sqz_fixtures::accepted::{CLASS_EDGE, SPECIAL_ARRAY_ALONE};
 use sqz_fixtures::image_of;
 use sqz_fixtures::with_defects::LOWER_OF_TWO;
 use sqz_fixtures::with_weak_objects::{WEAK_FIXED_FIELD, WEAK_SPECIAL, WEAK_TOO_MANY_FIXED};
+use sqz_image::{Fault, Heap, Image, Slot};
 use sqz_trace::{
     Marks, Weak, defect, finish, first_defect, first_shades, lacks_nil, mark_plain, strong, target,
     traced,
@@ -91,8 +91,8 @@ fn assert_names<R: Abort>(rt: &R, image: &Image, object: u32, slot: Slot, named:
     assert_eq!(rt; target(heap, object, slot), named, "slot {slot:?}");
 }
 
-/// Asserts that of an object so many fields are traced, which are all strong where weak slots are kept, and that so many are
-/// strong where they are cleared.
+/// Asserts that of an object so many fields are traced, which are all strong where weak slots are
+/// kept, and that so many are strong where they are cleared.
 fn assert_strong<R: Abort>(rt: &R, image: &Image, object: u32, count: u32, cleared: u32) {
     let heap = image.heap();
     assert!(rt; object < heap.len());
@@ -105,7 +105,8 @@ fn assert_strong<R: Abort>(rt: &R, image: &Image, object: u32, count: u32, clear
     assert_eq!(rt; found, (count, count, cleared), "object {object}");
 }
 
-/// Asserts whether nil is missing where weak slots are cleared. Where they are kept it is not asked for.
+/// Asserts whether nil is missing where weak slots are cleared. Where they are kept it is not asked
+/// for.
 fn assert_lacks_nil<R: Abort>(rt: &R, image: &Image, wanted: bool) {
     let heap = image.heap();
     assert!(rt; !lacks_nil(heap, Weak::Keep));

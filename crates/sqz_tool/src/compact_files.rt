@@ -15,12 +15,14 @@ use std::alloc::Global;
 use std::rt::Files;
 use std::thread::Threads;
 
-/// Compacts the image in one file into another, by the plan that a command line asks for, with workers that pass a gate.
-/// Where it asks for a census, the text goes to `out`, which else takes nothing.
+/// Compacts the image in one file into another, by the plan that a command line asks for, with
+/// workers that pass a gate. Where it asks for a census, the text goes to `out`, which else takes
+/// nothing.
 ///
-/// Fails with `BadWorkers` or `BadCut` where there is no such plan, else as `run` does, with `ReadFailed` also where the
-/// image cannot be opened, and with `WriteFailed` also where the other file cannot be made. Unless it fails with
-/// `WriteFailed`, that file and `out` are then as they were.
+/// Fails with `BadWorkers` or `BadCut` where there is no such plan, else as `run` does, with
+/// `ReadFailed` also where the image cannot be opened, and with `WriteFailed` also where the other
+/// file cannot be made. Unless it fails with `WriteFailed`, that file and `out` are then as they
+/// were.
 pub fn compact<'a, T: Files + Threads + Sync, C: Sink, G: Gate>(
     rt: &'a T,
     alloc: Global,
@@ -28,18 +30,32 @@ pub fn compact<'a, T: Files + Threads + Sync, C: Sink, G: Gate>(
     out: &mut C,
     gate: &G,
 ) -> Result<Summary, Fault>
-    ensures planned { IfOk result (λ _. IsWorkers arguments.now.workers × IsRegion arguments.now.region_words) }
+    ensures planned { IfOk result (λ _.
+        IsWorkers arguments.now.workers × IsRegion arguments.now.region_words) }
     ensures compacts { IfOk result (λ summary.
-        CompactsFiles (record { left = T.File.remaining; state = ⟦<OutputFile<'a, T> as Sink>⟧.state; path = λ sink. sink.path.now })
-        arguments.now.output.now (weak_of arguments.now.clear_weak) arguments.now.census (C.state out.old) (C.state out.new) summary) }
-    ensures workers { IfErr result (λ fault. (fault ≡ BadWorkers) ↔ (IsWorkers arguments.now.workers → ⊥)) }
+        CompactsFiles (record {
+          left = T.File.remaining;
+          state = ⟦<OutputFile<'a, T> as Sink>⟧.state;
+          path = λ sink. sink.path.now;
+        })
+        arguments.now.output.now (weak_of arguments.now.clear_weak) arguments.now.census (C.state
+        out.old) (C.state out.new) summary) }
+    ensures workers { IfErr result (λ fault.
+        (fault ≡ BadWorkers) ↔ (IsWorkers arguments.now.workers → ⊥)) }
     ensures cut { IfErr result (λ fault. (fault ≡ BadCut)
         ↔ (IsWorkers arguments.now.workers × (IsRegion arguments.now.region_words → ⊥))) }
     ensures refuses { IfErr result (λ fault. fault ≢ BadWorkers → fault ≢ BadCut → StopsFiles
-        (record { left = T.File.remaining; state = ⟦<OutputFile<'a, T> as Sink>⟧.state; path = λ sink. sink.path.now })
-        arguments.now.output.now (weak_of arguments.now.clear_weak) arguments.now.census (C.state out.old) (C.state out.new) fault) }
+        (record {
+          left = T.File.remaining;
+          state = ⟦<OutputFile<'a, T> as Sink>⟧.state;
+          path = λ
+              sink. sink.path.now;
+        })
+        arguments.now.output.now (weak_of arguments.now.clear_weak) arguments.now.census (C.state
+        out.old) (C.state out.new) fault) }
     ensures unused { arguments.now.census ≡ false → C.state out.new ≡ C.state out.old }
-    ensures quiet { IfErr result (λ fault. fault ≢ WriteFailed → C.state out.new ≡ C.state out.old) }
+    ensures quiet { IfErr result (λ fault.
+        fault ≢ WriteFailed → C.state out.new ≡ C.state out.old) }
 {
     let mut opened = Opened::of(rt, arguments)?;
     opened.run(rt, alloc, out, gate)

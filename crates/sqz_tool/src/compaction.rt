@@ -1,6 +1,7 @@
 //! What is written of an image: its live objects in their new places.
 
-ghost use Rattle.std.specs.Prelude.{◌≡◌, ◌⊎◌, ◌+◌, ◌*◌, ◌^◌, ◌<◌, ◌≤◌, true, false, length, sum, None, option_map, IfOk, IfErr};
+ghost use Rattle.std.specs.Prelude.{◌≡◌, ◌⊎◌, ◌+◌, ◌*◌, ◌^◌, ◌<◌, ◌≤◌, true, false, length, sum};
+ghost use Rattle.std.specs.Prelude.{None, option_map, IfOk, IfErr};
 ghost use Rattle.std.specs.List.{AllByRecursion};
 ghost use Rattle.sqz_object.specs.Chunk.{IsChunk};
 ghost use Rattle.sqz_image.specs.declared.fault.Fault.TheVariants.{OutOfMemory};
@@ -18,6 +19,7 @@ use crate::summary::Summary;
 use sqz_census::{census, print};
 use sqz_image::laws::heap_bounds;
 use sqz_image::{DATA_SIZE_WORD, Fault, Heap, Image};
+use sqz_object::Address;
 use sqz_regions::{Forward, Regions, bases};
 use sqz_slide::{Pieces, slide};
 use sqz_trace::{Marks, first_defect, lacks_nil};
@@ -29,7 +31,7 @@ use std::thread::Threads;
 #[derive(Drop)]
 pub(crate) struct Compaction {
     /// The new address of the special objects array.
-    pub special: u32,
+    pub special: Address,
     /// The words of the live objects, in their order.
     pub pieces: Pieces,
     pub summary: Summary,
@@ -37,15 +39,17 @@ pub(crate) struct Compaction {
     pub census: Option<Vec<u8>>,
 }
 
-/// The compaction of an image. Fails with `NoNil` if weak slots are to be cleared and there is no nil, else with the
-/// defect of the lowest reachable object that has one; otherwise only by running out of memory.
+/// The compaction of an image. Fails with `NoNil` if weak slots are to be cleared and there is no
+/// nil, else with the defect of the lowest reachable object that has one; otherwise only by running
+/// out of memory.
 pub(crate) fn compaction_of<T: Threads + Sync, G: Gate, O: StageObserver>(
     session: &mut Session<'_, T, G, O>,
     plan: &Plan,
     image: &Image,
 ) -> Result<Compaction, Fault>
     requires { AllByRecursion IsChunk image.now.memory.chunks }
-    ensures compaction { IfOk result (λ c. IsCompaction plan.now.weak plan.now.census image.now c.special c.pieces c.summary
+    ensures compaction { IfOk result (λ c.
+        IsCompaction plan.now.weak plan.now.census image.now c.special c.pieces c.summary
         (option_map (λ text. text.items) c.census)) }
     ensures refused { IfErr result (λ fault. (fault ≡ OutOfMemory)
         ⊎ LacksNilIn plan.now.weak image.now fault ⊎ HasDefectIn plan.now.weak image.now fault) }
@@ -60,8 +64,8 @@ pub(crate) fn compaction_of<T: Threads + Sync, G: Gate, O: StageObserver>(
     moved(session, plan, image, &regions, &marked)
 }
 
-/// What marking gives. Fails with the defect of the lowest reachable object that has one; otherwise only by running out
-/// of memory.
+/// What marking gives. Fails with the defect of the lowest reachable object that has one; otherwise
+/// only by running out of memory.
 fn sound_marks<T: Threads + Sync, G: Gate, O: StageObserver>(
     session: &mut Session<'_, T, G, O>,
     plan: &Plan,
@@ -70,12 +74,18 @@ fn sound_marks<T: Threads + Sync, G: Gate, O: StageObserver>(
 ) -> Result<Marked, Fault>
     requires regions { regions.now.memory ≡ image.now.memory }
     requires has_nil { lacks_nil image.now.memory plan.now.weak ≡ false }
-    ensures reachable { IfOk result (λ marked. IsReachability image.now.memory plan.now.weak marked.marks) }
-    ensures sound { IfOk result (λ marked. first_defect image.now.memory plan.now.weak marked.marks ≡ None) }
-    ensures sums { IfOk result (λ marked. AreSums regions.now marked.marks marked.live_words.items) }
-    ensures whole { IfOk result (λ marked. sum marked.live_words.items ≡ live_words image.now.memory marked.marks) }
-    ensures room { IfOk result (λ marked. image.now.memory.base + 4 * sum marked.live_words.items ≤ 2 ^ 32) }
-    ensures refused { IfErr result (λ fault. (fault ≡ OutOfMemory) ⊎ HasDefectIn plan.now.weak image.now fault) }
+    ensures reachable { IfOk result (λ marked.
+        IsReachability image.now.memory plan.now.weak marked.marks) }
+    ensures sound { IfOk result (λ marked.
+        first_defect image.now.memory plan.now.weak marked.marks ≡ None) }
+    ensures sums { IfOk result (λ marked.
+        AreSums regions.now marked.marks marked.live_words.items) }
+    ensures whole { IfOk result (λ marked.
+        sum marked.live_words.items ≡ live_words image.now.memory marked.marks) }
+    ensures room { IfOk result (λ marked.
+        image.now.memory.base + 4 * sum marked.live_words.items ≤ 2 ^ 32) }
+    ensures refused { IfErr result (λ fault.
+        (fault ≡ OutOfMemory) ⊎ HasDefectIn plan.now.weak image.now fault) }
 {
     let heap = image.heap();
     let marked = mark(
@@ -95,7 +105,8 @@ fn sound_marks<T: Threads + Sync, G: Gate, O: StageObserver>(
     Ok(marked)
 }
 
-/// The compaction of an image of which this is what marking gives. Fails only by running out of memory.
+/// The compaction of an image of which this is what marking gives. Fails only by running out of
+/// memory.
 fn moved<T: Threads + Sync, G: Gate, O: StageObserver>(
     session: &mut Session<'_, T, G, O>,
     plan: &Plan,
@@ -109,9 +120,11 @@ fn moved<T: Threads + Sync, G: Gate, O: StageObserver>(
     requires reachable { IsReachability image.now.memory plan.now.weak marked.now.marks }
     requires sound { first_defect image.now.memory plan.now.weak marked.now.marks ≡ None }
     requires sums { AreSums regions.now marked.now.marks marked.now.live_words.items }
-    requires whole { sum marked.now.live_words.items ≡ live_words image.now.memory marked.now.marks }
+    requires whole { sum marked.now.live_words.items
+        ≡ live_words image.now.memory marked.now.marks }
     requires room { image.now.memory.base + 4 * sum marked.now.live_words.items ≤ 2 ^ 32 }
-    ensures compaction { IfOk result (λ c. IsCompaction plan.now.weak plan.now.census image.now c.special c.pieces c.summary
+    ensures compaction { IfOk result (λ c.
+        IsCompaction plan.now.weak plan.now.census image.now c.special c.pieces c.summary
         (option_map (λ text. text.items) c.census)) }
     ensures refused { IfErr result (λ fault. fault ≡ OutOfMemory) }
 {
@@ -178,7 +191,8 @@ fn census_text<T: Threads + Sync, G: Gate, O: StageObserver>(
     requires one_each { length forward.now ≡ object_count heap.now }
     ensures text { IfOk result (λ text. IsReachability heap.now plan.now.weak marks.now
         → ArePlacesOf heap.now marks.now forward.now
-        → IsReportIfAsked plan.now.census heap.now plan.now.weak marks.now (option_map (λ text. text.items) text)) }
+        → IsReportIfAsked plan.now.census heap.now plan.now.weak marks.now (option_map (λ text.
+        text.items) text)) }
     ensures refused { IfErr result (λ fault. fault ≡ OutOfMemory) }
 {
     if !plan.census {

@@ -1,6 +1,7 @@
 //! The program.
 
-ghost use Rattle.std.specs.Prelude.{◌≡◌, ◌≢◌, ◌⊎◌, ◌<◌, ◌≤◌, [], map, string_bytes, IfErr, IsOk, MatchResult};
+ghost use Rattle.std.specs.Prelude.{◌≡◌, ◌≢◌, ◌⊎◌, ◌<◌, ◌≤◌, [], map, string_bytes, IfErr, IsOk};
+ghost use Rattle.std.specs.Prelude.{MatchResult};
 ghost use Rattle.clap.specs.Words.{fault_of, matches_of};
 ghost use Rattle.sqz_compact_args.specs.CommandLine.{command_line};
 ghost use Rattle.sqz_cli.specs.Exits.{IsExitBy, exit_of};
@@ -18,15 +19,16 @@ use std::alloc::Global;
 use std::rt::Files;
 use std::thread::Threads;
 
-/// Does all that the command line asks for, and answers what the program is to end with: 0 where the
-/// image was written, 1 where the image is at fault, 2 where the words are, 3 where a file could not
-/// be read or written, and 4 where memory was refused. The first word is the program's name; `out`
-/// and `err` stand for standard output and standard error.
+/// Does all that the command line asks for, and answers what the program is to end with: 0 where
+/// the image was written, 1 where the image is at fault, 2 where the words are, 3 where a file
+/// could not be read or written, and 4 where memory was refused. The first word is the program's
+/// name; `out` and `err` stand for standard output and standard error.
 ///
-/// The words are read first, then the number of workers is looked at and then that of a region's words, and then
-/// the image is read. A file is made, or emptied, only when the first bytes of the answer are there. The census is
-/// printed on `out` once the image is written. A fault is printed as one line on `err`, and the help on `out`. Where `err`
-/// fails, or `out` at the help, the answer is the same.
+/// The words are read first, then the number of workers is looked at and then that of a region's
+/// words, and then the image is read. A file is made, or emptied, only when the first bytes of the
+/// answer are there. The census is printed on `out` once the image is written. A fault is printed
+/// as one line on `err`, and the help on `out`. Where `err` fails, or `out` at the help, the answer
+/// is the same.
 pub fn program<T: Files + Threads + Sync, C: Sink, E: Sink>(
     rt: &T,
     alloc: Global,
@@ -40,15 +42,26 @@ pub fn program<T: Files + Threads + Sync, C: Sink, E: Sink>(
     ensures taken { AreTaken (map string_bytes words.now)
         → AsksForPlan (matches_of command_line (map string_bytes words.now)) → result ≢ 2 }
     ensures wrong { AreTaken (map string_bytes words.now)
-        → (AsksForPlan (matches_of command_line (map string_bytes words.now)) → ⊥) → (result ≡ 2) ⊎ (result ≡ 4) }
+        → (AsksForPlan (matches_of command_line (map string_bytes words.now)) → ⊥) → (result ≡ 2)
+        ⊎ (result ≡ 4) }
     ensures whole { AreTaken (map string_bytes words.now) → result ≡ 0
-        → EndsWhole (record { left = T.File.remaining; state = ⟦<OutputFile<'static, T> as Sink>⟧.state; path = λ sink. sink.path.now })
+        → EndsWhole (record {
+          left = T.File.remaining;
+          state = ⟦<OutputFile<'static, T> as Sink>⟧.state;
+          path = λ sink. sink.path.now;
+        })
         (map string_bytes words.now) (C.state out.old) (C.state out.new) }
     ensures faulty { AreTaken (map string_bytes words.now) → 0 < result
-        → EndsFaulty (record { left = T.File.remaining; state = ⟦<OutputFile<'static, T> as Sink>⟧.state; path = λ sink. sink.path.now })
-        (map string_bytes words.now) result (C.state out.old) (C.state out.new) (E.state err.old) (E.state err.new) }
+        → EndsFaulty (record {
+          left = T.File.remaining;
+          state = ⟦<OutputFile<'static, T> as Sink>⟧.state;
+          path = λ sink. sink.path.now;
+        })
+        (map string_bytes words.now) result (C.state out.old) (C.state out.new) (E.state err.old)
+        (E.state err.new) }
     ensures unused { AreTaken (map string_bytes words.now)
-        → (AsksForCensus (matches_of command_line (map string_bytes words.now)) → ⊥) → C.state out.new ≡ C.state out.old }
+        → (AsksForCensus (matches_of command_line (map string_bytes words.now)) → ⊥)
+        → C.state out.new ≡ C.state out.old }
     ensures silent { result ≡ 0 → err.new ≡ err.old }
     ensures quiet { 0 < result → result ≢ 3 → C.state out.new ≡ C.state out.old }
 {
@@ -58,8 +71,8 @@ pub fn program<T: Files + Threads + Sync, C: Sink, E: Sink>(
     }
 }
 
-/// Prints the line of the fault that stopped a run, if one did, and answers what the program is to end
-/// with.
+/// Prints the line of the fault that stopped a run, if one did, and answers what the program is to
+/// end with.
 fn finish<E: Sink>(outcome: Result<Summary, Fault>, err: &mut E) -> u8
     ensures exit { MatchResult outcome (λ _. result ≡ 0) (λ fault. result ≡ exit_of fault) }
     ensures line { IfErr outcome (λ fault. PrintsFault (E.state err.old) (E.state err.new) fault) }

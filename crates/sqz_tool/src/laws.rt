@@ -16,28 +16,34 @@ pub use sqz_compact_args::laws::worked_options;
 /// A file is accepted with one image and one set of live objects at most, so it has one compaction.
 pub fn one_answer()
     ensures { (weak : Weak) (file : List ℕ) (one other : SavedImage) (marks flags : List Bool)
-        → IsAccepted weak file one marks → IsAccepted weak file other flags → (one ≡ other) × (marks ≡ flags) }
+        → IsAccepted weak file one marks → IsAccepted weak file other flags → (one ≡ other)
+        × (marks ≡ flags) }
 {}
 
 /// A file has one refusal at most, and none where it is accepted.
 pub fn one_refusal()
-    ensures one { (weak : Weak) (file : List ℕ) (one other : Fault) → IsRefused weak file one → IsRefused weak file other → one ≡ other }
+    ensures one { (weak : Weak) (file : List ℕ) (one other : Fault) → IsRefused weak file one
+        → IsRefused weak file other → one ≡ other }
     ensures not_accepted { (weak : Weak) (file : List ℕ) (fault : Fault) (image : SavedImage) (marks : List Bool)
         → IsRefused weak file fault → IsAccepted weak file image marks → ⊥ }
 {}
 
-/// The compaction of an accepted file holds exactly the compacted image, is accepted, and has no unreachable object;
-/// compacting it again gives the same bytes.
+/// The compaction of an accepted file holds exactly the compacted image, is accepted, and has no
+/// unreachable object; compacting it again gives the same bytes.
 pub fn compacts_once()
     ensures { (weak : Weak) (file : List ℕ) (image : SavedImage) (marks : List Bool) → AreBytes file
         → IsAccepted weak file image marks → IsFixedPoint weak (compacted image weak marks) }
 {}
 
-/// The bytes of a compaction hold exactly the compacted image. Its objects are the live objects of the image, in their
-/// order: each at its place (its new address), with its words after the move, and with the same edges.
+/// The bytes of a compaction hold exactly the compacted image. Its objects are the live objects of
+/// the image, in their order: each at its place (its new address), with its words after the move,
+/// and with the same edges.
 pub fn keeps_objects()
-    ensures held { (weak : Weak) (file : List ℕ) (image : SavedImage) (marks : List Bool) → AreBytes file
-        → IsAccepted weak file image marks → Holds (file_bytes (compacted image weak marks)) (compacted image weak marks) }
-    ensures moved { (weak : Weak) (file : List ℕ) (image : SavedImage) (marks : List Bool) → IsAccepted weak file image marks
+    ensures held { (weak : Weak) (file : List ℕ) (image : SavedImage) (marks : List Bool)
+        → AreBytes file
+        → IsAccepted weak file image marks → Holds (file_bytes (compacted image weak marks))
+        (compacted image weak marks) }
+    ensures moved { (weak : Weak) (file : List ℕ) (image : SavedImage) (marks : List Bool)
+        → IsAccepted weak file image marks
         → HasMovedObjects image.memory weak marks (compacted image weak marks).memory }
 {}

@@ -21,8 +21,8 @@ use std::io::Read;
 use std::rt::Files;
 use std::thread::Threads;
 
-/// The plan of a command line, the image that it names, and the file that is to be written. Nothing but `run` reads the
-/// one and writes the other.
+/// The plan of a command line, the image that it names, and the file that is to be written. Nothing
+/// but `run` reads the one and writes the other.
 #[derive(Drop)]
 pub(crate) struct Opened<'a, T: Files> {
     plan: Plan,
@@ -33,22 +33,28 @@ pub(crate) struct Opened<'a, T: Files> {
 impl<'a, T: Files> Opened<'a, T> {
     /// Opens the image. Nothing is done yet to the file that is to be written.
     ///
-    /// Refused with `BadWorkers` unless the workers are from 1 to 64, else with `BadCut` unless the words of a region are
-    /// from 1 to 2^30, else with `ReadFailed` where the image cannot be opened.
+    /// Refused with `BadWorkers` unless the workers are from 1 to 64, else with `BadCut` unless the
+    /// words of a region are from 1 to 2^30, else with `ReadFailed` where the image cannot be
+    /// opened.
     pub(crate) fn of(rt: &'a T, arguments: &Arguments<'a>) -> Result<Self, Fault>
         ensures workers { IfOk result (λ opened. opened.plan.workers ≡ arguments.now.workers) }
         ensures cut { IfOk result (λ opened. opened.plan.cut ≡ Every arguments.now.region_words) }
         ensures weak { IfOk result (λ opened. opened.plan.weak ≡ weak_of arguments.now.clear_weak) }
         ensures census { IfOk result (λ opened. opened.plan.census ≡ arguments.now.census) }
-        ensures taken { IfOk result (λ _. IsWorkers arguments.now.workers × IsRegion arguments.now.region_words) }
+        ensures taken { IfOk result (λ _.
+            IsWorkers arguments.now.workers × IsRegion arguments.now.region_words) }
         ensures not_read { IfOk result (λ opened. (file : T.File)
-            × (⟦<ReadSource<T::File> as Source>⟧.state opened.source ≡ new_source (T.File.remaining file))) }
+            × (⟦<ReadSource<T::File> as Source>⟧.state opened.source
+            ≡ new_source (T.File.remaining file))) }
         ensures path { IfOk result (λ opened. opened.sink.path.now ≡ arguments.now.output.now) }
-        ensures not_made { IfOk result (λ opened. ⟦<OutputFile<'a, T> as Sink>⟧.state opened.sink ≡ new_output) }
+        ensures not_made { IfOk result (λ opened.
+            ⟦<OutputFile<'a, T> as Sink>⟧.state opened.sink ≡ new_output) }
         ensures refused { IfErr result (λ fault.
             ((fault ≡ BadWorkers) × (IsWorkers arguments.now.workers → ⊥))
-            ⊎ ((fault ≡ BadCut) × IsWorkers arguments.now.workers × (IsRegion arguments.now.region_words → ⊥))
-            ⊎ ((fault ≡ ReadFailed) × IsWorkers arguments.now.workers × IsRegion arguments.now.region_words)) }
+            ⊎ ((fault ≡ BadCut) × IsWorkers arguments.now.workers
+            × (IsRegion arguments.now.region_words → ⊥))
+            ⊎ ((fault ≡ ReadFailed) × IsWorkers arguments.now.workers
+            × IsRegion arguments.now.region_words)) }
     {
         let plan = Plan::of(arguments)?;
         let Ok(file) = File::open(rt, arguments.input) else {
@@ -61,8 +67,8 @@ impl<'a, T: Files> Opened<'a, T> {
 }
 
 impl<'a, T: Files + Threads + Sync> Opened<'a, T> {
-    /// A run by the plan, over all that the image's file has left, to the file that is to be written, and with its census
-    /// to `out`. Fails as the free function `run` does.
+    /// A run by the plan, over all that the image's file has left, to the file that is to be
+    /// written, and with its census to `out`. Fails as the free function `run` does.
     pub(crate) fn run<C: Sink, G: Gate>(
         &mut self,
         rt: &T,
@@ -70,11 +76,13 @@ impl<'a, T: Files + Threads + Sync> Opened<'a, T> {
         out: &mut C,
         gate: &G,
     ) -> Result<Summary, Fault>
-        ensures compacts { IfOk result (λ summary. Compacts true self.old.plan.weak self.old.plan.census
+        ensures compacts { IfOk result (λ summary.
+            Compacts true self.old.plan.weak self.old.plan.census
             (⟦<ReadSource<T::File> as Source>⟧.state self.old.source) (⟦<ReadSource<T::File> as Source>⟧.state self.new.source)
             (sinks (⟦<OutputFile<'a, T> as Sink>⟧.state self.old.sink) (C.state out.old))
             (sinks (⟦<OutputFile<'a, T> as Sink>⟧.state self.new.sink) (C.state out.new)) summary) }
-        ensures refuses { IfErr result (λ fault. Refuses true self.old.plan.weak self.old.plan.census
+        ensures refuses { IfErr result (λ fault.
+            Refuses true self.old.plan.weak self.old.plan.census
             (⟦<ReadSource<T::File> as Source>⟧.state self.old.source) (⟦<ReadSource<T::File> as Source>⟧.state self.new.source)
             (sinks (⟦<OutputFile<'a, T> as Sink>⟧.state self.old.sink) (C.state out.old))
             (sinks (⟦<OutputFile<'a, T> as Sink>⟧.state self.new.sink) (C.state out.new)) fault) }

@@ -11,8 +11,8 @@ use sqz_marks::Workers;
 use sqz_regions::Cut;
 use sqz_trace::Weak;
 
-/// How a run does its work, what becomes of weak slots, and whether it takes a census. The image that is written is the
-/// same for every plan with this policy on weak slots, and so is the census.
+/// How a run does its work, what becomes of weak slots, and whether it takes a census. The image
+/// that is written is the same for every plan with this policy on weak slots, and so is the census.
 #[derive(Drop)]
 pub struct Plan {
     /// How many workers share the work.
@@ -26,17 +26,19 @@ pub struct Plan {
 }
 
 impl Plan {
-    /// The plan that a command line asks for. Refused with `BadWorkers` unless the workers are from 1 to 64, else with
-    /// `BadCut` unless the words of a region are from 1 to 2^30.
+    /// The plan that a command line asks for. Refused with `BadWorkers` unless the workers are from
+    /// 1 to 64, else with `BadCut` unless the words of a region are from 1 to 2^30.
     pub(crate) fn of(arguments: &Arguments<'_>) -> Result<Plan, Fault>
         ensures weak { IfOk result (λ plan. plan.weak ≡ weak_of arguments.now.clear_weak) }
         ensures census { IfOk result (λ plan. plan.census ≡ arguments.now.census) }
         ensures workers { IfOk result (λ plan. plan.workers ≡ arguments.now.workers) }
         ensures cut { IfOk result (λ plan. plan.cut ≡ Every arguments.now.region_words) }
-        ensures taken { IfOk result (λ _. IsWorkers arguments.now.workers × IsRegion arguments.now.region_words) }
+        ensures taken { IfOk result (λ _.
+            IsWorkers arguments.now.workers × IsRegion arguments.now.region_words) }
         ensures refused { IfErr result (λ fault.
             ((fault ≡ BadWorkers) × (IsWorkers arguments.now.workers → ⊥))
-            ⊎ ((fault ≡ BadCut) × IsWorkers arguments.now.workers × (IsRegion arguments.now.region_words → ⊥))) }
+            ⊎ ((fault ≡ BadCut) × IsWorkers arguments.now.workers
+            × (IsRegion arguments.now.region_words → ⊥))) }
     {
         Ok(Plan {
             workers: Workers::new(arguments.workers)?,

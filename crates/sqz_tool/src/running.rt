@@ -1,6 +1,7 @@
 //! A run: an image from a source, compacted, to a sink, and its census to another.
 
-ghost use Rattle.std.specs.Prelude.{◌≡◌, ◌⊎◌, ◌<◌, ◌^◌, length, IfOk, IfErr, IsSomeAnd, OnOk, MatchOption};
+ghost use Rattle.std.specs.Prelude.{◌≡◌, ◌⊎◌, ◌<◌, ◌^◌, length, IfOk, IfErr, IsSomeAnd, OnOk};
+ghost use Rattle.std.specs.Prelude.{MatchOption};
 ghost use Rattle.std.specs.List.{concat};
 ghost use Rattle.sqz_image.specs.File.{file_with};
 ghost use Rattle.sqz_image.specs.Devices.{WritesWhole, WriteStops};
@@ -17,16 +18,17 @@ use sqz_workers::Gate;
 use std::alloc::Global;
 use std::thread::Threads;
 
-/// Reads all of the source, finds the objects of the image that are reachable from its special objects
-/// array, and writes the image with these alone, slid together in their order. Where the plan asks for a census, its
-/// text then goes to the sink `report`, which else takes nothing.
+/// Reads all of the source, finds the objects of the image that are reachable from its special
+/// objects array, and writes the image with these alone, slid together in their order. Where the
+/// plan asks for a census, its text then goes to the sink `report`, which else takes nothing.
 ///
-/// Refused with `OutOfMemory`, or with `ReadFailed` where the source failed or did not end; else exactly
-/// with the first fault that applies to the file: those of its header, then that of its first chunk that
-/// cannot be read, then `BadSpecialObjects`, then, where the plan clears weak slots, `NoNil`, then the defect of its lowest
-/// reachable object that has one.
-/// The sinks are then as they were. Refused with `WriteFailed` where one of them failed or took too little at a
-/// time: a front of the answer, perhaps all of it, then went out, and where it is all a front of the census.
+/// Refused with `OutOfMemory`, or with `ReadFailed` where the source failed or did not end; else
+/// exactly with the first fault that applies to the file: those of its header, then that of its
+/// first chunk that cannot be read, then `BadSpecialObjects`, then, where the plan clears weak
+/// slots, `NoNil`, then the defect of its lowest reachable object that has one. The sinks are then
+/// as they were. Refused with `WriteFailed` where one of them failed or took too little at a time:
+/// a front of the answer, perhaps all of it, then went out, and where it is all a front of the
+/// census.
 pub fn run<T: Threads + Sync, R: Source, W: Sink, C: Sink, G: Gate>(
     rt: &T,
     alloc: Global,
@@ -36,10 +38,14 @@ pub fn run<T: Threads + Sync, R: Source, W: Sink, C: Sink, G: Gate>(
     report: &mut C,
     gate: &G,
 ) -> Result<Summary, Fault>
-    ensures compacts { IfOk result (λ summary. Compacts R.gives_all plan.now.weak plan.now.census (R.state source.old) (R.state source.new)
-        (sinks (W.state sink.old) (C.state report.old)) (sinks (W.state sink.new) (C.state report.new)) summary) }
-    ensures refuses { IfErr result (λ fault. Refuses R.gives_all plan.now.weak plan.now.census (R.state source.old) (R.state source.new)
-        (sinks (W.state sink.old) (C.state report.old)) (sinks (W.state sink.new) (C.state report.new)) fault) }
+    ensures compacts { IfOk result (λ summary.
+        Compacts R.gives_all plan.now.weak plan.now.census (R.state source.old) (R.state source.new)
+        (sinks (W.state sink.old) (C.state report.old)) (sinks (W.state sink.new) (C.state
+        report.new)) summary) }
+    ensures refuses { IfErr result (λ fault.
+        Refuses R.gives_all plan.now.weak plan.now.census (R.state source.old) (R.state source.new)
+        (sinks (W.state sink.old) (C.state report.old)) (sinks (W.state sink.new) (C.state
+        report.new)) fault) }
 {
     let observer = &mut NoObserver;
     let mut session = Session {
@@ -59,10 +65,14 @@ pub fn run_observed<T: Threads + Sync, G: Gate, O: StageObserver, R: Source, W: 
     sink: &mut W,
     report: &mut C,
 ) -> Result<Summary, Fault>
-    ensures compacts { IfOk result (λ summary. Compacts R.gives_all plan.now.weak plan.now.census (R.state source.old) (R.state source.new)
-        (sinks (W.state sink.old) (C.state report.old)) (sinks (W.state sink.new) (C.state report.new)) summary) }
-    ensures refuses { IfErr result (λ fault. Refuses R.gives_all plan.now.weak plan.now.census (R.state source.old) (R.state source.new)
-        (sinks (W.state sink.old) (C.state report.old)) (sinks (W.state sink.new) (C.state report.new)) fault) }
+    ensures compacts { IfOk result (λ summary.
+        Compacts R.gives_all plan.now.weak plan.now.census (R.state source.old) (R.state source.new)
+        (sinks (W.state sink.old) (C.state report.old)) (sinks (W.state sink.new) (C.state
+        report.new)) summary) }
+    ensures refuses { IfErr result (λ fault.
+        Refuses R.gives_all plan.now.weak plan.now.census (R.state source.old) (R.state source.new)
+        (sinks (W.state sink.old) (C.state report.old)) (sinks (W.state sink.new) (C.state
+        report.new)) fault) }
 {
     let bytes = read_all(session.alloc, source)?;
     session.observer.finished(Stage::Read);
@@ -75,7 +85,8 @@ pub fn run_observed<T: Threads + Sync, G: Gate, O: StageObserver, R: Source, W: 
     Ok(compaction.summary)
 }
 
-/// Writes the compaction of an image, and after it the text of its census, if there is one. Fails only with `WriteFailed`.
+/// Writes the compaction of an image, and after it the text of its census, if there is one. Fails
+/// only with `WriteFailed`.
 fn write_compaction<W: Sink, C: Sink>(
     image: &Image,
     compaction: &Compaction,
@@ -84,15 +95,20 @@ fn write_compaction<W: Sink, C: Sink>(
 ) -> Result<(), Fault>
     requires few { length (concat compaction.now.pieces) < 2 ^ 30 }
     ensures image { OnOk result (WritesWhole (W.state sink.old) (W.state sink.new)
-        (file_with image.now.memory.order image.now.prefix image.now.header compaction.now.special compaction.now.pieces)) }
-    ensures census { OnOk result (MatchOption compaction.now.census (C.state report.new ≡ C.state report.old)
+        (file_with image.now.memory.order image.now.prefix image.now.header compaction.now.special
+        compaction.now.pieces)) }
+    ensures census { OnOk result (MatchOption compaction.now.census (C.state report.new
+        ≡ C.state report.old)
         (λ text. WritesWhole (C.state report.old) (C.state report.new) text.items)) }
     ensures stopped { IfErr result (λ fault. (WriteStops (W.state sink.old) (W.state sink.new)
-        (file_with image.now.memory.order image.now.prefix image.now.header compaction.now.special compaction.now.pieces) fault
+        (file_with image.now.memory.order image.now.prefix image.now.header compaction.now.special
+        compaction.now.pieces) fault
         × (C.state report.new ≡ C.state report.old))
         ⊎ (WritesWhole (W.state sink.old) (W.state sink.new)
-        (file_with image.now.memory.order image.now.prefix image.now.header compaction.now.special compaction.now.pieces)
-        × IsSomeAnd compaction.now.census (λ text. WriteStops (C.state report.old) (C.state report.new) text.items fault))) }
+        (file_with image.now.memory.order image.now.prefix image.now.header compaction.now.special
+        compaction.now.pieces)
+        × IsSomeAnd compaction.now.census (λ text.
+        WriteStops (C.state report.old) (C.state report.new) text.items fault))) }
 {
     let pieces = compaction.pieces.as_slice();
     write_image(image, compaction.special, pieces, sink)?;

@@ -2,7 +2,8 @@
 
 use std::alloc::Global;
 
-/// What a run works with: the runtime, the allocator, the gate that its workers pass, and the observer of its stages.
+/// What a run works with: the runtime, the allocator, the gate that its workers pass, and the
+/// observer of its stages.
 #[derive(Drop)]
 pub struct Session<'a, T, G, O> {
     pub rt: &'a T,

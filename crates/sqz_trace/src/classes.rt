@@ -12,14 +12,14 @@ use crate::out_edges::OutEdges;
 use crate::slots::{class_address, named_by, traced_fields};
 use crate::weak::Weak;
 use sqz_image::{Heap, Object, Slot};
-use sqz_object::{Kind, base_of};
+use sqz_object::{Kind, ObjectIndex, base_of};
 
 /// The field of the special objects array that points to the array of compact classes.
 const COMPACT_CLASSES: u32 = 28;
 
-/// The class of the object: what its class word points to, or else the class with its compact index.
-/// None if that is no object.
-pub fn class_of(heap: &Heap, weak: Weak, object: &Object<'_>) -> Option<u32>
+/// The class of the object: what its class word points to, or else the class with its compact
+/// index. None if that is no object.
+pub fn class_of(heap: &Heap, weak: Weak, object: &Object<'_>) -> Option<ObjectIndex>
     ensures class { result ≡ class_of heap.now weak object.now }
     ensures inside { IfSome result (λ class. class < object_count heap.now) }
 {
@@ -33,7 +33,7 @@ pub fn class_of(heap: &Heap, weak: Weak, object: &Object<'_>) -> Option<u32>
 
 /// The class with a compact index: a strong field of the array of compact classes points to it, and
 /// a strong field of the special objects array to that array.
-pub fn compact_class(heap: &Heap, weak: Weak, index: u32) -> Option<u32>
+pub fn compact_class(heap: &Heap, weak: Weak, index: u32) -> Option<ObjectIndex>
     ensures class { result ≡ compact_class heap.now weak index }
     ensures inside { IfSome result (λ class. class < object_count heap.now) }
 {
@@ -42,7 +42,7 @@ pub fn compact_class(heap: &Heap, weak: Weak, index: u32) -> Option<u32>
 }
 
 /// The array of compact classes.
-fn compact_classes(heap: &Heap, weak: Weak) -> Option<u32>
+fn compact_classes(heap: &Heap, weak: Weak) -> Option<ObjectIndex>
     ensures array { result ≡ compact_classes heap.now weak }
     ensures inside { IfSome result (λ array. array < object_count heap.now) }
 {
@@ -62,7 +62,7 @@ pub(crate) fn strong_by_word(heap: &Heap, weak: Weak, object: &Object<'_>) -> u3
 }
 
 /// The object that the class word of an object points to, if its header has one.
-fn class_named(heap: &Heap, object: &Object<'_>) -> Option<u32>
+fn class_named(heap: &Heap, object: &Object<'_>) -> Option<ObjectIndex>
     ensures class { result ≡ named_in heap.now object.now ClassWord }
     ensures inside { IfSome result (λ class. class < object_count heap.now) }
 {

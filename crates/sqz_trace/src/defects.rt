@@ -4,7 +4,8 @@ ghost use Rattle.std.specs.Prelude.{◌≡◌, ◌<◌};
 ghost use Rattle.sqz_object.specs.Value.{value_of};
 ghost use Rattle.sqz_image.specs.Objects.{object_count, object_at};
 ghost use Rattle.sqz_trace.specs.Slots.{traced, field_slots};
-ghost use Rattle.sqz_trace.specs.Defects.{lacks_class, states_too_many, is_bad_method, is_bad_context, is_bad_weak, is_bad_value};
+ghost use Rattle.sqz_trace.specs.Defects.{lacks_class, states_too_many, is_bad_method};
+ghost use Rattle.sqz_trace.specs.Defects.{is_bad_context, is_bad_weak, is_bad_value};
 ghost use Rattle.sqz_trace.specs.Defects.{first_bad, bad_slot, defect, lacks_nil};
 
 use crate::classes::class_of;
@@ -15,12 +16,12 @@ use crate::out_edges::nil;
 use crate::slots::{class_address, traced_fields};
 use crate::weak::Weak;
 use sqz_image::{Fault, Heap, Object, Slot};
-use sqz_object::{Kind, Layout, Value, base_of, value_of};
+use sqz_object::{Kind, Layout, ObjectIndex, Value, base_of, value_of};
 
-/// The first defect of an object: `NoClass`, else `BadMethod` or `BadContext`, else, if weak slots are
-/// cleared, `BadWeak`, else `BadPointer` with its first slot, weak or not, that holds neither a
+/// The first defect of an object: `NoClass`, else `BadMethod` or `BadContext`, else, if weak slots
+/// are cleared, `BadWeak`, else `BadPointer` with its first slot, weak or not, that holds neither a
 /// SmallInteger nor the address of an object. None if it has no defect.
-pub fn defect(heap: &Heap, weak: Weak, object: u32) -> Option<Fault>
+pub fn defect(heap: &Heap, weak: Weak, object: ObjectIndex) -> Option<Fault>
     requires { object < object_count heap.now }
     ensures { result ≡ defect heap.now weak (object_at heap.now object) }
 {
@@ -68,8 +69,8 @@ fn is_bad_context(object: &Object<'_>) -> bool
         && states_too_many(context_fields(&fields), fields.len() as u32)
 }
 
-/// Whether the object has weak slots that are cleared, and its class states no number of fixed fields,
-/// or more than it has.
+/// Whether the object has weak slots that are cleared, and its class states no number of fixed
+/// fields, or more than it has.
 fn is_bad_weak(heap: &Heap, weak: Weak, object: &Object<'_>) -> bool
     ensures { result ≡ is_bad_weak heap.now weak object.now }
 {

@@ -15,12 +15,14 @@ use crate::shades::{Shade, Shades};
 use crate::weak::Weak;
 use sqz_image::laws::heap_bounds;
 use sqz_image::{Heap, Slot};
+use sqz_object::ObjectIndex;
 
-/// The reachable objects of a heap, by shades of which the special objects array is not white, each object that is not
-/// white is reachable, and none that a strong slot of a black one names is white. It takes no memory.
+/// The reachable objects of a heap, by shades of which the special objects array is not white, each
+/// object that is not white is reachable, and none that a strong slot of a black one names is
+/// white. It takes no memory.
 ///
-/// Where no object is grey it looks at each shade once. Else it goes over the objects from the lowest grey one on, and
-/// back to the lowest that becomes grey on the way.
+/// Where no object is grey it looks at each shade once. Else it goes over the objects from the
+/// lowest grey one on, and back to the lowest that becomes grey on the way.
 pub fn finish(heap: &Heap, weak: Weak, mut shades: Shades) -> Marks
     requires { AreLawfulOf heap.now weak shades.items }
     ensures { IsReachability heap.now weak result }
@@ -35,9 +37,9 @@ pub fn finish(heap: &Heap, weak: Weak, mut shades: Shades) -> Marks
     Marks::new(shades)
 }
 
-/// Makes the white targets of a grey object grey, and it black. Answers the lowest of them, or the next object where that
-/// is lower.
-fn blacken(heap: &Heap, weak: Weak, object: u32, shades: &mut [Shade]) -> u32
+/// Makes the white targets of a grey object grey, and it black. Answers the lowest of them, or the
+/// next object where that is lower.
+fn blacken(heap: &Heap, weak: Weak, object: ObjectIndex, shades: &mut [Shade]) -> ObjectIndex
     requires object { object < object_count heap.now }
     requires sized { length shades.old ≡ object_count heap.now }
     requires grey { shade_at shades.old object ≡ Grey }
@@ -56,9 +58,15 @@ fn blacken(heap: &Heap, weak: Weak, object: u32, shades: &mut [Shade]) -> u32
 
 /// Makes the object that a strong slot points to grey if it is white. Returns this object or the
 /// lowest one so far, whichever is lower; the lowest one so far if no object became grey.
-fn grey_target(edges: &OutEdges<'_>, slot: Slot, shades: &mut [Shade], lowest: u32) -> u32
+fn grey_target(
+    edges: &OutEdges<'_>,
+    slot: Slot,
+    shades: &mut [Shade],
+    lowest: ObjectIndex,
+) -> ObjectIndex
     requires { length shades.old ≡ object_count edges.now.memory }
-    ensures greyed { Greys (λ index. edge_target edges.now slot ≡ Some index) shades.old shades.new }
+    ensures greyed { Greys (λ index.
+        edge_target edges.now slot ≡ Some index) shades.old shades.new }
     ensures lowest { IsLowest lowest shades.old shades.new result }
 {
     match grey_white_target(edges, slot, shades) {

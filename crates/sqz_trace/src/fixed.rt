@@ -7,7 +7,7 @@ ghost use Rattle.sqz_trace.specs.Strong.{is_weak, fixed_in, fixed_by, unless_abo
 
 use crate::weak::Weak;
 use sqz_image::{Heap, Object};
-use sqz_object::{BitField, Layout};
+use sqz_object::{BitField, Layout, ObjectIndex};
 
 /// The field of a class that states the number of fixed fields of its instances.
 const INSTANCE_SHAPE: usize = 2;
@@ -34,9 +34,9 @@ pub fn is_weak(weak: Weak, object: &Object<'_>) -> bool
     }
 }
 
-/// The number of fixed fields that a class states for its instances. None if there is no class, or if
-/// it states no number.
-pub(crate) fn fixed_by(heap: &Heap, class: Option<u32>) -> Option<u32>
+/// The number of fixed fields that a class states for its instances. None if there is no class, or
+/// if it states no number.
+pub(crate) fn fixed_by(heap: &Heap, class: Option<ObjectIndex>) -> Option<u32>
     requires { IfSome class (λ class. class < object_count heap.now) }
     ensures { result ≡ fixed_by heap.now class }
 {
@@ -44,8 +44,8 @@ pub(crate) fn fixed_by(heap: &Heap, class: Option<u32>) -> Option<u32>
     fixed_in(class.fields().get(INSTANCE_SHAPE)?)
 }
 
-/// The number that the word of a class's field 2 states: a SmallInteger, whose word has one more in two
-/// groups of bits.
+/// The number that the word of a class's field 2 states: a SmallInteger, whose word has one more in
+/// two groups of bits.
 fn fixed_in(word: u32) -> Option<u32>
     ensures { result ≡ fixed_in word }
 {
@@ -56,9 +56,9 @@ fn fixed_in(word: u32) -> Option<u32>
     stated.checked_sub(1)
 }
 
-/// The number of fixed fields of a weak object, by its class: the number that the class states, or 0 if
-/// the object has fewer fields.
-pub(crate) fn fixed_of(heap: &Heap, class: Option<u32>, object: &Object<'_>) -> u32
+/// The number of fixed fields of a weak object, by its class: the number that the class states, or
+/// 0 if the object has fewer fields.
+pub(crate) fn fixed_of(heap: &Heap, class: Option<ObjectIndex>, object: &Object<'_>) -> u32
     requires { IfSome class (λ class. class < object_count heap.now) }
     ensures fixed { result ≡ unless_above (length (fields object.now)) (fixed_by heap.now class) }
     ensures inside { result ≤ length (fields object.now) }

@@ -10,16 +10,19 @@ ghost use Rattle.sqz_trace.specs.Greying.{Greys};
 use crate::out_edges::OutEdges;
 use crate::shades::Shade;
 use sqz_image::Slot;
+use sqz_object::ObjectIndex;
 
 /// Makes the object that a strong slot points to grey if it is white, and returns it then.
 pub(crate) fn grey_white_target(
     edges: &OutEdges<'_>,
     slot: Slot,
     shades: &mut [Shade],
-) -> Option<u32>
+) -> Option<ObjectIndex>
     requires { length shades.old ≡ object_count edges.now.memory }
-    ensures greyed { Greys (λ index. edge_target edges.now slot ≡ Some index) shades.old shades.new }
-    ensures one { IfSome result (λ found. (found < length shades.old) × (shade_at shades.old found ≡ White)
+    ensures greyed { Greys (λ index.
+        edge_target edges.now slot ≡ Some index) shades.old shades.new }
+    ensures one { IfSome result (λ found.
+        (found < length shades.old) × (shade_at shades.old found ≡ White)
         × (shades.new ≡ slice_set shades.old found Grey)) }
     ensures none { IfNone result (shades.new ≡ shades.old) }
 {

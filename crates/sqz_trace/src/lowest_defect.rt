@@ -11,13 +11,20 @@ use crate::marks::Marks;
 use crate::weak::Weak;
 use rayon::prelude::*;
 use sqz_image::{Fault, Heap};
+use sqz_object::ObjectIndex;
 use std::thread::Threads;
 
 /// How many objects a range has. The last range may have fewer.
 const RANGE: u32 = 4096;
 
 /// The defect of the lowest marked object that has one, among the objects `from..to`.
-fn defect_in(heap: &Heap, weak: Weak, marks: &Marks, from: u32, to: u32) -> Option<Fault>
+fn defect_in(
+    heap: &Heap,
+    weak: Weak,
+    marks: &Marks,
+    from: ObjectIndex,
+    to: ObjectIndex,
+) -> Option<Fault>
     requires inside { to ≤ object_count heap.now }
     requires sized { length marks.now ≡ object_count heap.now }
     ensures { result ≡ first_between (defect_at heap.now weak marks.now) from to }
@@ -38,7 +45,8 @@ fn defect_in(heap: &Heap, weak: Weak, marks: &Marks, from: u32, to: u32) -> Opti
 fn defect_in_range(heap: &Heap, weak: Weak, marks: &Marks, range: u32) -> Option<Fault>
     requires inside { range * RANGE < object_count heap.now }
     requires sized { length marks.now ≡ object_count heap.now }
-    ensures { result ≡ first_in_range (defect_at heap.now weak marks.now) RANGE (object_count heap.now) range }
+    ensures { result ≡ first_in_range (defect_at heap.now weak marks.now) RANGE (object_count
+        heap.now) range }
 {
     let count = heap.len();
     let from = range * RANGE;
@@ -64,7 +72,8 @@ pub fn first_defect(
             |range: u32| -> Option<Fault>
                 requires inside { range * RANGE < object_count heap.now }
                 requires sized { length marks.now ≡ object_count heap.now }
-                ensures { result ≡ first_in_range (defect_at heap.entry.now weak marks.entry.now) RANGE (object_count heap.entry.now) range }
+                ensures { result ≡ first_in_range (defect_at heap.entry.now weak marks.entry.now)
+                    RANGE (object_count heap.entry.now) range }
             { defect_in_range(heap, weak, marks, range) },
         )
         .reduce(

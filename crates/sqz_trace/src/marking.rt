@@ -13,6 +13,7 @@ use crate::out_edges::OutEdges;
 use crate::shades::{Shade, first_shades};
 use crate::weak::Weak;
 use sqz_image::{Fault, Heap, Slot};
+use sqz_object::ObjectIndex;
 use std::alloc::{AllocError, Global};
 
 /// Marks the object that a strong slot points to, and adds it to the worklist if it had no mark.
@@ -20,7 +21,7 @@ fn mark_target(
     edges: &OutEdges<'_>,
     slot: Slot,
     shades: &mut [Shade],
-    worklist: &mut Vec<u32>,
+    worklist: &mut Vec<ObjectIndex>,
 ) -> Result<(), AllocError>
     requires { length shades.old ≡ object_count edges.now.memory }
     ensures { OnOk result (MarksTargets (λ index. edge_target edges.now slot ≡ Some index)
@@ -35,12 +36,12 @@ fn mark_target(
     Ok(())
 }
 
-/// Marks the objects that the strong slots of an object point to, and adds those that had no mark to
-/// the worklist.
+/// Marks the objects that the strong slots of an object point to, and adds those that had no mark
+/// to the worklist.
 fn mark_targets(
     edges: &OutEdges<'_>,
     shades: &mut [Shade],
-    worklist: &mut Vec<u32>,
+    worklist: &mut Vec<ObjectIndex>,
 ) -> Result<(), AllocError>
     requires { length shades.old ≡ object_count edges.now.memory }
     ensures { OnOk result (MarksTargets (IsTargetAmong edges.now (strong_slots edges.now))
@@ -52,8 +53,8 @@ fn mark_targets(
     Ok(())
 }
 
-/// The reachable objects of a heap: a mark for each. The program marks by workers; this is the plain
-/// form, in one thread. Fails only if it is out of memory.
+/// The reachable objects of a heap: a mark for each. The program marks by workers; this is the
+/// plain form, in one thread. Fails only if it is out of memory.
 pub fn mark_plain(alloc: Global, heap: &Heap, weak: Weak) -> Result<Marks, Fault>
     ensures reachable { IfOk result (λ marks. IsReachability heap.now weak marks) }
     ensures refused { IfErr result (λ fault. fault ≡ OutOfMemory) }

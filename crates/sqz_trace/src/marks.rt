@@ -5,6 +5,7 @@ ghost use Rattle.sqz_trace.specs.Graph.{is_marked};
 ghost use Rattle.sqz_trace.specs.Shades.{has_mark, marks_of};
 
 use crate::shades::{Shade, Shades};
+use sqz_object::ObjectIndex;
 use std::marker::Model;
 
 /// A mark for each object of a heap. Contracts see it as the list of the marks, by index.
@@ -23,7 +24,8 @@ impl Model for Marks {
 
     ghost view = { λ marks. marks_of marks.shades.items };
 
-    ghost invariant = { λ marks. marks.count ≡ count_by (λ shade. has_mark shade) marks.shades.items };
+    ghost invariant = { λ marks. marks.count ≡ count_by (λ shade.
+        has_mark shade) marks.shades.items };
 }
 
 impl Marks {
@@ -37,7 +39,7 @@ impl Marks {
     }
 
     /// Whether the object is marked.
-    pub fn has(&self, object: u32) -> bool
+    pub fn has(&self, object: ObjectIndex) -> bool
         requires { object < length self.now }
         ensures { result ≡ is_marked self.now object }
     {

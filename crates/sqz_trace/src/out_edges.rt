@@ -10,6 +10,7 @@ use crate::slots::named_among;
 use crate::strong_slots::strong_fields;
 use crate::weak::Weak;
 use sqz_image::{Heap, Object, Slot};
+use sqz_object::ObjectIndex;
 use std::marker::Model;
 
 /// The outgoing edges of an object: its strong slots, and the objects that they point to. The
@@ -29,14 +30,19 @@ impl<'a> Model for OutEdges<'a> {
 
     ghost Value = { OutEdges };
 
-    ghost view = { λ edges. record { memory = edges.heap.now; words = edges.object; strong = edges.strong } };
+    ghost view = { λ edges. record {
+      memory = edges.heap.now;
+      words = edges.object;
+      strong =
+          edges.strong;
+    } };
 
     ghost invariant = { λ edges. edges.strong ≤ length (fields edges.object) };
 }
 
 impl<'a> OutEdges<'a> {
     /// The edges of the object with this index.
-    pub fn of(heap: &'a Heap, weak: Weak, index: u32) -> Self
+    pub fn of(heap: &'a Heap, weak: Weak, index: ObjectIndex) -> Self
         requires { index < object_count heap.now }
         ensures { result ≡ out_edges heap.now weak index }
     {
@@ -50,7 +56,7 @@ impl<'a> OutEdges<'a> {
     }
 
     /// The edges of the object with this index if its class is what its class word points to.
-    pub(crate) fn by_class_word(heap: &'a Heap, weak: Weak, index: u32) -> Self
+    pub(crate) fn by_class_word(heap: &'a Heap, weak: Weak, index: ObjectIndex) -> Self
         requires { index < object_count heap.now }
         ensures { result ≡ edges_by_word heap.now weak index }
     {
@@ -79,7 +85,7 @@ impl<'a> OutEdges<'a> {
 
     /// The object that a strong slot points to. None for a weak slot, and if the object has no such
     /// slot.
-    pub fn target(&self, slot: Slot) -> Option<u32>
+    pub fn target(&self, slot: Slot) -> Option<ObjectIndex>
         ensures target { result ≡ edge_target self.now slot }
         ensures inside { IfSome result (λ found. found < object_count self.now.memory) }
     {
@@ -88,7 +94,7 @@ impl<'a> OutEdges<'a> {
 }
 
 /// Nil: the object that field 0 of the special objects array points to, if that is a strong slot.
-pub fn nil(heap: &Heap, weak: Weak) -> Option<u32>
+pub fn nil(heap: &Heap, weak: Weak) -> Option<ObjectIndex>
     ensures nil { result ≡ nil heap.now weak }
     ensures inside { IfSome result (λ nil. nil < object_count heap.now) }
 {

@@ -22,10 +22,12 @@ pub enum Shade {
 /// A shade for each object of a heap.
 pub type Shades = Vec<Shade>;
 
-/// The shades at which marking begins: the special objects array is grey, all else white. Fails for want of memory alone.
+/// The shades at which marking begins: the special objects array is grey, all else white. Fails for
+/// want of memory alone.
 pub fn first_shades(alloc: Global, heap: &Heap) -> Result<Shades, Fault>
     ensures first { IfOk result (λ shades. AreFirst heap.now shades.items) }
-    ensures lawful { IfOk result (λ shades. (weak : Weak) → AreLawfulOf heap.now weak shades.items) }
+    ensures lawful { IfOk result (λ shades.
+        (weak : Weak) → AreLawfulOf heap.now weak shades.items) }
     ensures few { IfOk result (λ shades. length shades.items < 2 ^ 30) }
     ensures refused { IfErr result (λ fault. fault ≡ OutOfMemory) }
 {

@@ -10,10 +10,10 @@ ghost use Rattle.sqz_trace.specs.Targets.{named_by, named_among, target};
 use crate::contexts::context_fields;
 use crate::methods::method_fields;
 use sqz_image::{Heap, Object, Slot};
-use sqz_object::{Kind, Layout, Value, value_of};
+use sqz_object::{Address, Kind, Layout, ObjectIndex, Value, value_of};
 
 /// The address in the object's class word, if its header has one.
-pub fn class_address(object: &Object<'_>) -> Option<u32>
+pub fn class_address(object: &Object<'_>) -> Option<Address>
     ensures { result ≡ slot_word object.now ClassWord }
 {
     let word = match object.header().kind {
@@ -24,8 +24,8 @@ pub fn class_address(object: &Object<'_>) -> Option<u32>
     Some(word - word % 4)
 }
 
-/// The number of traced fields of the object, from field 0 on: no more than it has, even if a context
-/// or a method states more.
+/// The number of traced fields of the object, from field 0 on: no more than it has, even if a
+/// context or a method states more.
 pub fn traced_fields(object: &Object<'_>) -> u32
     ensures traced { result ≡ traced object.now }
     ensures inside { result ≤ length (fields object.now) }
@@ -48,7 +48,7 @@ fn clip(stated: Option<u32>, count: u32) -> u32
 }
 
 /// The object that the word of a slot points to: the one with this address.
-pub fn named_by(heap: &Heap, word: u32) -> Option<u32>
+pub fn named_by(heap: &Heap, word: u32) -> Option<ObjectIndex>
     ensures named { result ≡ named_by heap.now word }
     ensures inside { IfSome result (λ found. found < object_count heap.now) }
 {
@@ -58,9 +58,14 @@ pub fn named_by(heap: &Heap, word: u32) -> Option<u32>
     }
 }
 
-/// The object that a slot points to, among the class word of an object and its first `count` fields.
-/// None also if there is no such slot.
-pub(crate) fn named_among(heap: &Heap, object: &Object<'_>, count: u32, slot: Slot) -> Option<u32>
+/// The object that a slot points to, among the class word of an object and its first `count`
+/// fields. None also if there is no such slot.
+pub(crate) fn named_among(
+    heap: &Heap,
+    object: &Object<'_>,
+    count: u32,
+    slot: Slot,
+) -> Option<ObjectIndex>
     requires { count ≤ length (fields object.now) }
     ensures named { result ≡ named_among heap.now count object.now slot }
     ensures inside { IfSome result (λ found. found < object_count heap.now) }
@@ -68,8 +73,8 @@ pub(crate) fn named_among(heap: &Heap, object: &Object<'_>, count: u32, slot: Sl
     named_by(heap, word_among(object, count, slot)?)
 }
 
-/// The word that a slot holds, among the class word of an object and its first `count` fields. For the
-/// class word it is the address in it.
+/// The word that a slot holds, among the class word of an object and its first `count` fields. For
+/// the class word it is the address in it.
 fn word_among(object: &Object<'_>, count: u32, slot: Slot) -> Option<u32>
     requires { count ≤ length (fields object.now) }
     ensures { result ≡ word_among count object.now slot }
@@ -82,7 +87,7 @@ fn word_among(object: &Object<'_>, count: u32, slot: Slot) -> Option<u32>
 }
 
 /// The object that a traced slot of an object points to; None also if the object has no such slot.
-pub fn target(heap: &Heap, object: u32, slot: Slot) -> Option<u32>
+pub fn target(heap: &Heap, object: ObjectIndex, slot: Slot) -> Option<ObjectIndex>
     requires { object < object_count heap.now }
     ensures named { result ≡ target heap.now object slot }
     ensures inside { IfSome result (λ found. found < object_count heap.now) }
@@ -92,7 +97,7 @@ pub fn target(heap: &Heap, object: u32, slot: Slot) -> Option<u32>
 }
 
 /// The number of traced fields of the object, from field 0 on: no more than it has.
-pub fn traced(heap: &Heap, object: u32) -> u32
+pub fn traced(heap: &Heap, object: ObjectIndex) -> u32
     requires { object < object_count heap.now }
     ensures traced { result ≡ traced (chunk_words heap.now object) }
     ensures inside { result ≤ length (fields (chunk_words heap.now object)) }

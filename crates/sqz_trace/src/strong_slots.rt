@@ -10,9 +10,11 @@ use crate::fixed::{fixed_of, is_weak};
 use crate::slots::traced_fields;
 use crate::weak::Weak;
 use sqz_image::{Heap, Object};
+use sqz_object::ObjectIndex;
 
-/// How many fields of the object are strong, from field 0 on: those that are traced; of an object whose weak slots are
-/// cleared the fixed ones, as its class states them, or none where it states no number, or more than there are.
+/// How many fields of the object are strong, from field 0 on: those that are traced; of an object
+/// whose weak slots are cleared the fixed ones, as its class states them, or none where it states
+/// no number, or more than there are.
 pub fn strong_fields(heap: &Heap, weak: Weak, object: &Object<'_>) -> u32
     ensures strong { result ≡ strong heap.now weak object.now }
     ensures inside { result ≤ length (fields object.now) }
@@ -25,7 +27,7 @@ pub fn strong_fields(heap: &Heap, weak: Weak, object: &Object<'_>) -> u32
 }
 
 /// How many fields of the object are strong, from field 0 on. They are no more than it has.
-pub fn strong(heap: &Heap, weak: Weak, object: u32) -> u32
+pub fn strong(heap: &Heap, weak: Weak, object: ObjectIndex) -> u32
     requires { object < object_count heap.now }
     ensures strong { result ≡ strong heap.now weak (chunk_words heap.now object) }
     ensures inside { result ≤ length (fields (chunk_words heap.now object)) }

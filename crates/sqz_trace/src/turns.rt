@@ -1,4 +1,5 @@
-//! Marking by turns: an object at a time, taken from a list of the grey ones that has room for all that are white.
+//! Marking by turns: an object at a time, taken from a list of the grey ones that has room for all
+//! that are white.
 
 ghost use Rattle.std.specs.Prelude.{◌≡◌, ◌+◌, ◌<◌, ◌≤◌, length, Some, vec_capacity};
 ghost use Rattle.sqz_image.specs.Objects.{object_count};
@@ -12,15 +13,16 @@ use crate::out_edges::OutEdges;
 use crate::shades::Shade;
 use crate::weak::Weak;
 use sqz_image::{Heap, Slot};
+use sqz_object::ObjectIndex;
 
-/// Makes the white targets of a grey object grey, adds them to the end of the list, and makes the object black. Takes
-/// no memory: the list has room for all white objects.
+/// Makes the white targets of a grey object grey, adds them to the end of the list, and makes the
+/// object black. Takes no memory: the list has room for all white objects.
 pub fn blacken_listed(
     heap: &Heap,
     weak: Weak,
-    object: u32,
+    object: ObjectIndex,
     shades: &mut [Shade],
-    list: &mut Vec<u32>,
+    list: &mut Vec<ObjectIndex>,
 )
     requires object { object < object_count heap.now }
     requires sized { length shades.old ≡ object_count heap.now }
@@ -40,10 +42,11 @@ pub fn blacken_listed(
 
 /// Makes the object that a strong slot points to grey if it is white, and adds it to the end of the
 /// list then.
-fn grey_listed(edges: &OutEdges<'_>, slot: Slot, shades: &mut [Shade], list: &mut Vec<u32>)
+fn grey_listed(edges: &OutEdges<'_>, slot: Slot, shades: &mut [Shade], list: &mut Vec<ObjectIndex>)
     requires sized { length shades.old ≡ object_count edges.now.memory }
     requires room { length list.old.items + white_count shades.old ≤ vec_capacity list.old }
-    ensures greyed { Greys (λ index. edge_target edges.now slot ≡ Some index) shades.old shades.new }
+    ensures greyed { Greys (λ index.
+        edge_target edges.now slot ≡ Some index) shades.old shades.new }
     ensures listed { IsListed shades.old shades.new list.old.items list.new.items }
     ensures capacity { vec_capacity list.new ≡ vec_capacity list.old }
 {

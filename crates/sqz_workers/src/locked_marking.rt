@@ -10,6 +10,7 @@ ghost use Rattle.sqz_trace.specs.Reachability.{IsReachability};
 ghost use Rattle.sqz_workers.specs.Turns.{IsBegun, IsTurn};
 
 use sqz_image::{Fault, Heap};
+use sqz_object::ObjectIndex;
 use sqz_trace::{Marks, Shade, Shades, Weak, blacken_listed, finish, first_shades};
 use std::alloc::Global;
 use std::marker::{Brand, Model, PhantomData};
@@ -35,7 +36,7 @@ pub(crate) struct LockedMarking<'a, M: MarkedMemory> {
     weak: Weak,
     shades: Shades,
     /// Grey objects, with room for all that are white yet.
-    list: Vec<u32>,
+    list: Vec<ObjectIndex>,
     /// By its type the lock knows which heap and policy these are.
     of: PhantomData<M>,
 }

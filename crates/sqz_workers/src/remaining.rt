@@ -7,12 +7,17 @@ ghost use Rattle.sqz_workers.specs.Gains.{HasGainedSome, HasScannedAll, HasBlack
 
 use crate::scanning::scan_if_grey;
 use sqz_marks::{MarkTable, Pass};
+use sqz_object::ObjectIndex;
 
 /// Scans what the workers left grey, and all that becomes grey meanwhile, until no object is grey.
 /// The worklist takes what becomes grey. The sweep over all objects is repeated until it finds no
 /// grey object, so it also finds what the worklist had no room for. It allocates nothing: the
 /// worklist never grows.
-pub(crate) fn scan_remaining(table: &MarkTable<'_>, pass: &mut Pass, worklist: &mut Vec<u32>)
+pub(crate) fn scan_remaining(
+    table: &MarkTable<'_>,
+    pass: &mut Pass,
+    worklist: &mut Vec<ObjectIndex>,
+)
     requires of { IsPassOf table.now pass.old }
     ensures gained { HasGainedSome pass.old pass.new }
     ensures scanned { HasScannedAll (object_count table.now.heap.memory) pass.new.view }
@@ -23,7 +28,7 @@ pub(crate) fn scan_remaining(table: &MarkTable<'_>, pass: &mut Pass, worklist: &
 
 /// Goes over all objects once; scans each grey one, and then what waits in the worklist. Returns
 /// whether there was a grey one.
-fn sweep(table: &MarkTable<'_>, pass: &mut Pass, worklist: &mut Vec<u32>) -> bool
+fn sweep(table: &MarkTable<'_>, pass: &mut Pass, worklist: &mut Vec<ObjectIndex>) -> bool
     requires of { IsPassOf table.now pass.old }
     ensures gained { HasGainedSome pass.old pass.new }
     ensures more { result ≡ true →
@@ -44,7 +49,7 @@ fn sweep(table: &MarkTable<'_>, pass: &mut Pass, worklist: &mut Vec<u32>) -> boo
 
 /// Scans the objects of a worklist until it is empty, or until it has taken as many objects from it
 /// as the heap has.
-fn drain(table: &MarkTable<'_>, pass: &mut Pass, worklist: &mut Vec<u32>)
+fn drain(table: &MarkTable<'_>, pass: &mut Pass, worklist: &mut Vec<ObjectIndex>)
     requires of { IsPassOf table.now pass.old }
     ensures gained { HasGainedSome pass.old pass.new }
     ensures room { vec_capacity worklist.new ≡ vec_capacity worklist.old }

@@ -10,6 +10,7 @@ ghost use Rattle.sqz_workers.specs.Gains.{HasGained, HasSeenTarget, HasBlackened
 use crate::worklist::Worklist;
 use sqz_image::Slot;
 use sqz_marks::{Claim, MarkTable, Pass};
+use sqz_object::ObjectIndex;
 use sqz_trace::{OutEdges, Shade};
 
 /// Scans an object if it is grey. Returns how many objects were won, or None if it is not grey or
@@ -18,7 +19,7 @@ pub(crate) fn scan_if_grey<L: Worklist>(
     table: &MarkTable<'_>,
     pass: &mut Pass,
     worklist: &mut L,
-    object: u32,
+    object: ObjectIndex,
 ) -> Option<u32>
     requires of { IsPassOf table.now pass.old }
     ensures gained { HasGained pass.old pass.new (unwrap_or result 0) }
@@ -45,7 +46,7 @@ fn scan_object<L: Worklist>(
     table: &MarkTable<'_>,
     pass: &mut Pass,
     worklist: &mut L,
-    object: u32,
+    object: ObjectIndex,
 ) -> u32
     requires of { IsPassOf table.now pass.old }
     requires inside { object < object_count table.now.heap.memory }

@@ -12,6 +12,7 @@ use crate::team::Team;
 use crate::turns::Turns;
 use crossbeam_deque::{Steal, Stealer, Worker};
 use sqz_marks::{MarkTable, Pass};
+use sqz_object::ObjectIndex;
 use std::thread::{Threads, join_mut};
 
 /// What all workers share as they mark.
@@ -20,7 +21,7 @@ pub(crate) struct SharedWork<'a, 't, R, G> {
     pub rt: &'a R,
     pub table: &'a MarkTable<'t>,
     /// Steals from each worker's deque, in the order of the workers' numbers.
-    pub stealers: &'a [Stealer<u32>],
+    pub stealers: &'a [Stealer<ObjectIndex>],
     pub gate: &'a G,
 }
 
@@ -94,7 +95,7 @@ impl<R, G: Gate> SharedWork<'_, '_, R, G> {
     /// Takes the turns of a worker. In each it passes the gate, takes an object from its own deque,
     /// or else from another's, and scans it. It leaves after 64 turns in a row that found no
     /// object, or after four turns for each object and 4096 more. Returns how many objects it won.
-    fn run_worker(&self, pass: &mut Pass, deque: &mut Worker<u32>, worker: u32) -> u64
+    fn run_worker(&self, pass: &mut Pass, deque: &mut Worker<ObjectIndex>, worker: u32) -> u64
         requires { IsPassOf self.now.table.now pass.old }
         ensures { HasGained pass.old pass.new result }
     {
@@ -114,7 +115,7 @@ impl<R, G: Gate> SharedWork<'_, '_, R, G> {
     }
 
     /// An index from the worker's own deque, or else from the first of the others that gives one.
-    fn next_object(&self, deque: &mut Worker<u32>, worker: u32) -> Option<u32> {
+    fn next_object(&self, deque: &mut Worker<ObjectIndex>, worker: u32) -> Option<ObjectIndex> {
         match deque.pop() {
             Some(object) => Some(object),
             None => self.steal(worker),
@@ -122,7 +123,7 @@ impl<R, G: Gate> SharedWork<'_, '_, R, G> {
     }
 
     /// An index from the first of the other workers' deques that gives one.
-    fn steal(&self, worker: u32) -> Option<u32> {
+    fn steal(&self, worker: u32) -> Option<ObjectIndex> {
         for (other, stealer) in self.stealers.iter().enumerate() {
             if other != worker as usize {
                 if let Steal::Success(object) = stealer.steal() {

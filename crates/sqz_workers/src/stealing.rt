@@ -14,6 +14,7 @@ use crate::team::Team;
 use crossbeam_deque::{Stealer, Worker};
 use sqz_image::{Fault, Heap};
 use sqz_marks::{MarkTable, Workers};
+use sqz_object::ObjectIndex;
 use sqz_regions::Regions;
 use sqz_trace::Weak;
 use std::alloc::{AllocError, Global};
@@ -78,7 +79,7 @@ pub fn mark<R: Threads + Sync, G: Gate>(
 fn deques_of(
     alloc: Global,
     count: usize,
-) -> Result<(Vec<Worker<u32>>, Vec<Stealer<u32>>), AllocError>
+) -> Result<(Vec<Worker<ObjectIndex>>, Vec<Stealer<ObjectIndex>>), AllocError>
     ensures { IfOk result (λ made. length made.0.items ≡ count) }
 {
     let mut deques = Vec::with_capacity(alloc, count)?;

@@ -2,6 +2,7 @@
 
 use crossbeam_deque::Worker;
 use sqz_marks::Pass;
+use sqz_object::ObjectIndex;
 
 /// Workers with consecutive numbers. Each has a share of the pass, a deque, and a place for the
 /// number of objects that it wins.
@@ -12,7 +13,7 @@ pub(crate) struct Team<'a> {
     /// The workers' share of the marking.
     pub pass: &'a mut Pass,
     /// Each worker's deque.
-    pub deques: &'a mut [Worker<u32>],
+    pub deques: &'a mut [Worker<ObjectIndex>],
     /// How many objects each worker wins.
     pub won: &'a mut [u64],
 }

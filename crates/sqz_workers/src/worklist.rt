@@ -3,6 +3,7 @@
 ghost use Rattle.std.specs.Prelude.{◌≡◌, ℕ, ◌<◌, ◌≤◌, [], ◌∷◌, ◌++◌, vec_len, vec_capacity};
 
 use crossbeam_deque::Worker;
+use sqz_object::ObjectIndex;
 
 /// Takes objects that became grey. It drops what it has no room for: such an object stays grey.
 pub(crate) trait Worklist {
@@ -11,24 +12,24 @@ pub(crate) trait Worklist {
     ghost room: { Self → ℕ };
 
     /// Puts an object in, if there is room.
-    fn put(&mut self, object: u32)
+    fn put(&mut self, object: ObjectIndex)
         ensures room { room self.new ≡ room self.old };
 }
 
-impl Worklist for Worker<u32> {
+impl Worklist for Worker<ObjectIndex> {
     ghost room = { λ deque. 0 };
 
     /// Pushes the object. If there is no memory for it, the object is dropped.
-    fn put(&mut self, object: u32) {
+    fn put(&mut self, object: ObjectIndex) {
         let _push = self.push(object);
     }
 }
 
 /// A list that keeps within the room that was made for it, and so allocates nothing.
-impl Worklist for Vec<u32> {
+impl Worklist for Vec<ObjectIndex> {
     ghost room = { vec_capacity };
 
-    fn put(&mut self, object: u32)
+    fn put(&mut self, object: ObjectIndex)
         ensures room { vec_capacity self.new ≡ vec_capacity self.old }
         ensures put { vec_len self.old < vec_capacity self.old →
             self.new.items ≡ self.old.items ++ object ∷ [] }
