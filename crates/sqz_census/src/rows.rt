@@ -49,5 +49,6 @@ pub fn census<'a>(
         weak,
         forward,
     };
-    Ok(maker.rows_of(rt, alloc, &shares)?)
+    let rows = maker.rows_of(rt, alloc, &shares)?;
+    Ok(rows)
 }

@@ -1,5 +1,5 @@
 use Rattle.std.proofs.Common.{rules}
-use Rattle.sqz_workers.proofs.worklist.VecU32Worklist.put.Goals as goal
+use Rattle.sqz_workers.proofs.worklist.VecObjectIndexWorklist.put.Goals as goal
 
 pub returns-else-len-capacity-clause-room : goal.returns-else-len-capacity-clause-room
 returns-else-len-capacity-clause-room c = search rules
