@@ -14,67 +14,73 @@ use sqz_image::{Fault, Heap};
 use sqz_object::ObjectIndex;
 use std::thread::Threads;
 
-/// How many objects a range has. The last range may have fewer.
+/// The number of objects of a range. The last range may have fewer.
 const RANGE: u32 = 4096;
 
-/// The defect of the lowest marked object that has one, among the objects `from..to`.
-fn defect_in(
-    heap: &Heap,
+/// What defects are looked for in: the heap, what becomes of weak slots, and the marks.
+#[derive(Drop)]
+struct MarkedHeap<'a> {
+    heap: &'a Heap,
     weak: Weak,
-    marks: &Marks,
-    from: ObjectIndex,
-    to: ObjectIndex,
-) -> Option<Fault>
-    requires inside { to ≤ object_count heap.now }
-    requires sized { length marks.now ≡ object_count heap.now }
-    ensures { result ≡ first_between (defect_at heap.now weak marks.now) from to }
-{
-    for object in from..to {
-        if marks.has(object) {
-            let found = defect(heap, weak, object);
-            if found.is_some() {
-                return found;
+    marks: &'a Marks,
+    ghost sized: { length marks.now ≡ object_count heap.now },
+}
+
+impl MarkedHeap<'_> {
+    /// The defect of the lowest marked object that has one, among the objects `from..to`.
+    fn defect_in(&self, from: ObjectIndex, to: ObjectIndex) -> Option<Fault>
+        requires { to ≤ object_count self.now.heap.now }
+        ensures { result ≡ first_between
+            (defect_at self.now.heap.now self.now.weak self.now.marks.now) from to }
+    {
+        for object in from..to {
+            if self.marks.has(object) {
+                let found = defect(self.heap, self.weak, object);
+                if found.is_some() {
+                    return found;
+                }
             }
         }
+        None
     }
-    None
+
+    /// The defect of the lowest marked object that has one, among the objects of the range with this
+    /// number.
+    fn defect_in_range(&self, range: u32) -> Option<Fault>
+        requires { range * RANGE < object_count self.now.heap.now }
+        ensures { result ≡ first_in_range
+            (defect_at self.now.heap.now self.now.weak self.now.marks.now)
+            RANGE (object_count self.now.heap.now) range }
+    {
+        let count = self.heap.len();
+        let from = range * RANGE;
+        self.defect_in(from, count.min(from + RANGE))
+    }
 }
 
-/// The defect of the lowest marked object that has one, among the objects of the range with this
-/// number.
-fn defect_in_range(heap: &Heap, weak: Weak, marks: &Marks, range: u32) -> Option<Fault>
-    requires inside { range * RANGE < object_count heap.now }
-    requires sized { length marks.now ≡ object_count heap.now }
-    ensures { result ≡ first_in_range (defect_at heap.now weak marks.now) RANGE (object_count
-        heap.now) range }
-{
-    let count = heap.len();
-    let from = range * RANGE;
-    defect_in(heap, weak, marks, from, count.min(from + RANGE))
-}
-
-/// The defect of the lowest marked object that has one. The objects are looked at in several
-/// threads, in ranges of thousands. It takes no memory.
-pub fn first_defect(
+/// The defect of the lowest marked object that has one. Several threads look for it, each in ranges of
+/// thousands of objects. It takes no memory.
+pub fn first_defect<'a>(
     rt: &(impl Threads + Sync),
-    heap: &Heap,
+    heap: &'a Heap,
     weak: Weak,
-    marks: &Marks,
+    marks: &'a Marks,
 ) -> Option<Fault>
     requires { length marks.now ≡ object_count heap.now }
     ensures { result ≡ first_defect heap.now weak marks.now }
 {
+    let marked = MarkedHeap { heap, weak, marks };
     let ranges = heap.len().div_ceil(RANGE);
     (0..ranges)
         .into_par_iter()
         .with_min_len(1)
         .map(
             |range: u32| -> Option<Fault>
-                requires inside { range * RANGE < object_count heap.now }
-                requires sized { length marks.now ≡ object_count heap.now }
-                ensures { result ≡ first_in_range (defect_at heap.entry.now weak marks.entry.now)
-                    RANGE (object_count heap.entry.now) range }
-            { defect_in_range(heap, weak, marks, range) },
+                requires { range * RANGE < object_count marked.heap.now }
+                ensures { result ≡ first_in_range
+                    (defect_at marked.entry.heap.now marked.entry.weak marked.entry.marks.now)
+                    RANGE (object_count marked.entry.heap.now) range }
+            { marked.defect_in_range(range) },
         )
         .reduce(
             rt,

@@ -15,8 +15,8 @@ reduce-requires-clause-ready g c κs within =
     let count = object_count c.args.heap.now in
     let ends = c.into_par_iter.ensures in
     let many = c.div_ceil-ranges.ensures ∙ ap (λ n. div_ceil n 4096) c.len.ensures.objects in
-    let inside = nat_range-All (λ range. (range * 4096 < count) × (length c.args.marks.now ≡ count)) 0 c.div_ceil-ranges.result
-    (λ range low high. (range_begins count range (rw many at high), c.requires)) in
+    let inside = nat_range-All (λ range. range * 4096 < count) 0 c.div_ceil-ranges.result
+    (λ range low high. range_begins count range (rw many at high)) in
     rw (c.map.ensures.base, c.map.ensures.f, c.with_min_len.ensures.base, ends.0, ends.1) (λ k d lt. (inside k d lt, λ y p. tt))
 
 pub returns : goal.returns
