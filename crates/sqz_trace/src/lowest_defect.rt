@@ -14,10 +14,10 @@ use sqz_image::{Fault, Heap};
 use sqz_object::ObjectIndex;
 use std::thread::Threads;
 
-/// How many objects a range has. The last range may have fewer.
+/// The number of objects of a range. The last range may have fewer.
 const RANGE: u32 = 4096;
 
-/// The defect of the lowest marked object that has one, among the objects `from..to`.
+/// Returns the defect of the lowest marked object that has one, among the objects `from..to`.
 fn defect_in(
     heap: &Heap,
     weak: Weak,
@@ -40,8 +40,8 @@ fn defect_in(
     None
 }
 
-/// The defect of the lowest marked object that has one, among the objects of the range with this
-/// number.
+/// Returns the defect of the lowest marked object that has one, among the objects of the range
+/// with this number.
 fn defect_in_range(heap: &Heap, weak: Weak, marks: &Marks, range: u32) -> Option<Fault>
     requires inside { range * RANGE < object_count heap.now }
     requires sized { length marks.now ≡ object_count heap.now }
@@ -53,8 +53,8 @@ fn defect_in_range(heap: &Heap, weak: Weak, marks: &Marks, range: u32) -> Option
     defect_in(heap, weak, marks, from, count.min(from + RANGE))
 }
 
-/// The defect of the lowest marked object that has one. The objects are looked at in several
-/// threads, in ranges of thousands. It takes no memory.
+/// Returns the defect of the lowest marked object that has one. Several threads examine the
+/// objects, in ranges of 4096. It allocates no memory.
 pub fn first_defect(
     rt: &(impl Threads + Sync),
     heap: &Heap,
