@@ -1,4 +1,4 @@
--- The entries of all objects, from those of one after the other.
+-- The entries of all objects, made one after another.
 -- Serves `entries::entries_of`.
 use Rattle.std.proofs.Common.{◌≡◌, ℕ, zero, suc, ◌+◌, ◌<◌, Bool, List, [], ◌∷◌, length, get_or, refl, ap, subst, ◌∙◌, arith}
 use Rattle.std.specs.List.{AllZip, range_with_len}

@@ -54,7 +54,7 @@ module _ (memory : Memory) (weak : Weak) where
 
 -- ---- groups and keys
 
--- a group that some object may be in, where there are so many objects
+-- a group that some object may be in, given the number of objects
 abbrev pub IsInside : ℕ → Group → Type 0
 IsInside count (Class class) = class < count
 IsInside count (Compact index) = index < 32

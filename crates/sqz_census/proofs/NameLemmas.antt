@@ -1,4 +1,4 @@
--- The first bytes that spell words.
+-- The first bytes that encode words.
 -- Serves `names::first_bytes` and `names::text_in`.
 use Rattle.std.proofs.Common.{◌≡◌, ℕ, ◌-◌, ◌*◌, ◌<◌, ◌≤◌, min, List, length, map, take, drop, Some, refl}
 use Rattle.std.proofs.Common.{sym, ap, ◌∙◌, arith, inl, inr}
@@ -36,7 +36,7 @@ take-min count most bytes =
           ap (λ (count : ℕ). take count bytes) fewer ∙ sym (take-take most count bytes le)
     ]
 
--- the text in fields of bytes, of which the first are printed
+-- the text in fields of bytes; the first 40 bytes are printed
 pub text_by-bytes : (order : Order) (unused count : ℕ) (words fields text : List ℕ)
     → words ≡ fields → count ≡ min (4 * length words - unused) 40
     → text ≡ map shown_byte (take count (spelling_of order words))

@@ -1,4 +1,4 @@
--- A list whose elements stand in a strict order is determined by what it contains.
+-- A list in a strict order is determined by the elements that it contains.
 -- Serves `SumLemmas` and `Uniqueness`.
 use Rattle.std.proofs.Common.{◌≡◌, ℕ, zero, suc, ◌<◌, ◌⊎◌, List, [], ◌∷◌, length, slice_index_or, refl, sym, subst}
 use Rattle.std.proofs.Common.{◌∙◌, inl, inr, arith}

@@ -1,5 +1,5 @@
--- The rows of all shares, from those of one after the other.
--- Serves `rows::rows_of`.
+-- The rows of all shares, made one after another.
+-- Serves `row_maker::RowMaker::rows_of`.
 use Rattle.std.proofs.Common.{◌≡◌, ℕ, List, [], ◌∷◌, map, Vec, Global, Option, refl, ap, subst, ◌∙◌, Ok, Err, Result}
 use Rattle.std.specs.Prelude.{IfOk, MatchResult, Contains}
 use Rattle.std.specs.List.{AllZip}

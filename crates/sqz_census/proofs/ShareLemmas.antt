@@ -1,4 +1,4 @@
--- The shares of groups, by key and in the order of the census.
+-- The shares of groups, by key and in census order.
 -- Serves `shares::shares_by_key` and `shares::shares_of`.
 use Rattle.std.proofs.Common.{◌≡◌, ℕ, ◌+◌, ◌<◌, List, [], ◌∷◌, ◌++◌, length, get_or, refl, sym, subst, arith}
 use Rattle.std.specs.List.Sorted.{IsPermutation, IsNonDecreasingBy, IsStableByKey}

@@ -1,4 +1,4 @@
--- What the holes of a format write.
+-- What the placeholders of a format string write.
 -- Serves `printing::columns` and `printing::place_text`.
 use Rattle.std.proofs.Common.{◌≡◌, ℕ, zero, suc, ◌-◌, ◌^◌, false, List, [], ◌∷◌, ◌++◌, length, replicate, refl, ap}
 use Rattle.std.proofs.Common.{arith, append-nil, append_assoc, codes}

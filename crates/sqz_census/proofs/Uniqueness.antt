@@ -1,4 +1,4 @@
--- There is one census of an image.
+-- An image has only one census.
 -- Serves `laws::one_census` and `SumLemmas`.
 use Rattle.std.proofs.Common.{◌≡◌, ℕ, nat_lt, Bool, true, List, map, refl, sym, ap, ◌∙◌, inl, inr, arith}
 use Rattle.std.proofs.lemmas.Bool.Decides.{nat_tests}

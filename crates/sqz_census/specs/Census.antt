@@ -1,4 +1,4 @@
--- The census: how many live objects each class has, and how many bytes these take.
+-- The census (class histogram): the number of live objects of each class, and their bytes.
 use Rattle.std.specs.Prelude.{◌≡◌, ◌↔◌, ◌⊎◌, ℕ, ◌*◌, ◌<◌, ◌==◌, nat_lt, Bool, true, false, List, ◌++◌, map, length}
 use Rattle.std.specs.Prelude.{filter, slice_index_or, codes, decimal, Option, Some, None}
 use Rattle.std.specs.List.{Contains}
@@ -10,7 +10,8 @@ use Rattle.sqz_trace.specs.Live.{live}
 use Rattle.sqz_regions.specs.Places.{words_in, place}
 use Rattle.sqz_census.specs.Names.{class_name}
 
--- what is counted together: the objects of a class, and those without one that have the same compact index
+-- what is counted together: the objects of a class, or the objects without a class that have the
+-- same compact index
 pub data Group : Type 0 where
   Class : ℕ → Group
   Compact : ℕ → Group
@@ -32,11 +33,11 @@ group_of memory weak chunk = group_by (class_of memory weak chunk) (compact_inde
 abbrev pub members : Memory → Weak → List Bool → Group → List Object
 members memory weak marks group = filter (λ object. is_same group (group_of memory weak object.chunk)) (live memory marks)
 
--- the bytes of their chunks, header words among them
+-- the bytes of their chunks, header words included
 abbrev pub bytes_of : Memory → Weak → List Bool → Group → ℕ
 bytes_of memory weak marks group = 4 * words_in (members memory weak marks group)
 
--- of groups with the same number of bytes classes come first, by their new places, and then compact indexes
+-- on a tie, classes come first, by their new addresses, and then compact indexes
 abbrev pub is_lower : Memory → List Bool → Group → Group → Bool
 is_lower memory marks (Class one) (Class other) = nat_lt (place memory marks one) (place memory marks other)
 is_lower memory marks (Class one) (Compact other) = true
@@ -49,7 +50,8 @@ ComesBefore memory weak marks one other =
     (bytes_of memory weak marks other < bytes_of memory weak marks one)
     ⊎ ((bytes_of memory weak marks one ≡ bytes_of memory weak marks other) × (is_lower memory marks one other ≡ true))
 
--- a row: the new place of the class, or a compact index; a name; and the number of objects and bytes
+-- a row: the new address of the class, or a compact index; a name; and the number of objects and
+-- bytes
 pub record CensusRow : Type 0 where
   pub place : Option ℕ
   pub compact : ℕ
@@ -57,7 +59,7 @@ pub record CensusRow : Type 0 where
   pub count : ℕ
   pub bytes : ℕ
 
--- what a group is called, with its place where it has one
+-- the row of a group, with these numbers of objects and bytes
 abbrev pub row_with : Memory → Weak → List Bool → Group → ℕ → ℕ → CensusRow
 row_with memory weak marks (Class class) count bytes =
     record { place = Some (place memory marks class); compact = 0; name = class_name memory weak class; count = count; bytes = bytes }
@@ -68,7 +70,7 @@ abbrev pub row_of : Memory → Weak → List Bool → Group → CensusRow
 row_of memory weak marks group =
     row_with memory weak marks group (length (members memory weak marks group)) (bytes_of memory weak marks group)
 
--- a row for each group that has a live object, in their order
+-- a row for each group that has a live object, in order
 pub record IsCensus (memory : Memory) (weak : Weak) (marks : List Bool) (rows : List CensusRow) : Type 0 where
   pub groups : List Group
   pub are : rows ≡ map (row_of memory weak marks) groups

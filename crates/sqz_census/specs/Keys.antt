@@ -1,4 +1,5 @@
--- Groups as numbers, by which the code counts: the index of a class, and behind all objects the compact indexes.
+-- Groups as numbers (keys), by which the code counts: the index of a class, or the number of
+-- objects plus a compact index.
 use Rattle.std.specs.Prelude.{◌≡◌, ℕ, ◌+◌, ◌-◌, ◌<◌, nat_lt, Bool, true, false, if◌then◌else◌, List, length}
 use Rattle.std.specs.Prelude.{slice_index_or, Option, None}
 use Rattle.sqz_object.specs.Chunk.{before}
@@ -9,7 +10,7 @@ use Rattle.sqz_trace.specs.Graph.{is_marked}
 use Rattle.sqz_census.specs.declared.entries.Entry.{Entry}
 use Rattle.sqz_census.specs.Census.{Group, Class, Compact, group_of}
 
--- how many compact indexes there are
+-- the number of compact indexes
 abbrev pub compact_indexes : ℕ
 compact_indexes = 32
 
@@ -18,7 +19,7 @@ pub record AreCompactClasses (memory : Memory) (weak : Weak) (classes : List (Op
   pub sized : length classes ≡ compact_indexes
   pub each : (index : ℕ) → index < compact_indexes → slice_index_or classes index None ≡ compact_class memory weak index
 
--- the key of a group, where there are so many objects
+-- the key of a group, given the number of objects
 abbrev pub key_of : ℕ → Group → ℕ
 key_of count (Class class) = class
 key_of count (Compact index) = count + index
@@ -27,7 +28,7 @@ key_of count (Compact index) = count + index
 abbrev pub group_with : ℕ → ℕ → Group
 group_with count key = if nat_lt key count then Class key else Compact (key - count)
 
--- how many keys there are
+-- the number of keys
 abbrev pub key_count : Memory → ℕ
 key_count memory = object_count memory + compact_indexes
 
@@ -35,7 +36,7 @@ key_count memory = object_count memory + compact_indexes
 abbrev pub dead : ℕ
 dead = 4294967295
 
--- what is kept of a marked object: its group's key and its words, of which the base header is one
+-- what is kept of a marked object: its group's key, and the length of its chunk in words
 pub record IsLiveEntry (memory : Memory) (weak : Weak) (index : ℕ) (entry : Entry) : Type 0 where
   pub key : entry.key ≡ key_of (object_count memory) (group_of memory weak (chunk_words memory index))
   pub words : entry.words ≡ length (chunk_words memory index)

@@ -1,4 +1,4 @@
--- How many live objects each group has, by its key.
+-- The number of live objects of each group, by its key.
 use Rattle.std.specs.Prelude.{◌≡◌, ℕ, ◌^◌, ◌<◌, Bool, List, length, take, filter, slice_index_or}
 use Rattle.sqz_image.specs.Objects.{Memory, Object, objects, object_count}
 use Rattle.sqz_trace.specs.declared.weak.Weak.{Weak}
@@ -8,7 +8,7 @@ use Rattle.sqz_census.specs.declared.tallies.Tally.{Tally}
 use Rattle.sqz_census.specs.Census.{Group, is_same, group_of}
 use Rattle.sqz_census.specs.Keys.{group_with, key_count}
 
--- how many of some objects a group has, and how many words these have together
+-- the number of these objects that belong to a group, and their total length in words
 abbrev pub tally_in : Memory → Weak → List Object → Group → Tally
 tally_in memory weak objects group =
     record {
@@ -33,7 +33,7 @@ AreTalliesBelow memory weak marks index = AreTalliesOf memory weak (marked (take
 abbrev pub AreTallies : Memory → Weak → List Bool → List Tally → Type 0
 AreTallies memory weak marks = AreTalliesOf memory weak (live memory marks)
 
--- keys and words that 32 bits hold
+-- keys and words fit in 32 bits
 pub record FitWords (tallies : List Tally) : Type 0 where
   pub sized : length tallies < 2 ^ 32
   pub each : (key : ℕ) → key < length tallies → (slice_index_or tallies key no_tally).words < 2 ^ 32

@@ -4,20 +4,21 @@ use Rattle.std.specs.Fmt.{digits}
 use Rattle.std.specs.List.{flat_map}
 use Rattle.sqz_census.specs.Census.{CensusRow}
 
--- a number with spaces before it, so that it takes so many places; one that needs more takes them
+-- a number, right-aligned to this many characters; a longer number takes as many as it needs
 abbrev pub right_aligned : ℕ → ℕ → List ℕ
 right_aligned places number = replicate (places - length (decimal number)) 32 ++ decimal number
 
--- a new place as eight lower case hexadecimal digits, and a dash for each of them where there is none
+-- a new address as eight lower-case hexadecimal digits, or eight dashes if there is none
 abbrev pub place_text : Option ℕ → List ℕ
 place_text (Some place) = replicate (8 - length (digits 16 false place)) 48 ++ digits 16 false place
 place_text None = codes "--------"
 
--- two numbers, each behind the spaces that it wants
+-- two right-aligned numbers, each followed by a space
 abbrev pub columns : ℕ → ℕ → List ℕ
 columns count bytes = right_aligned 10 count ++ codes " " ++ right_aligned 12 bytes ++ codes " "
 
--- what the objects of a row are called: by the name of their class, and without a class by their compact index
+-- the label of a row's objects: the name of their class, or their compact index if they have no
+-- class
 abbrev pub label_text : Option ℕ → ℕ → List ℕ → List ℕ
 label_text (Some place) compact name = name
 label_text None compact name = codes "compact " ++ decimal compact

@@ -10,10 +10,10 @@ use sqz_object::{Kind, ObjectIndex, base_of};
 use sqz_trace::{Weak, class_address, compact_class, named_by};
 use std::alloc::{AllocError, Global};
 
-/// How many compact indexes there are.
+/// The number of compact indexes.
 pub(crate) const COMPACT_INDEXES: u32 = 32;
 
-/// The class that each compact index stands for, by index.
+/// Returns the class that each compact index stands for, by index.
 pub(crate) fn class_table(
     alloc: Global,
     heap: &Heap,
@@ -28,8 +28,8 @@ pub(crate) fn class_table(
     Ok(classes)
 }
 
-/// The class of an object, by the classes of compact indexes. Where it has a class word, its
-/// compact index leads to none.
+/// Returns the class of an object. `classes` are the classes of the compact indexes; an object's
+/// compact index counts only if it has no class word.
 pub(crate) fn class_by_table(
     heap: &Heap,
     classes: &[Option<ObjectIndex>],

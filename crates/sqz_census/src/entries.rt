@@ -1,4 +1,4 @@
-//! What the census takes of each object.
+//! The census entry of each object.
 
 ghost use Rattle.std.specs.Prelude.{◌≡◌, ◌<◌, length, IfOk};
 ghost use Rattle.sqz_image.specs.Objects.{object_count};
@@ -13,21 +13,21 @@ use sqz_trace::Marks;
 use std::alloc::{AllocError, Global};
 use std::thread::Threads;
 
-/// The key of an object that is not marked. No group has so high a key.
+/// The key of an object that is not marked. No group has this key.
 pub(crate) const DEAD: u32 = u32::MAX;
 
-/// What the census takes of an object.
+/// What the census keeps of an object.
 #[derive(Clone, Copy)]
 pub(crate) struct Entry {
-    /// The group that counts it: the index of its class, or behind all objects its compact index.
-    /// `DEAD` for none.
+    /// The group that counts it: the index of its class, or, without a class, the number of
+    /// objects plus its compact index. `DEAD` if no group counts it.
     pub(crate) key: u32,
-    /// The words of its chunk.
+    /// The length of its chunk in words.
     pub(crate) words: u32,
 }
 
-/// An entry for each object. The policy on weak slots is that of the classes. Made in several
-/// threads.
+/// Returns one entry per object. The policy on weak slots is that of `classes`. Several threads
+/// make the entries.
 pub(crate) fn entries_of(
     rt: &(impl Threads + Sync),
     alloc: Global,
@@ -54,7 +54,7 @@ pub(crate) fn entries_of(
         .collect::<Vec<Entry>>(rt, alloc)
 }
 
-/// The entry of an object.
+/// Returns the entry of an object.
 fn entry_of(
     heap: &Heap,
     marks: &Marks,

@@ -1,4 +1,4 @@
-//! A census of the live objects of an image: a row for each class, and its text.
+//! A census (class histogram) of the live objects of an image: one row per class, and its text.
 #![tactic(auto)]
 
 mod classes;

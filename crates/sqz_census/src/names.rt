@@ -1,4 +1,4 @@
-//! The names of classes, as they are printed.
+//! The names of classes, as printed.
 
 ghost use Rattle.std.specs.Prelude.{◌≡◌, ◌++◌, ◌<◌, ◌*◌, ◌≤◌, codes, decimal, length, map, take};
 ghost use Rattle.std.specs.Prelude.{IfOk, option_and_then, option_map};
@@ -13,20 +13,20 @@ use sqz_object::{Layout, ObjectIndex, Order, Words, put_word};
 use sqz_trace::{OutEdges, Weak};
 use std::alloc::{AllocError, Global};
 
-/// The field of a class that names its name.
+/// The field of a class that points to its name.
 const NAME: u32 = 6;
 
-/// The field of a metaclass that names its one instance.
+/// The field of a metaclass that points to its only instance.
 const INSTANCE: u32 = 5;
 
-/// How many bytes of a name are printed at most.
+/// The greatest number of bytes of a name that is printed.
 const MOST_BYTES: usize = 40;
 
-/// How many words have these bytes.
+/// The number of words that hold these bytes.
 const MOST_WORDS: usize = 10;
 
-/// The name of a class: its own, or that of its one instance followed by ` class`, or a question
-/// mark.
+/// Returns the name of a class: its own, or that of its only instance followed by ` class`, or a
+/// question mark. Fails only if out of memory.
 pub fn class_name(
     alloc: Global,
     heap: &Heap,
@@ -48,7 +48,8 @@ pub fn class_name(
     }
 }
 
-/// What stands for the name of a class in the row of objects without one.
+/// Returns the label of the objects that have no class and this compact index. Fails only if out
+/// of memory.
 pub fn compact_name(alloc: Global, compact: u32) -> Result<Vec<u8>, AllocError>
     ensures { IfOk result (λ name. name.items ≡ codes "compact " ++ decimal compact) }
 {
@@ -56,7 +57,7 @@ pub fn compact_name(alloc: Global, compact: u32) -> Result<Vec<u8>, AllocError>
     Ok(name.into_bytes())
 }
 
-/// The name of the instance of a metaclass.
+/// Returns the name of the instance of a metaclass, if it has one.
 fn instance_name(
     alloc: Global,
     heap: &Heap,
@@ -74,7 +75,7 @@ fn instance_name(
     }
 }
 
-/// The name that an object has: its field 6 names an object of bytes.
+/// Returns the name that an object has, if its field 6 points to a byte object.
 fn held_name(
     alloc: Global,
     heap: &Heap,
@@ -91,7 +92,7 @@ fn held_name(
     }
 }
 
-/// The first bytes of an object of bytes, as they are printed; none of other objects.
+/// Returns the first bytes of a byte object, as printed; None for any other object.
 fn text_in(alloc: Global, order: Order, object: &Object<'_>) -> Result<Option<Vec<u8>>, AllocError>
     ensures { IfOk result (λ text.
         option_map (λ text. text.items) text ≡ text_in order object.now) }
@@ -105,7 +106,7 @@ fn text_in(alloc: Global, order: Order, object: &Object<'_>) -> Result<Option<Ve
     Ok(Some(shown_bytes(alloc, &bytes)?))
 }
 
-/// The first bytes that spell words, so many of them.
+/// Returns the first `count` bytes that encode the words.
 fn first_bytes(
     alloc: Global,
     order: Order,
@@ -122,7 +123,7 @@ fn first_bytes(
     Ok(bytes)
 }
 
-/// The bytes that spell words.
+/// Returns the bytes that encode the words.
 fn spelling_of(alloc: Global, order: Order, words: &Words<'_>) -> Result<Vec<u8>, AllocError>
     ensures { IfOk result (λ bytes. bytes.items ≡ spelling_of order words.now) }
 {
@@ -133,7 +134,7 @@ fn spelling_of(alloc: Global, order: Order, words: &Words<'_>) -> Result<Vec<u8>
     Ok(bytes)
 }
 
-/// Bytes as they are printed.
+/// Returns bytes as they are printed.
 fn shown_bytes(alloc: Global, bytes: &[u8]) -> Result<Vec<u8>, AllocError>
     ensures { IfOk result (λ text. text.items ≡ map shown_byte bytes.now) }
 {
@@ -144,7 +145,7 @@ fn shown_bytes(alloc: Global, bytes: &[u8]) -> Result<Vec<u8>, AllocError>
     Ok(text)
 }
 
-/// A byte as it is printed: a question mark stands for one that is no printable ASCII character.
+/// Returns a byte as it is printed: a question mark if it is not a printable ASCII character.
 pub fn shown_byte(byte: u8) -> u8
     ensures { result ≡ shown_byte byte }
 {

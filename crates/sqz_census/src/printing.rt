@@ -12,14 +12,14 @@ use sqz_image::Fault;
 use sqz_object::Address;
 use std::alloc::{AllocError, Global};
 
-/// How many bytes a line has mostly.
+/// The usual length of a line in bytes.
 const LINE: usize = 56;
 
-/// The text of a census: a line for each row, with the number of its objects right-aligned in 10
-/// places, that of its bytes in 12, the new address of the class as eight lower case hexadecimal
-/// digits or dashes, and the name of the class, or `compact K` by the compact index where there is
-/// no class; and a last line with the sums. A number that needs more places takes them. Fails for
-/// want of memory alone.
+/// Returns the text of a census: a line for each row, and a last line with the sums. A line has
+/// the number of objects, right-aligned to 10 characters; the number of bytes, right-aligned to
+/// 12; the new address of the class as eight lower-case hexadecimal digits, or dashes; and the
+/// name of the class, or `compact K` with the compact index if there is no class. A longer number
+/// takes as many characters as it needs. Fails only if out of memory.
 pub fn print(alloc: Global, rows: &[Row]) -> Result<Vec<u8>, Fault>
     ensures text { IfOk result (λ text. text.items ≡ census_text (map shown rows.now)) }
     ensures refused { IfErr result (λ fault. fault ≡ OutOfMemory) }
@@ -32,7 +32,7 @@ pub fn print(alloc: Global, rows: &[Row]) -> Result<Vec<u8>, Fault>
     Ok(text)
 }
 
-/// Adds the line of a row.
+/// Appends the line of a row.
 fn add_row(alloc: Global, text: &mut Vec<u8>, row: &Row) -> Result<(), AllocError>
     ensures { OnOk result (text.new.items ≡ text.old.items ++ row_text (shown row.now)) }
 {
@@ -46,7 +46,7 @@ fn add_row(alloc: Global, text: &mut Vec<u8>, row: &Row) -> Result<(), AllocErro
     Ok(())
 }
 
-/// Adds what the objects of a row are called.
+/// Appends the label of a row's objects.
 fn add_label(alloc: Global, text: &mut Vec<u8>, row: &Row) -> Result<(), AllocError>
     ensures { OnOk result (text.new.items ≡ text.old.items
         ++ label_text row.now.place row.now.compact row.now.name.items) }
@@ -58,7 +58,7 @@ fn add_label(alloc: Global, text: &mut Vec<u8>, row: &Row) -> Result<(), AllocEr
     text.extend_from_slice(&name)
 }
 
-/// Adds the line of the sums.
+/// Appends the line of the sums.
 fn add_total(alloc: Global, text: &mut Vec<u8>, rows: &[Row]) -> Result<(), AllocError>
     ensures { OnOk result (text.new.items ≡ text.old.items ++ total_text (map shown rows.now)) }
 {
@@ -68,7 +68,7 @@ fn add_total(alloc: Global, text: &mut Vec<u8>, rows: &[Row]) -> Result<(), Allo
     text.extend_from_slice(b"total\n")
 }
 
-/// How many objects and how many bytes all rows have.
+/// Returns the number of objects and of bytes of all rows.
 fn sums(rows: &[Row]) -> (u128, u128)
     ensures count { result.0 ≡ sum_by (λ row. row.count) (map shown rows.now) }
     ensures bytes { result.1 ≡ sum_by (λ row. row.bytes) (map shown rows.now) }
@@ -83,14 +83,14 @@ fn sums(rows: &[Row]) -> (u128, u128)
     (count, bytes)
 }
 
-/// Two numbers, right-aligned, each with a space behind it.
+/// Returns two numbers, right-aligned, each followed by a space.
 fn columns(alloc: Global, count: u128, bytes: u128) -> Result<String, AllocError>
     ensures { IfOk result (λ text. string_bytes text ≡ columns count bytes) }
 {
     format!(in alloc; "{count:>10} {bytes:>12} ")
 }
 
-/// A new address as eight digits, or as many dashes where there is none.
+/// Returns a new address as eight digits, or eight dashes if there is none.
 fn place_text(alloc: Global, place: Option<Address>) -> Result<String, AllocError>
     ensures { IfOk result (λ text. string_bytes text ≡ place_text place) }
 {

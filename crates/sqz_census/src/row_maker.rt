@@ -16,7 +16,7 @@ use sqz_trace::Weak;
 use std::alloc::{AllocError, Global};
 use std::thread::Threads;
 
-/// What rows are made by: the heap, what becomes of weak slots, and the new address of each live
+/// What rows are made from: the heap, the policy on weak slots, and the new address of each live
 /// object.
 #[derive(Drop)]
 pub(crate) struct RowMaker<'a> {
@@ -27,7 +27,7 @@ pub(crate) struct RowMaker<'a> {
 }
 
 impl RowMaker<'_> {
-    /// The row of each share. Made in several threads.
+    /// Returns the row of each share. Several threads make the rows.
     pub fn rows_of(
         &self,
         rt: &(impl Threads + Sync),
@@ -51,7 +51,7 @@ impl RowMaker<'_> {
             .collect::<Result<Vec<Row>, AllocError>>(rt, alloc)?
     }
 
-    /// The row of a share.
+    /// Returns the row of a share.
     fn row_of(&self, alloc: Global, share: Share) -> Result<Row, AllocError>
         requires { share.key < key_count self.now.heap.now }
         ensures { IfOk result (λ row.

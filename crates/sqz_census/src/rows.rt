@@ -20,11 +20,11 @@ use sqz_trace::{Marks, Weak};
 use std::alloc::Global;
 use std::thread::Threads;
 
-/// The rows of the census (the class histogram) of the marked objects, if these are the reachable
-/// ones and the places are theirs: one for each class that has such an object, and one for each
-/// compact index of such objects without a class. Rows with more bytes come first; among equal
-/// bytes those of classes, by their new addresses, and then those of compact indexes. Made in
-/// several threads. Fails only if out of memory.
+/// Returns the rows of the census (class histogram) of the marked objects, provided that these are
+/// the reachable ones and `forward` has their new addresses. There is one row for each class with
+/// a marked object, and one for each compact index of marked objects without a class. Rows with
+/// more bytes come first; on a tie, classes come by their new addresses, and then compact indexes.
+/// Several threads make the rows. Fails only if out of memory.
 pub fn census<'a>(
     rt: &(impl Threads + Sync),
     alloc: Global,

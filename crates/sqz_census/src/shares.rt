@@ -1,4 +1,4 @@
-//! The groups that have live objects, in the order of the census.
+//! The groups that have live objects, in census order.
 
 ghost use Rattle.std.specs.Prelude.{◌≡◌, ◌-◌, length, IfOk};
 ghost use Rattle.sqz_census.specs.Tallies.{FitWords};
@@ -7,7 +7,7 @@ ghost use Rattle.sqz_census.specs.Shares.{AreShares, AreSharesInOrder};
 use crate::tallies::Tally;
 use std::alloc::{AllocError, Global};
 
-/// What a group has of the live objects.
+/// The live objects of a group: their number, and their total length in words.
 #[derive(Clone, Copy)]
 pub(crate) struct Share {
     pub(crate) key: u32,
@@ -15,8 +15,8 @@ pub(crate) struct Share {
     pub(crate) words: u32,
 }
 
-/// The shares of the groups that have live objects: those with more words come first, of the others
-/// those with lower keys.
+/// Returns the shares of the groups that have live objects: those with more words come first, and
+/// on a tie those with lower keys.
 pub(crate) fn shares_of(alloc: Global, tallies: &[Tally]) -> Result<Vec<Share>, AllocError>
     requires { FitWords tallies.now }
     ensures { IfOk result (λ shares. AreSharesInOrder tallies.now shares.items) }
@@ -30,7 +30,7 @@ pub(crate) fn shares_of(alloc: Global, tallies: &[Tally]) -> Result<Vec<Share>, 
     Ok(shares)
 }
 
-/// The shares of the groups that have live objects, by key.
+/// Returns the shares of the groups that have live objects, by key.
 fn shares_by_key(alloc: Global, tallies: &[Tally]) -> Result<Vec<Share>, AllocError>
     requires { FitWords tallies.now }
     ensures { IfOk result (λ shares. AreShares tallies.now (length tallies.now) shares.items) }

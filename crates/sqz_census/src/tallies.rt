@@ -1,4 +1,4 @@
-//! How many live objects each group has.
+//! The number of live objects of each group.
 
 ghost use Rattle.std.specs.Prelude.{◌≡◌, length, IfOk};
 ghost use Rattle.sqz_image.specs.Objects.{object_count};
@@ -13,14 +13,14 @@ use sqz_image::laws::heap_bounds;
 use sqz_trace::Marks;
 use std::alloc::{AllocError, Global};
 
-/// How many live objects a group has, and how many words these have together.
+/// The number of live objects of a group, and their total length in words.
 #[derive(Clone, Copy)]
 pub(crate) struct Tally {
     pub(crate) count: u32,
     pub(crate) words: u32,
 }
 
-/// The tally of each group, by key. The policy on weak slots is that of the entries.
+/// Returns the tally of each group, by key. The policy on weak slots is that of the entries.
 pub(crate) fn tallies_of(
     alloc: Global,
     heap: &Heap,

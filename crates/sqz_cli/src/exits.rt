@@ -1,4 +1,4 @@
-//! What the program ends with.
+//! The exit codes of the programs.
 
 ghost use Rattle.std.specs.Prelude.{◌≡◌};
 ghost use Rattle.sqz_cli.specs.Exits.{exit_of};
@@ -11,16 +11,16 @@ pub const DONE: u8 = 0;
 /// The image is at fault.
 pub const BAD_IMAGE: u8 = 1;
 
-/// The words of the command line are at fault.
+/// The command line is at fault.
 pub const BAD_ARGUMENTS: u8 = 2;
 
 /// A file could not be read or written.
 pub(crate) const DEVICE_FAILED: u8 = 3;
 
-/// Memory was refused.
+/// Out of memory.
 pub(crate) const OUT_OF_MEMORY: u8 = 4;
 
-/// What the program ends with where this fault stopped it.
+/// Returns the exit code after this fault.
 pub(crate) fn exit_of(fault: &Fault) -> u8
     ensures { result ≡ exit_of fault.now }
 {

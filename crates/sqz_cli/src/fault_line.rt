@@ -1,4 +1,5 @@
-//! The line that tells a fault. It is made without memory, since want of memory is told so too.
+//! The line that reports a fault. It is made without allocating memory, since it also reports that
+//! memory ran out.
 
 ghost use Rattle.std.specs.Prelude.{◌≡◌, ◌+◌, ◌<◌, ◌≤◌, ◌++◌, [], length, codes};
 ghost use Rattle.arrayvec.specs.ArrayVec.{array_vec_len};
@@ -11,13 +12,13 @@ use std::fmt;
 use std::fmt::Write;
 use std::marker::Model;
 
-/// How many bytes of a fault's text there is room for. No text has more.
+/// The room for a fault's text in bytes. No text is longer.
 const TEXT: usize = 96;
 
-/// How many bytes a line has room for: the text, and up to eleven bytes round it.
+/// The room for a line in bytes: the text, and up to eleven bytes around it.
 const LINE: usize = 112;
 
-/// The text of a fault, without ends of lines. Contracts see its bytes.
+/// The text of a fault, without line ends. Contracts see its bytes.
 #[derive(Drop)]
 struct Text {
     bytes: ArrayVec<u8, TEXT>,
@@ -35,7 +36,7 @@ impl Model for Text {
 }
 
 impl Text {
-    /// No text.
+    /// Returns the empty text.
     fn new() -> Text
         ensures { result ≡ [] }
     {
@@ -44,14 +45,14 @@ impl Text {
         }
     }
 
-    /// Adds a byte, where it ends no line and there is room.
+    /// Appends a byte, unless it ends a line or there is no room.
     fn push(&mut self, byte: u8) {
         if byte != b'\n' && !self.bytes.is_full() {
             self.bytes.push(byte);
         }
     }
 
-    /// The bytes.
+    /// Returns the bytes.
     fn as_bytes(&self) -> &[u8]
         ensures bytes { result.now ≡ self.now }
         ensures one_line { HasNoEnd result.now }
@@ -70,7 +71,7 @@ impl fmt::Write for Text {
     }
 }
 
-/// The line of a fault: its number, what it is, and the end of the line.
+/// Returns the line of a fault: its number, its text, and the end of the line.
 pub(crate) fn fault_line(fault: &Fault) -> ArrayVec<u8, LINE>
     ensures { IsFaultLine fault.now result.items }
 {
@@ -79,7 +80,7 @@ pub(crate) fn fault_line(fault: &Fault) -> ArrayVec<u8, LINE>
     line_of(fault.number(), text.as_bytes())
 }
 
-/// The line with this number and text.
+/// Returns the line with this number and text.
 fn line_of(number: u32, text: &[u8]) -> ArrayVec<u8, LINE>
     requires few { number < 100 }
     requires short { length text.now ≤ TEXT }
@@ -98,7 +99,7 @@ fn line_of(number: u32, text: &[u8]) -> ArrayVec<u8, LINE>
     line
 }
 
-/// Adds bytes to a line that has room for them.
+/// Appends bytes to a line that has room for them.
 fn add(line: &mut ArrayVec<u8, LINE>, bytes: &[u8])
     requires { array_vec_len line.old + length bytes.now ≤ LINE }
     ensures bytes { line.new.items ≡ line.old.items ++ bytes.now }

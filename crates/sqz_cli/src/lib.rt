@@ -1,5 +1,5 @@
-//! What the programs share on the command line: its words, the file that is written, lines of
-//! faults and exits.
+//! What the programs share: the words of the command line, the output file, fault lines and exit
+//! codes.
 #![tactic(auto)]
 
 mod exits;

@@ -1,4 +1,4 @@
-//! The file that is written.
+//! The output file.
 
 ghost use Rattle.std.specs.Prelude.{◌≡◌, ◌<◌, ◌≤◌, None, length, IfOk};
 ghost use Rattle.std.specs.Io.KnownBytes.{Keeps, WriteAppends};
@@ -11,7 +11,8 @@ use std::io;
 use std::io::Write;
 use std::rt::Files;
 
-/// A file that the first write makes, or empties. Until then nothing is done to what has its path.
+/// An output file that the first write creates or truncates. Before that, nothing at its path
+/// changes.
 #[derive(Drop)]
 pub struct OutputFile<'a, T: Files> {
     rt: &'a T,
@@ -23,7 +24,7 @@ pub struct OutputFile<'a, T: Files> {
 }
 
 impl<'a, T: Files> OutputFile<'a, T> {
-    /// The file with this path, which is not made yet.
+    /// Returns the file with this path, which is not created yet.
     pub fn new(rt: &'a T, path: &'a str) -> Self
         ensures not_made { ⟦<OutputFile<'a, T> as Sink>⟧.state result ≡ new_output }
         ensures path { result.path.now ≡ path.entry.now }
@@ -36,7 +37,7 @@ impl<'a, T: Files> OutputFile<'a, T> {
         }
     }
 
-    /// Writes to the file, which is made if it was not. The write has been counted.
+    /// Writes to the file, and creates it before that if needed. The write has been counted.
     fn write_to_file(&mut self, from: &[u8]) -> io::Result<usize>
         requires { 0 < self.old.calls.writes }
         ensures count { IfOk result (λ count. count ≤ length from.now) }
@@ -53,7 +54,7 @@ impl<'a, T: Files> OutputFile<'a, T> {
         }
     }
 
-    /// Passes on what the file took, if it was made.
+    /// Flushes the file, if it was created.
     fn flush_file(&mut self) -> io::Result<()>
         ensures same_calls { self.new.calls ≡ self.old.calls }
         ensures same_bytes { Keeps (known_bytes T.File.contents self.old.file) (known_bytes

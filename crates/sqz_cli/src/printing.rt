@@ -1,4 +1,4 @@
-//! Text to a sink.
+//! Printing text to a sink.
 
 ghost use Rattle.sqz_cli.specs.Lines.{Prints};
 
@@ -7,7 +7,7 @@ use sqz_image::{Sink, write_all};
 use std::fmt;
 use std::fmt::Write;
 
-/// Prints a text, and takes no memory for it. If the sink fails, it took a front of the text.
+/// Prints a text, without allocating memory. If the sink fails, it has taken a prefix of the text.
 pub fn print<W: Sink>(sink: &mut W, text: &[u8])
     ensures { Prints (W.state sink.old) (W.state sink.new) text.now }
 {
@@ -38,8 +38,8 @@ impl<W: Sink> fmt::Write for TextSink<'_, W> {
     }
 }
 
-/// Prints what `clap` says in place of arguments, and takes no memory for it. If the sink fails,
-/// the rest is left out. There is no clause, since the contracts of `clap` do not tell this text.
+/// Prints the text of a `clap` error, without allocating memory. If the sink fails, the rest is
+/// dropped. There is no clause, since the contracts of `clap` do not state this text.
 pub(crate) fn print_error<W: Sink>(sink: &mut W, error: &Error) {
     let mut text = TextSink { sink };
     let _ = write!(text, "{error}");

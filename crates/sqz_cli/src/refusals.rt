@@ -1,4 +1,4 @@
-//! What the program prints and ends with where a fault or its words stop it.
+//! What a program prints, and its exit code, after a fault or a command line that asks for no run.
 
 ghost use Rattle.std.specs.Prelude.{◌≡◌, ◌<◌};
 ghost use Rattle.clap.specs.Words.{kind_of};
@@ -14,7 +14,7 @@ use clap::Error;
 use clap::error::ErrorKind;
 use sqz_image::{Fault, Sink};
 
-/// Prints the line of a fault, and answers what the program is to end with.
+/// Prints the line of a fault, and returns the exit code.
 pub fn refuse<E: Sink>(fault: &Fault, err: &mut E) -> u8
     ensures exit { result ≡ exit_of fault.now }
     ensures line { PrintsFault (E.state err.old) (E.state err.new) fault.now }
@@ -23,7 +23,8 @@ pub fn refuse<E: Sink>(fault: &Fault, err: &mut E) -> u8
     exit_of(fault)
 }
 
-/// Prints what is said in place of arguments, and answers what the program is to end with.
+/// Prints the help or the error that a command line gives in place of arguments, and returns the
+/// exit code.
 pub fn explain<C: Sink, E: Sink>(error: &Error, out: &mut C, err: &mut E) -> u8
     ensures exit { result ≡ exit_of_kind (kind_of error.now) }
     ensures memory { kind_of error.now ≡ kinds.OutOfMemory

@@ -9,10 +9,10 @@ use std::io::ErrorKind;
 use std::rt::Env;
 use std::{env, io};
 
-/// The words of the command line, of which the first is the program's name.
+/// Returns the words of the command line; the first is the program's name.
 ///
-/// If there is no memory for them, or one of them is no text, one line on `err` says so, and the
-/// error is the exit of the program.
+/// If out of memory, or if a word is not valid text, it prints one line on `err` and fails with
+/// the exit code of the program.
 pub fn words_or_exit<R: Env + AllocGlobal, E: Sink>(rt: &R, err: &mut E) -> Result<Vec<String>, u8>
     ensures exit { IfErr result (λ exit. (exit ≡ 4) ⊎ (exit ≡ 2)) }
     ensures silent { IsOk result → err.new ≡ err.old }
@@ -26,7 +26,7 @@ pub fn words_or_exit<R: Env + AllocGlobal, E: Sink>(rt: &R, err: &mut E) -> Resu
     }
 }
 
-/// The words of the command line. Fails if a word is no text or there is no memory for it.
+/// Returns the words of the command line. Fails if a word is not valid text, or if out of memory.
 fn words<R: Env + AllocGlobal>(rt: &R) -> io::Result<Vec<String>> {
     Ok(env::args(rt)?.collect(rt.alloc())?)
 }

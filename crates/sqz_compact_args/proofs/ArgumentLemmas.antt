@@ -1,4 +1,5 @@
--- What a parse reads of an argument that has a parser, in a command that excludes nothing.
+-- What a parse gives for an argument with a parser, in a command whose arguments exclude no
+-- others.
 -- Serves `CommandLineLemmas`.
 use Rattle.std.proofs.Common.{◌≡◌, ◌∙◌, ◌++◌, ◌||◌, ◌<◌, ◌≤◌, ℕ, zero, suc, Bool, true, false, List, [], ◌∷◌}
 use Rattle.std.proofs.Common.{length, Option, Some, None, is_some, refl, sym, ap, subst, inl, inr, arith}

@@ -1,4 +1,4 @@
--- What holds of the program's command, and of what a parse of it gives.
+-- What holds of the program's command, and of the result of parsing it.
 -- Serves `arguments::command` and `arguments::read_arguments`.
 use Rattle.std.proofs.Common.{◌≡◌, ◌⊎◌, ◌<◌, ◌∙◌, ℕ, ap, refl, sym, arith, inl, inr, zero, suc, Bool, true, false}
 use Rattle.std.proofs.Common.{◌==◌, ◌&&◌, ◌||◌, not, length, Option, Some, None, IsTrue, ◌↔◌, ap₂, subst, List, []}

@@ -11,15 +11,15 @@ use Rattle.clap.specs.declared.builder.value_parser.ValueParser.{ValueParser}
 use Rattle.clap.specs.declared.builder.value_parser.ValueParser.TheVariants as vp
 use Rattle.clap.specs.declared.parser.matches.ArgMatches.{ArgMatches}
 
--- a word that has to be there
+-- a required positional argument
 abbrev pub required_word : Text → Rule
 required_word name = record (new_rule name) { required = true; action = Some Set }
 
--- numbers of 32 bits
+-- 32-bit numbers
 abbrev pub number_parser : ValueParser
 number_parser = vp.Signed (pos 0) (pos 4294967295)
 
--- `--NAME N`, with the number that it has where it is not there
+-- `--NAME N`, with a default
 abbrev pub number_option : Text → Text → Rule
 number_option name initial = record (new_rule name) {
   long = Some name;
@@ -37,7 +37,7 @@ flag_option name = record (new_rule name) { long = Some name; action = Some SetT
 abbrev pub with_version : App → App
 with_version app = record { top = record app.top { has_version = true }; subs = app.subs }
 
--- the path of the image that is read, that of the image that is written, and the options
+-- the path of the image that is read, the path of the image that is written, and the options
 abbrev pub command_line : App
 command_line =
     with_rule (with_rule (with_rule (with_rule (with_rule (with_rule (with_version (new_app (codes "sqzcompact")))
@@ -45,12 +45,12 @@ command_line =
     (number_option (codes "workers") (codes "4"))) (number_option (codes "region-words") (codes "65536")))
     (flag_option (codes "census"))) (flag_option (codes "clear-weak"))
 
--- the option has this number: its text is that in decimal digits, perhaps behind a plus
+-- the option has this number: its text is the number in decimal digits, perhaps after a plus sign
 abbrev pub ReadsNumber : List Row → Text → ℕ → Type 0
 ReadsNumber rows name number = (text : Text) × (one_of name rows ≡ Some text)
     × IsNumeral 10 (without_leading_plus text) × (digits_value 10 (without_leading_plus text) ≡ number)
 
--- the argument is a word that has to be there, and excludes nothing
+-- the argument is a required word, and excludes no other
 pub record IsRequired (name : Text) (a : Arg) : Type 0 where
   pub id : a.id.now ≡ name
   pub rule : rule_of a ≡ required_word name
@@ -58,7 +58,7 @@ pub record IsRequired (name : Text) (a : Arg) : Type 0 where
   pub local : a.global ≡ false
   pub value : TakesValue a
 
--- the argument is an option with a number, and excludes nothing
+-- the argument is an option with a number, and excludes no other
 pub record IsNumber (name initial : Text) (a : Arg) : Type 0 where
   pub id : a.id.now ≡ name
   pub rule : rule_of a ≡ number_option name initial
@@ -70,7 +70,7 @@ pub record IsNumber (name initial : Text) (a : Arg) : Type 0 where
   pub whole : a.val_delim ≡ None
   pub least : 1 ≤ least_values a
 
--- the argument is an option that is there or not, and excludes nothing
+-- the argument is an option without a value, and excludes no other
 pub record IsFlag (name : Text) (a : Arg) : Type 0 where
   pub id : a.id.now ≡ name
   pub rule : rule_of a ≡ flag_option name
@@ -78,16 +78,17 @@ pub record IsFlag (name : Text) (a : Arg) : Type 0 where
   pub local : a.global ≡ false
   pub parser : a.value_parser ≡ Some vp.Bool
 
--- what the words gave the option is read as a number of 32 bits
+-- the option's value is the text of a 32-bit number
 abbrev pub HasNumber : ArgMatches → Text → Type 0
 HasNumber m name = (text : Text) × (one_text (found_of m) name ≡ Some (without_minus text))
     × IsSignedIn (pos 0) (pos 4294967295) text
 
--- what the words gave the flag, where they gave it any, is one of two
+-- the option's value, if it has one, is `true` or `false`
 abbrev pub IsFlagText : ArgMatches → Text → Type 0
 IsFlagText m name = (text : Text) → one_text (found_of m) name ≡ Some text → (text ≡ codes "true") ⊎ (text ≡ codes "false")
 
--- where words are taken, both paths are among them, the options with a number have one, and each flag has a word of two
+-- if the words are accepted, both paths are among them, each option with a number has one, and
+-- each option without a value is `true` or `false`
 pub record GivesAll (m : ArgMatches) : Type 0 where
   pub input : is_some (first_value (found_of m) (codes "IN")) ≡ true
   pub output : is_some (first_value (found_of m) (codes "OUT")) ≡ true

@@ -10,26 +10,26 @@ ghost use Rattle.sqz_compact_args.specs.CommandLine.{ReadsNumber, command_line};
 use clap::{Arg, ArgAction, Command, Error, value_parser};
 use std::alloc::{AllocError, Global};
 
-/// What the words of a command line ask for.
+/// What a command line asks for.
 #[derive(Clone, Copy)]
 pub struct Arguments<'a> {
     /// The path of the image that is read.
     pub input: &'a str,
     /// The path of the image that is written.
     pub output: &'a str,
-    /// How many workers mark and move the objects.
+    /// The number of workers that mark and move the objects.
     pub workers: u32,
-    /// How many words a region has.
+    /// The number of words of a region.
     pub region_words: u32,
     /// Whether a census is asked for.
     pub census: bool,
-    /// Whether what only weak slots name is let go of.
+    /// Whether weak slots are cleared, so that they keep nothing alive.
     pub clear_weak: bool,
 }
 
-/// Reads the words of a command line, of which the first is the program's name.
+/// Parses the words of a command line; the first is the program's name.
 ///
-/// Fails with what is to be printed: the help, where it was asked for, or what is wrong.
+/// Fails with what is to be printed: the help if it was asked for, else what is wrong.
 pub fn read_arguments<'a>(alloc: Global, words: &'a [String]) -> Result<Arguments<'a>, Error>
     ensures input { IfOk result (λ arguments.
         first_of (codes "IN") (matches_of command_line (map string_bytes words.entry.now))
@@ -62,7 +62,7 @@ pub fn read_arguments<'a>(alloc: Global, words: &'a [String]) -> Result<Argument
     })
 }
 
-/// What the program takes.
+/// Returns the command line that the program accepts.
 fn command<'a>(alloc: Global) -> Result<Command<'a>, AllocError>
     ensures shape { IfOk result (λ command. app_of command ≡ command_line) }
     ensures given { IfOk result (λ command.
@@ -97,7 +97,7 @@ fn command<'a>(alloc: Global) -> Result<Command<'a>, AllocError>
         ))
 }
 
-/// A word that has to be there.
+/// Returns a required positional argument.
 fn required<'a>(alloc: Global, name: &'a str, help: &'a str) -> Arg<'a>
     ensures { IsRequired name.entry.now result }
 {
@@ -107,7 +107,7 @@ fn required<'a>(alloc: Global, name: &'a str, help: &'a str) -> Arg<'a>
         .action(ArgAction::Set)
 }
 
-/// An option with a number of 32 bits, which has a default.
+/// Returns an option with a 32-bit number and a default.
 fn number<'a>(alloc: Global, name: &'a str, default: &'a str, help: &'a str) -> Arg<'a>
     ensures { IsNumber name.entry.now default.entry.now result }
 {
@@ -120,7 +120,7 @@ fn number<'a>(alloc: Global, name: &'a str, default: &'a str, help: &'a str) -> 
         .default_value(default)
 }
 
-/// An option that is there or not.
+/// Returns an option without a value.
 fn flag<'a>(alloc: Global, name: &'a str, help: &'a str) -> Arg<'a>
     ensures { IsFlag name.entry.now result }
 {

@@ -1,10 +1,10 @@
-//! A law about the definitions, the contract of a function that does nothing.
+//! A law of the definitions: the contract of a function that does nothing.
 
 ghost use Rattle.std.specs.Prelude.{◌≡◌, [], ◌∷◌, Some, codes};
 ghost use Rattle.clap.specs.Words.{matches_of, one_of};
 ghost use Rattle.sqz_compact_args.specs.CommandLine.{command_line};
 
-/// What is read for the options of two command lines, one with two paths alone, and one with each
+/// The values of the options on two command lines: one with only the two paths, and one with each
 /// option before them.
 pub fn worked_options()
     ensures defaults { let rows = matches_of command_line (codes "sqzcompact" ∷ codes "a" ∷ codes "b" ∷ []) in

@@ -1,4 +1,4 @@
-//! What the words of a command line ask for.
+//! What a command line of `sqzcompact` asks for.
 #![tactic(auto)]
 
 mod arguments;

@@ -1,5 +1,7 @@
--- Whether paths to some of the objects show that these are the reachable ones, by a test that computes.
--- Serves `marking::not_yet`, `moved_objects::dead_cycle`, the functions of `questions`, `RunTest` and `WorkedImages`.
+-- Whether paths to some of the objects show that these are the reachable ones, by a test that
+-- computes.
+-- Serves `marking::not_yet`, `moved_objects::dead_cycle`, the functions of `questions`, `RunTest`
+-- and `WorkedImages`.
 use Rattle.std.proofs.Common.{◌≡◌, ℕ, zero, suc, ◌+◌, ◌<◌, Bool, true, false, ◌&&◌, ◌||◌, eqb, ltb, nat_lt, List, []}
 use Rattle.std.proofs.Common.{◌∷◌, length, map, slice_index, slice_index_or, if◌then◌else◌, Option, Some, None, refl}
 use Rattle.std.proofs.Common.{sym, ap, subst, ◌∙◌, arith, inl, inr}
@@ -22,7 +24,7 @@ use Rattle.sqz_trace.proofs.ReachabilityLemmas.{IsClosed, IsTracing, MarksReacha
 
 -- ---- slots
 
--- the class word, whether or not an object has one, and so many fields
+-- the class word, whether or not an object has one, and the first `count` fields
 abbrev pub possible_slots : ℕ → List Slot
 possible_slots count = ClassWord ∷ field_slots 0 count
 
@@ -54,7 +56,7 @@ is_index-true None index h = absurd cc
 is_index-true (Some named) index h = ap (λ (n : ℕ). Some n) (eqb-true named index h)
 
 module _ (memory : Memory) (weak : Weak) where
-  -- whether one of these slots names the object, among so many fields
+  -- whether one of these slots points to the object, among the first `count` fields
   abbrev pub some_names : ℕ → List ℕ → ℕ → List Slot → Bool
   some_names count chunk to [] = false
   some_names count chunk to (slot ∷ slots) = is_index (named_among memory count chunk slot) to || some_names count chunk to slots
@@ -112,7 +114,7 @@ module _ (memory : Memory) where
   test_of_named true word to names = refl
   test_of_named false word to names = absurd cc
 
-  -- a field that names an object is one of so many
+  -- a field that points to an object is among these fields
   field_is_among : (count : ℕ) (chunk : List ℕ) (index to : ℕ) → named_among memory count chunk (Field index) ≡ Some to
       → index < count
   field_is_among count chunk index to names =

@@ -1,6 +1,6 @@
--- A worked image by what computes: what a file holds, and what becomes of it.
--- Serves the worked images of `compacted`, `defects`, `prefixes`, `unreadable` and `weak_slots`, and
--- `moved_objects::dead_cycle`.
+-- Worked images by computation: what a file holds, and what its compaction is.
+-- Serves the worked images of `compacted`, `defects`, `prefixes`, `unreadable` and `weak_slots`,
+-- and `moved_objects::dead_cycle`.
 use Rattle.std.proofs.Common.{◌≡◌, ℕ, ◌+◌, Bool, true, false, ◌&&◌, eqb, List, [], ◌∷◌, ◌++◌, length, take, drop, Option, Some}
 use Rattle.std.proofs.Common.{None, refl, sym, ap, subst, ◌∙◌, arith, inl, inr}
 use Rattle.std.specs.Option.{is_some, is_none}
@@ -228,7 +228,7 @@ abbrev pub paths_by_stack : List (Option (List ℕ))
 paths_by_stack =
     (Some (0 ∷ [])) ∷ None ∷ (Some (4 ∷ 2 ∷ [])) ∷ (Some (4 ∷ 3 ∷ [])) ∷ (Some (4 ∷ [])) ∷ (Some []) ∷ []
 
--- a weak object, of which one slot names an object that nothing else names
+-- a weak object with a slot that points to an object to which no other slot points
 abbrev pub with_weak_slot : List (List ℕ)
 with_weak_slot =
     (0x1007 ∷ []) ∷ (0x1113 ∷ 1 ∷ 1 ∷ 0x405 ∷ []) ∷ (0x100B ∷ 1 ∷ []) ∷ (0x1005 ∷ 0x409 ∷ 0x1014 ∷ []) ∷

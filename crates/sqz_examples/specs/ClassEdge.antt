@@ -3,8 +3,8 @@ use Rattle.std.specs.Prelude.{Bool, true, false, List, [], ◌∷◌}
 use Rattle.sqz_object.specs.declared.order.Order.TheVariants.{Little}
 use Rattle.sqz_image.specs.Objects.{Memory}
 
--- five objects: nil; an array that is dead; a class; its instance, of three words; and the special objects array, which names nil and the
--- instance
+-- five objects: nil; an array that is dead; a class; its instance, of three words; and the special
+-- objects array, which points to nil and the instance
 abbrev pub class_edge : Memory
 class_edge =
     record {

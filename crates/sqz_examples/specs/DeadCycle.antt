@@ -6,7 +6,8 @@ use Rattle.sqz_trace.specs.declared.weak.Weak.TheVariants.{Keep}
 use Rattle.sqz_regions.specs.Regions.{Regioning, At}
 use Rattle.sqz_marks.specs.Core.{Marking, State, Event, marking_of, opening}
 
--- six objects: nil; 1 and 3, which name each other; 2 and 4, which do so and are dead; and the special objects array, which names 0 and 1
+-- six objects: nil; 1 and 3, which point to each other; 2 and 4, which do so and are dead; and the
+-- special objects array, which points to 0 and 1
 abbrev pub dead_cycle : Memory
 dead_cycle =
     record {
@@ -18,11 +19,11 @@ dead_cycle =
           ∷ (0x320F ∷ 0x1000 ∷ 0x1004 ∷ []) ∷ [];
     }
 
--- the same, cut before objects 1 and 2
+-- the same memory, cut before objects 1 and 2
 abbrev pub dead_cycle_heap : Regioning
 dead_cycle_heap = record { cut = At (1 ∷ 3 ∷ []); memory = dead_cycle }
 
--- its marking, in which the special objects array is the start
+-- its marking; the special objects array is the start
 abbrev pub dead_cycle_marking : Marking
 dead_cycle_marking = marking_of dead_cycle_heap Keep 2 5
 

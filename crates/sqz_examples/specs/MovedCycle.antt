@@ -1,4 +1,4 @@
--- The image with a dead cycle as it is left by its compaction.
+-- The compaction of the image with a dead cycle.
 use Rattle.std.specs.Prelude.{Bool, true, false, List, [], ◌∷◌}
 use Rattle.sqz_object.specs.declared.order.Order.TheVariants.{Little}
 use Rattle.sqz_image.specs.Objects.{Memory}
@@ -7,7 +7,8 @@ use Rattle.sqz_image.specs.Objects.{Memory}
 abbrev pub cycle_marks : List Bool
 cycle_marks = true ∷ true ∷ false ∷ true ∷ false ∷ true ∷ []
 
--- four objects: nil; 1 and 2, which name each other; and the special objects array, which names 0 and 1
+-- four objects: nil; 1 and 2, which point to each other; and the special objects array, which
+-- points to 0 and 1
 abbrev pub moved_cycle : Memory
 moved_cycle =
     record {

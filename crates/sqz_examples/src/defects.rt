@@ -1,5 +1,5 @@
 //! Images that have a defect: a reachable object without a class, a bad method or context, or a
-//! slot that names no object.
+//! slot that points to no object.
 //!
 //! An image is given as in [`crate::compacted`].
 
@@ -19,14 +19,14 @@ fn no_class()
         (NoClass 0x100C) }
 {}
 
-/// That an object has no class counts before a bad field.
+/// A missing class is reported before a bad field.
 fn no_class_before_field()
     ensures { IsRefused Keep
         (file_of Little (0x1007 ∷ 0x20B ∷ 0x1002 ∷ 0x320F ∷ 0x1000 ∷ 0x1004 ∷ []) 0x100C)
         (NoClass 0x1004) }
 {}
 
-/// That an object has no class counts before its being a bad method.
+/// A missing class is reported before a bad method.
 fn method_without_class()
     ensures { IsRefused Keep
         (file_of Little (0x1007 ∷ 0xC0B ∷ 0x1000 ∷ 0x320F ∷ 0x1000 ∷ 0x1004 ∷ []) 0x100C)
@@ -40,14 +40,14 @@ fn method_without_fields()
         (BadMethod 0x1004) }
 {}
 
-/// The first field of a method is an integer.
+/// The first field of a method is a SmallInteger; here it is an address.
 fn method_header()
     ensures { IsRefused Keep
         (file_of Little (0x1007 ∷ 0x5C0B ∷ 0x1000 ∷ 0x320F ∷ 0x1000 ∷ 0x1004 ∷ []) 0x100C)
         (BadMethod 0x1004) }
 {}
 
-/// The first field of a method is an integer, and no word that is neither that nor an address.
+/// The first field of a method is a SmallInteger; here it is neither that nor an address.
 fn odd_method_header()
     ensures { IsRefused Keep
         (file_of Little (0x1007 ∷ 0x5C0B ∷ 0x1002 ∷ 0x320F ∷ 0x1000 ∷ 0x1004 ∷ []) 0x100C)
@@ -61,7 +61,7 @@ fn too_many_literals()
         (BadMethod 0x1004) }
 {}
 
-/// The highest format is a method, too.
+/// The highest format is a method too.
 fn bad_method_of_highest_format()
     ensures { IsRefused Keep
         (file_of Little (0x1007 ∷ 0x5F0B ∷ 0x1000 ∷ 0x320F ∷ 0x1000 ∷ 0x1004 ∷ []) 0x100C)
@@ -75,14 +75,15 @@ fn all_ones()
         (BadMethod 0x1000) }
 {}
 
-/// That a method is bad counts before its class word.
+/// A bad method is reported before a bad class word.
 fn method_before_class_word()
     ensures { IsRefused Keep
         (file_of Little (0x1007 ∷ 0x2001 ∷ 0x5C09 ∷ 0x1000 ∷ 0x320F ∷ 0x1000 ∷ 0x1008 ∷ []) 0x1010)
         (BadMethod 0x1008) }
 {}
 
-/// All fields of a method that states too many literals lead on, here to an object without class.
+/// All fields of a method that states too many literals are traced, here to an object without a
+/// class.
 fn through_bad_method()
     ensures { let file = file_of Little
         (0x1007 ∷ 0x10B ∷ 1 ∷ 0x5C0F ∷ 0xFC01 ∷ 0x1004 ∷ 0x320F ∷ 0x1000 ∷ 0x100C ∷ [])
@@ -90,7 +91,7 @@ fn through_bad_method()
         IsRefused Keep file (NoClass 0x1004) }
 {}
 
-/// No field of a method leads on where the first is no integer.
+/// No field of a method is traced if the first is not a SmallInteger.
 fn not_through_method_header()
     ensures { let file = file_of Little
         (0x1007 ∷ 0x10B ∷ 1 ∷ 0x5C0B ∷ 0x1004 ∷ 0x320F ∷ 0x1000 ∷ 0x100C ∷ [])
@@ -112,14 +113,14 @@ fn short_context()
         (BadContext 0x1004) }
 {}
 
-/// Two fields are no context, for the stack pointer is the third.
+/// Two fields are not enough for a context, since the stack pointer is the third.
 fn context_of_two_fields()
     ensures { IsRefused Keep
         (file_of Little (0x1007 ∷ 0xD30F ∷ 1 ∷ 1 ∷ 0x320F ∷ 0x1000 ∷ 0x1004 ∷ []) 0x1010)
         (BadContext 0x1004) }
 {}
 
-/// A context has six fields below its stack, be that empty.
+/// A context has six fields below its stack, even if that is empty.
 fn context_of_five_fields()
     ensures { let file = file_of Little
         (0x1007 ∷ 0xD31B ∷ 0x1000 ∷ 1 ∷ 1 ∷ 0x1000 ∷ 0x1000 ∷ 0x320F ∷ 0x1000 ∷ 0x1004 ∷ [])
@@ -127,7 +128,7 @@ fn context_of_five_fields()
         IsRefused Keep file (BadContext 0x1004) }
 {}
 
-/// A context has these six where its stack pointer is no integer, too.
+/// A context has these six fields even if its stack pointer is not a SmallInteger.
 fn five_fields_without_stack_pointer()
     ensures { let file = file_of Little
         (0x1007 ∷ 0xD31B ∷ 0x1000 ∷ 1 ∷ 0x1000 ∷ 0x1000 ∷ 0x1000 ∷ 0x320F ∷ 0x1000 ∷ 0x1004 ∷ [])
@@ -173,14 +174,14 @@ fn bad_context_with_class_word()
         IsRefused Keep file (BadContext 0x1008) }
 {}
 
-/// That a context is bad counts before its class word.
+/// A bad context is reported before a bad class word.
 fn context_before_class_word()
     ensures { IsRefused Keep
         (file_of Little (0x1007 ∷ 0x2001 ∷ 0xD309 ∷ 1 ∷ 0x320F ∷ 0x1000 ∷ 0x1008 ∷ []) 0x1010)
         (BadContext 0x1008) }
 {}
 
-/// All fields of a context whose stack does not end within it lead on.
+/// All fields of a context whose stack does not end within it are traced.
 fn through_bad_context()
     ensures { let file = file_of Little
         (0x1007 ∷ 0x10B ∷ 1 ∷ 0xD31F ∷ 0x1004 ∷ 1 ∷ 3 ∷ 1 ∷ 1 ∷ 1 ∷ 0x320F ∷ 0x1000 ∷ 0x100C ∷ [])
@@ -188,7 +189,7 @@ fn through_bad_context()
         IsRefused Keep file (NoClass 0x1004) }
 {}
 
-/// No field of a context leads on where the stack pointer is negative.
+/// No field of a context is traced if the stack pointer is negative.
 fn not_through_negative_stack()
     ensures { let file = file_of Little
         (0x1007 ∷ 0x10B ∷ 1 ∷ 0xD31F ∷ 0x1004 ∷ 1 ∷ 0xFFFFFFFF ∷ 1 ∷ 1 ∷ 1 ∷ 0x320F ∷ 0x1000 ∷
@@ -197,14 +198,15 @@ fn not_through_negative_stack()
         IsRefused Keep file (BadContext 0x100C) }
 {}
 
-/// A traced field that is no integer names an object; this word is not the address of any word.
+/// A traced field that is not a SmallInteger points to an object; this word is not the address of
+/// any word.
 fn odd_field()
     ensures { IsRefused Keep
         (file_of Little (0x1007 ∷ 0x320B ∷ 0x1002 ∷ []) 0x1004)
         (BadPointer 0x1004 (Field 0)) }
 {}
 
-/// The address of an object is that of its base header, and not that of its class word.
+/// The address of an object is that of its base header, not that of its class word.
 fn field_names_class_word()
     ensures { let file = file_of Little
         (0x1007 ∷ 0x320F ∷ 1 ∷ 1 ∷ 0x100B ∷ 1 ∷ 0x1011 ∷ 0x109 ∷ 1 ∷
@@ -213,42 +215,42 @@ fn field_names_class_word()
         IsRefused Keep file (BadPointer 0x1024 (Field 1)) }
 {}
 
-/// At the address of a field there is no object.
+/// There is no object at the address of a field.
 fn field_names_field()
     ensures { IsRefused Keep
         (file_of Little (0x1007 ∷ 0x320B ∷ 0x1008 ∷ []) 0x1004)
         (BadPointer 0x1004 (Field 0)) }
 {}
 
-/// A free chunk is no object that a field could name.
+/// A free chunk is not an object that a field could point to.
 fn field_names_free_chunk()
     ensures { IsRefused Keep
         (file_of Little (0x1007 ∷ 0xE ∷ 1 ∷ 1 ∷ 0x320B ∷ 0x1004 ∷ []) 0x1010)
         (BadPointer 0x1010 (Field 0)) }
 {}
 
-/// Behind the last word there is no object.
+/// There is no object after the last word.
 fn field_names_end()
     ensures { IsRefused Keep
         (file_of Little (0x1007 ∷ 0x320B ∷ 0x100C ∷ []) 0x1004)
         (BadPointer 0x1004 (Field 0)) }
 {}
 
-/// Below the first word there is no object.
+/// There is no object below the first word.
 fn field_below_base()
     ensures { IsRefused Keep
         (file_of Little (0x1007 ∷ 0x320B ∷ 0 ∷ []) 0x1004)
         (BadPointer 0x1004 (Field 0)) }
 {}
 
-/// A literal of a method names an object.
+/// A literal of a method points to an object.
 fn bad_literal()
     ensures { IsRefused Keep
         (file_of Little (0x1007 ∷ 0x5C0F ∷ 0x401 ∷ 0x1002 ∷ 0x320F ∷ 0x1000 ∷ 0x1004 ∷ []) 0x1010)
         (BadPointer 0x1004 (Field 1)) }
 {}
 
-/// A stack pointer that is no integer names an object.
+/// A stack pointer that is not a SmallInteger points to an object.
 fn odd_stack_pointer()
     ensures { let file = file_of Little
         (0x1007 ∷ 0xD31F ∷ 0x1000 ∷ 1 ∷ 0x1002 ∷ 0x1000 ∷ 0x1000 ∷ 0x1000 ∷ 0x320F ∷ 0x1000 ∷
@@ -257,14 +259,14 @@ fn odd_stack_pointer()
         IsRefused Keep file (BadPointer 0x1004 (Field 2)) }
 {}
 
-/// Of two bad fields the first counts.
+/// The first of two bad fields is reported.
 fn first_bad_field()
     ensures { IsRefused Keep
         (file_of Little (0x1007 ∷ 0x3213 ∷ 0x1000 ∷ 0x1002 ∷ 0x1006 ∷ []) 0x1004)
         (BadPointer 0x1004 (Field 1)) }
 {}
 
-/// A class word names an object; at the address in this one there is none.
+/// A class word points to an object; there is none at the address in this one.
 fn bad_class_word()
     ensures { let file = file_of Little
         (0x1007 ∷ 0x320F ∷ 1 ∷ 1 ∷ 0x100B ∷ 1 ∷ 0x1015 ∷ 0x109 ∷ 1 ∷
@@ -273,28 +275,28 @@ fn bad_class_word()
         IsRefused Keep file (BadPointer 0x101C ClassWord) }
 {}
 
-/// The class word in a header of three words names an object, too.
+/// The class word in a header of three words points to an object too.
 fn bad_class_of_three_words()
     ensures { IsRefused Keep
         (file_of Little (0x1007 ∷ 8 ∷ 0x1004 ∷ 0x200 ∷ 1 ∷ 0x320F ∷ 0x1000 ∷ 0x100C ∷ []) 0x1014)
         (BadPointer 0x100C ClassWord) }
 {}
 
-/// A bad class word counts before a bad field.
+/// A bad class word is reported before a bad field.
 fn class_word_before_field()
     ensures { IsRefused Keep
         (file_of Little (0x1007 ∷ 0x2001 ∷ 0x109 ∷ 0x1002 ∷ 0x320F ∷ 0x1000 ∷ 0x1008 ∷ []) 0x1010)
         (BadPointer 0x1008 ClassWord) }
 {}
 
-/// Of two reachable objects with a defect the lower one counts.
+/// The lower of two reachable objects with a defect is reported.
 fn lower_of_two()
     ensures { IsRefused Keep
         (file_of Little (0x1007 ∷ 0x320F ∷ 0x1002 ∷ 0x1010 ∷ 0x10B ∷ 1 ∷ []) 0x1004)
         (BadPointer 0x1004 (Field 0)) }
 {}
 
-/// The lower one counts also where it is the higher one that names it.
+/// The lower one is reported even if the higher one points to it.
 fn lower_is_named()
     ensures { IsRefused Keep
         (file_of Little (0x1007 ∷ 0x10B ∷ 1 ∷ 0x320F ∷ 0x1002 ∷ 0x1004 ∷ []) 0x100C)

@@ -1,5 +1,5 @@
-//! Worked images: how small files are spelled, what they are compacted to, and why they are
-//! refused. Each is the contract of a function that does nothing.
+//! Worked images: how small files are encoded, what their compactions are, and why they are
+//! rejected. Each is the contract of a function that does nothing.
 #![tactic(auto)]
 
 mod compacted;

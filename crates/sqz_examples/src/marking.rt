@@ -1,11 +1,11 @@
 //! Runs of marking by several passes over one image, and events whose condition is not met.
 //!
-//! The image is that of [`crate::compacted`] with a dead cycle. Its special objects array is object
-//! 5, which names objects 0 and 1; objects 1 and 3 name each other, and so do the dead objects 2
-//! and 4. Two workers mark it: pass 0 begins with the weight of both, and has won, seen and counted
-//! object 5. There are three regions: object 0, which is one word, object 1, which is two, and
-//! objects 2 to 5, of which the last is three words and the others are two. The lists of a pass
-//! have what came last in front.
+//! The image is that of [`crate::compacted`] with a dead cycle. Its special objects array is
+//! object 5, which points to objects 0 and 1; objects 1 and 3 point to each other, and so do the
+//! dead objects 2 and 4. Two workers mark it: pass 0 begins with the weight of both, and has won,
+//! seen and counted object 5. There are three regions: object 0, of one word; object 1, of two;
+//! and objects 2 to 5, of two words each, except the last, which has three. The lists of a pass
+//! begin with the latest element.
 
 ghost use Rattle.std.specs.Prelude.{[], ◌∷◌};
 ghost use Rattle.sqz_trace.specs.declared.shades.Shade.TheVariants.{White, Grey, Black};
@@ -13,8 +13,8 @@ ghost use Rattle.sqz_marks.specs.Core.{Look, Claim, Count, Blacken, Split, Join,
 ghost use Rattle.sqz_marks.specs.Core.{spent};
 ghost use Rattle.sqz_examples.specs.DeadCycle.{dead_cycle_marking, dead_cycle_opening, by_pass};
 
-/// One pass marks the whole image. An object that is claimed again is seen and not won again, a
-/// look at a white object tells nothing, and one at a black object tells that it is black. Each
+/// One pass marks the whole image. An object that is claimed again is seen and not won again. A
+/// look at a white object shows nothing, and a look at a black object shows that it is black. Each
 /// object that is won is counted in its region.
 fn one_pass()
     ensures { IsLegalRun dead_cycle_marking
@@ -33,8 +33,8 @@ fn one_pass()
         } }
 {}
 
-/// A pass is split, and both parts claim one object: the first one wins it and counts it, the other
-/// one sees it. What is left of the part when the two are joined knows nothing.
+/// A pass is split, and both parts claim one object: the first wins it and counts it, the other
+/// sees it. After the two are joined, what is left of the second part knows nothing.
 fn two_passes()
     ensures { IsLegalRun dead_cycle_marking
         ((0, Split 1) ∷ (1, Look 5) ∷ (1, Claim 5 1) ∷ (1, Count 1) ∷ (0, Claim 5 1) ∷ (0, Join 1) ∷ [])
@@ -51,9 +51,9 @@ fn two_passes()
         } }
 {}
 
-/// What the pass may not do as marking begins: blacken an object whose targets it has not seen,
-/// claim along an edge that is none, claim what an object names that it has not seen, count what it
-/// has not won, count what it has counted, and give up all its weight.
+/// What the pass may not do when marking begins: blacken an object whose targets it has not seen,
+/// claim along an edge that does not exist, claim the target of an object that it has not seen,
+/// count an object that it has not won, count an object again, and give up all its weight.
 fn not_yet()
     ensures targets_unseen { Meets dead_cycle_marking dead_cycle_opening 0 (Blacken 5) → ⊥ }
     ensures no_edge { Meets dead_cycle_marking dead_cycle_opening 0 (Claim 5 2) → ⊥ }

@@ -1,8 +1,8 @@
-//! What becomes of the objects of an image: where each is found in the compacted one, and what it
-//! names there.
+//! What happens to the objects of an image: where each is in the compacted image, and what it
+//! points to there.
 //!
 //! The image is that of [`crate::compacted`] with a dead cycle: objects 2 and 4 are dead, and
-//! objects 1 and 3 name each other.
+//! objects 1 and 3 point to each other.
 
 ghost use Rattle.std.specs.Prelude.{◌≡◌, [], ◌∷◌, map, Some};
 ghost use Rattle.sqz_image.specs.declared.slot.Slot.TheVariants.{Field};
@@ -13,8 +13,8 @@ ghost use Rattle.sqz_tool.specs.Correspondence.{new_index, IsMovedObject, HasMov
 ghost use Rattle.sqz_examples.specs.DeadCycle.{dead_cycle};
 ghost use Rattle.sqz_examples.specs.MovedCycle.{cycle_marks, moved_cycle};
 
-/// The live objects become the objects 0 to 3, each one at its place. Object 3, now 2, still names
-/// object 1, which names it.
+/// The live objects become objects 0 to 3, each at its place (its new address). Object 3, now 2,
+/// still points to object 1, which points to it.
 fn dead_cycle()
     ensures indexes { map (new_index dead_cycle cycle_marks) (0 ∷ 1 ∷ 3 ∷ 5 ∷ [])
         ≡ 0 ∷ 1 ∷ 2 ∷ 3 ∷ [] }
@@ -25,7 +25,7 @@ fn dead_cycle()
     ensures objects { HasMovedObjects dead_cycle Keep cycle_marks moved_cycle }
 {}
 
-/// In the image as it was, object 5 is not moved.
+/// In the original image, object 5 has not moved.
 fn not_moved()
     ensures { IsMovedObject dead_cycle Keep cycle_marks dead_cycle 5 → ⊥ }
 {}

@@ -1,6 +1,6 @@
-//! Images behind other bytes.
+//! Images after a prefix of other bytes.
 //!
-//! A file is given as an image is in [`crate::compacted`], with bytes before it.
+//! A file is given like an image in [`crate::compacted`], with bytes before it.
 
 ghost use Rattle.std.specs.Prelude.{[], ◌∷◌, ◌++◌, take, slice_set};
 ghost use Rattle.std.specs.List.{repeat};
@@ -14,28 +14,28 @@ ghost use Rattle.sqz_trace.specs.declared.weak.Weak.TheVariants.{Keep, Clear};
 ghost use Rattle.sqz_tool.specs.Verdict.{IsRefused};
 ghost use Rattle.sqz_examples.specs.Worked.{words_at, file_of, behind, CompactsTo};
 
-/// An image may stand behind 512 bytes, which are kept.
+/// An image may follow 512 bytes, which are kept.
 fn behind_512_bytes()
     ensures { CompactsTo Keep
         (behind 512 (file_of Little (0x1007 ∷ 0x320F ∷ 1 ∷ 1 ∷ 0x320B ∷ 0x1000 ∷ []) 0x1010))
         (behind 512 (file_of Little (0x1007 ∷ 0x320B ∷ 0x1000 ∷ []) 0x1004)) }
 {}
 
-/// So may one of a big-endian file.
+/// A big-endian image may follow 512 bytes too.
 fn big_endian_behind_512_bytes()
     ensures { CompactsTo Keep
         (behind 512 (file_of Big (0x1007 ∷ 0x320F ∷ 1 ∷ 1 ∷ 0x320B ∷ 0x1000 ∷ []) 0x1010))
         (behind 512 (file_of Big (0x1007 ∷ 0x320B ∷ 0x1000 ∷ []) 0x1004)) }
 {}
 
-/// Bytes behind the data are left out.
+/// Bytes after the data are dropped.
 fn bytes_after_data()
     ensures { CompactsTo Keep
         (behind 512 (file_of Little (0x1007 ∷ 0x320F ∷ 1 ∷ 1 ∷ 0x320B ∷ 0x1000 ∷ []) 0x1010) ++ 1 ∷ 2 ∷ 3 ∷ 4 ∷ 5 ∷ [])
         (behind 512 (file_of Little (0x1007 ∷ 0x320B ∷ 0x1000 ∷ []) 0x1004)) }
 {}
 
-/// Weak slots are cleared as they are in other files.
+/// Weak slots are cleared as in other files.
 fn weak_slot()
     ensures { let file = file_of Little
         (0x1007 ∷ 0x1113 ∷ 1 ∷ 1 ∷ 0x405 ∷ 0x100B ∷ 1 ∷ 0x1005 ∷ 0x409 ∷ 0x1014 ∷ 0x320F ∷ 0x1000 ∷ 0x1020 ∷ [])
@@ -46,8 +46,8 @@ fn weak_slot()
         CompactsTo Clear (behind 512 file) (behind 512 answer) }
 {}
 
-/// A file that begins with the version in one order is read from there, though the version stands
-/// behind 512 bytes in the other.
+/// A file that begins with the version in one byte order is read from there, even if the version
+/// in the other byte order follows 512 bytes.
 fn version_at_both()
     ensures { let first = file_of Little (0x1007 ∷ 0x320F ∷ 1 ∷ 1 ∷ 0x320B ∷ 0x1000 ∷ []) 0x1010 in
         let second = file_of Big (0x1007 ∷ 0x320B ∷ 0x1000 ∷ []) 0x1004 in
@@ -56,7 +56,8 @@ fn version_at_both()
         (file_of Little (0x1007 ∷ 0x320B ∷ 0x1000 ∷ []) 0x1004) }
 {}
 
-/// So is one whose header there is refused, though the header behind 512 bytes is sound.
+/// A file that begins with the version is read from there, even if that header is bad and the
+/// header after 512 bytes is sound.
 fn broken_header_at_front()
     ensures { let words = words_at 0x1000 (0x1007 ∷ 0x320F ∷ 1 ∷ 1 ∷ 0x320B ∷ 0x1000 ∷ []) 0x1010 in
         (weak : Weak) → IsRefused weak
@@ -64,42 +65,42 @@ fn broken_header_at_front()
         BadHeaderSize }
 {}
 
-/// An image behind 511 bytes is not seen.
+/// An image after 511 bytes is not found.
 fn behind_511_bytes()
     ensures { (weak : Weak) → IsRefused weak
         (behind 511 (file_of Little (0x1007 ∷ 0x320F ∷ 1 ∷ 1 ∷ 0x320B ∷ 0x1000 ∷ []) 0x1010))
         BadVersion }
 {}
 
-/// Nor is one behind 513.
+/// An image after 513 bytes is not found.
 fn behind_513_bytes()
     ensures { (weak : Weak) → IsRefused weak
         (behind 513 (file_of Little (0x1007 ∷ 0x320F ∷ 1 ∷ 1 ∷ 0x320B ∷ 0x1000 ∷ []) 0x1010))
         BadVersion }
 {}
 
-/// A file that ends within the version behind 512 bytes does not have it.
+/// A file that ends within the version after 512 bytes does not have it.
 fn cut_in_version()
     ensures { (weak : Weak) → IsRefused weak
         (take 515 (behind 512 (file_of Little (0x1007 ∷ 0x320F ∷ 1 ∷ 1 ∷ 0x320B ∷ 0x1000 ∷ []) 0x1010)))
         BadVersion }
 {}
 
-/// Behind the version the header is missing.
+/// A file that ends after this version has no header.
 fn version_alone()
     ensures { (weak : Weak) → IsRefused weak
         (take 516 (behind 512 (file_of Little (0x1007 ∷ 0x320F ∷ 1 ∷ 1 ∷ 0x320B ∷ 0x1000 ∷ []) 0x1010)))
         TooShort }
 {}
 
-/// A file that ends within the header behind 512 bytes is too short.
+/// A file that ends within the header after 512 bytes is too short.
 fn cut_in_header()
     ensures { (weak : Weak) → IsRefused weak
         (take 575 (behind 512 (file_of Little (0x1007 ∷ 0x320F ∷ 1 ∷ 1 ∷ 0x320B ∷ 0x1000 ∷ []) 0x1010)))
         TooShort }
 {}
 
-/// One that ends behind the header has no data.
+/// A file that ends after this header has no data.
 fn header_alone()
     ensures { (weak : Weak) → IsRefused weak
         (take 576 (behind 512 (file_of Little (0x1007 ∷ 0x320F ∷ 1 ∷ 1 ∷ 0x320B ∷ 0x1000 ∷ []) 0x1010)))
@@ -120,7 +121,7 @@ fn first_unreadable_chunk()
         (Overrun 1) }
 {}
 
-/// Another version behind 512 bytes is not read.
+/// Another version after 512 bytes is rejected.
 fn other_version()
     ensures { let words = words_at 0x1000 (0x1007 ∷ 0x320F ∷ 1 ∷ 1 ∷ 0x320B ∷ 0x1000 ∷ []) 0x1010 in
         (weak : Weak) → IsRefused weak (behind 512 (spelling_of Little (slice_set words 0 6504)))

@@ -1,7 +1,7 @@
 //! Files that are not images: faults of the header, of a chunk, and of the address of the special
 //! objects array.
 //!
-//! A file is given as an image is in [`crate::compacted`].
+//! A file is given like an image in [`crate::compacted`].
 
 ghost use Rattle.std.specs.Prelude.{[], ◌∷◌, ◌++◌, take, slice_set};
 ghost use Rattle.sqz_object.specs.declared.order.Order.TheVariants.{Little};
@@ -22,13 +22,13 @@ fn cut_in_header()
         TooShort }
 {}
 
-/// Another version is not read.
+/// Another version is rejected.
 fn other_version()
     ensures { let words = words_at 0x1000 (0x1007 ∷ 0x320F ∷ 1 ∷ 1 ∷ 0x320B ∷ 0x1000 ∷ []) 0x1010 in
         (weak : Weak) → IsRefused weak (spelling_of Little (slice_set words 0 6504)) BadVersion }
 {}
 
-/// Another size of the header is not read.
+/// Another size of the header is rejected.
 fn other_header_size()
     ensures { let words = words_at 0x1000 (0x1007 ∷ 0x320F ∷ 1 ∷ 1 ∷ 0x320B ∷ 0x1000 ∷ []) 0x1010 in
         (weak : Weak) → IsRefused weak (spelling_of Little (slice_set words 1 68)) BadHeaderSize }
@@ -68,56 +68,56 @@ fn short_of_another_version()
         TooShort }
 {}
 
-/// Of two faults the version is the first.
+/// The version is checked before the size of the header.
 fn other_version_and_header_size()
     ensures { let words = words_at 0x1000 (0x1007 ∷ 0x320F ∷ 1 ∷ 1 ∷ 0x320B ∷ 0x1000 ∷ []) 0x1010 in
         (weak : Weak) → IsRefused weak (spelling_of Little (slice_set (slice_set words 0 6504) 1
         68)) BadVersion }
 {}
 
-/// The size of the header comes before that of the data.
+/// The size of the header is checked before that of the data.
 fn other_header_size_and_uneven_data_size()
     ensures { let words = words_at 0x1000 (0x1007 ∷ 0x320F ∷ 1 ∷ 1 ∷ 0x320B ∷ 0x1000 ∷ []) 0x1010 in
         (weak : Weak) → IsRefused weak (spelling_of Little (slice_set (slice_set words 1 68) 2 22))
         BadHeaderSize }
 {}
 
-/// The size of the data comes before their address.
+/// The size of the data is checked before their address.
 fn uneven_data_size_and_base()
     ensures { let words = words_at 0x1000 (0x1007 ∷ 0x320F ∷ 1 ∷ 1 ∷ 0x320B ∷ 0x1000 ∷ []) 0x1010 in
         (weak : Weak) → IsRefused weak (spelling_of Little (slice_set (slice_set words 2 22) 3
         0x1002)) BadDataSize }
 {}
 
-/// The address of the data comes before their end.
+/// The address of the data is checked before their end.
 fn uneven_base_of_truncated_data()
     ensures { let words = words_at 0x1000 (0x1007 ∷ 0x320F ∷ 1 ∷ 1 ∷ 0x320B ∷ 0x1000 ∷ []) 0x1010 in
         (weak : Weak) → IsRefused weak (take 87 (spelling_of Little (slice_set words 3 0x1002)))
         BadBase }
 {}
 
-/// A chunk that states no words is not read.
+/// A chunk that states a size of 0 words is rejected.
 fn zero_size()
     ensures { (weak : Weak) → IsRefused weak
         (file_of Little (0x1007 ∷ 0x3203 ∷ []) 0x1000)
         (ZeroSize 1) }
 {}
 
-/// A base header behind a class word may not state a size of no words.
+/// A base header after a class word may not state a size of 0 words.
 fn zero_size_of_two()
     ensures { (weak : Weak) → IsRefused weak
         (file_of Little (0x1007 ∷ 0x1001 ∷ 0x101 ∷ []) 0x1000)
         (ZeroSize 1) }
 {}
 
-/// A size word may not state a size of no words.
+/// A size word may not state a size of 0 words.
 fn zero_size_of_three()
     ensures { (weak : Weak) → IsRefused weak
         (file_of Little (0x1007 ∷ 0 ∷ 0x1000 ∷ 0x200 ∷ []) 0x1000)
         (ZeroSize 1) }
 {}
 
-/// A free chunk that states no words is not read.
+/// A free chunk that states a size of 0 words is rejected.
 fn free_zero_size()
     ensures { (weak : Weak) → IsRefused weak
         (file_of Little (0x1007 ∷ 2 ∷ []) 0x1000)
@@ -145,35 +145,35 @@ fn mixed_class_header()
         (HeaderMismatch 1) }
 {}
 
-/// A chunk whose header words are not all there is not read.
+/// A chunk with a missing header word is rejected.
 fn header_overrun()
     ensures { (weak : Weak) → IsRefused weak
         (file_of Little (0x1007 ∷ 8 ∷ 0x1000 ∷ []) 0x1000)
         (Overrun 1) }
 {}
 
-/// A chunk is not read where two of its three header words are missing.
+/// A chunk with two of its three header words missing is rejected.
 fn lone_size_word()
     ensures { (weak : Weak) → IsRefused weak
         (file_of Little (0x1007 ∷ 8 ∷ []) 0x1000)
         (Overrun 1) }
 {}
 
-/// A chunk is not read where the second of its two header words is missing.
+/// A chunk with the second of its two header words missing is rejected.
 fn lone_class_word()
     ensures { (weak : Weak) → IsRefused weak
         (file_of Little (0x1007 ∷ 0x1001 ∷ []) 0x1000)
         (Overrun 1) }
 {}
 
-/// A chunk that states more words than there are is not read.
+/// A chunk that states more words than there are is rejected.
 fn overrun()
     ensures { (weak : Weak) → IsRefused weak
         (file_of Little (0x1007 ∷ 0x320F ∷ 1 ∷ []) 0x1000)
         (Overrun 1) }
 {}
 
-/// A base header behind a class word may not state more words than there are.
+/// A base header after a class word may not state more words than there are.
 fn overrun_of_two()
     ensures { (weak : Weak) → IsRefused weak
         (file_of Little (0x1007 ∷ 0x1001 ∷ 0x10D ∷ 1 ∷ []) 0x1000)
@@ -187,63 +187,63 @@ fn overrun_of_three()
         (Overrun 1) }
 {}
 
-/// A free chunk that states more words than there are is not read.
+/// A free chunk that states more words than there are is rejected.
 fn free_overrun()
     ensures { (weak : Weak) → IsRefused weak
         (file_of Little (0x1007 ∷ 0x12 ∷ 1 ∷ []) 0x1000)
         (Overrun 1) }
 {}
 
-/// That a header word is missing counts before others that disagree.
+/// A missing header word is reported before a mismatch of the others.
 fn missing_before_mixed()
     ensures { (weak : Weak) → IsRefused weak
         (file_of Little (0x1007 ∷ 8 ∷ 0x1001 ∷ []) 0x1000)
         (Overrun 1) }
 {}
 
-/// That the header words disagree counts before a size of no words.
+/// A mismatch of the header words is reported before a size of 0 words.
 fn mixed_before_size()
     ensures { (weak : Weak) → IsRefused weak
         (file_of Little (0x1007 ∷ 0 ∷ 0x1000 ∷ 0x203 ∷ []) 0x1000)
         (HeaderMismatch 1) }
 {}
 
-/// That the header words disagree counts before words that are missing behind them.
+/// A mismatch of the header words is reported before missing words after them.
 fn mixed_before_overrun()
     ensures { (weak : Weak) → IsRefused weak
         (file_of Little (0x1007 ∷ 0xC ∷ 0x1000 ∷ 0x20B ∷ 1 ∷ []) 0x1000)
         (HeaderMismatch 1) }
 {}
 
-/// Of two chunks that cannot be read the first counts.
+/// The first of two chunks that cannot be read is reported.
 fn first_unreadable_chunk()
     ensures { (weak : Weak) → IsRefused weak
         (file_of Little (0x1007 ∷ 0x320F ∷ 1 ∷ 1 ∷ 0x3203 ∷ 0x320F ∷ []) 0x1000)
         (ZeroSize 4) }
 {}
 
-/// An image with no data has no special objects array.
+/// An image without data has no special objects array.
 fn no_data()
     ensures { (weak : Weak) → IsRefused weak
         (file_of Little [] 0x1000)
         BadSpecialObjects }
 {}
 
-/// At the address of the special objects array there is an object.
+/// There is an object at the address of the special objects array.
 fn no_object_at_special()
     ensures { (weak : Weak) → IsRefused weak
         (file_of Little (0x3207 ∷ []) 0x1004)
         BadSpecialObjects }
 {}
 
-/// A free chunk is no special objects array.
+/// A free chunk is not a special objects array.
 fn free_chunk_at_special()
     ensures { (weak : Weak) → IsRefused weak
         (file_of Little (0x1007 ∷ 0xE ∷ 1 ∷ 1 ∷ 0x320B ∷ 0x1000 ∷ []) 0x1004)
         BadSpecialObjects }
 {}
 
-/// The special objects array is found at its base header, and not at a class word.
+/// The special objects array is found at its base header, not at a class word.
 fn class_word_at_special()
     ensures { let file = file_of Little
         (0x1007 ∷ 0x320F ∷ 1 ∷ 1 ∷ 0x100B ∷ 1 ∷ 0x1011 ∷ 0x109 ∷ 1 ∷ 0x320F ∷ 0x1000 ∷ 0x101C ∷ [])
@@ -265,7 +265,7 @@ fn odd_special()
         BadSpecialObjects }
 {}
 
-/// A chunk that cannot be read counts before a missing special objects array.
+/// A chunk that cannot be read is reported before a missing special objects array.
 fn unreadable_before_special()
     ensures { (weak : Weak) → IsRefused weak
         (file_of Little (0x1007 ∷ 0x3203 ∷ []) 0x1004)

@@ -1,8 +1,9 @@
-//! Images with weak objects, where weak slots are cleared and where they are kept.
+//! Images with weak objects, if weak slots are cleared and if they are kept.
 //!
-//! An image is given as in [`crate::compacted`]. `0x409` is the base header of a weak object of one
-//! field behind a class word, and `0x1113` the header of a class of three fields, of which field 2
-//! states the fixed fields of its instances: `0x405` none, `0x409` one, and `0x20005` 64.
+//! An image is given as in [`crate::compacted`]. `0x409` is the base header of a weak object of
+//! one field, after a class word. `0x1113` is the header of a class of three fields; its field 2
+//! states the number of fixed fields of its instances: `0x405` none, `0x409` one, and `0x20005`
+//! 64.
 
 ghost use Rattle.std.specs.Prelude.{[], ◌∷◌};
 ghost use Rattle.sqz_object.specs.declared.order.Order.TheVariants.{Little, Big};
@@ -13,7 +14,7 @@ ghost use Rattle.sqz_trace.specs.declared.weak.Weak.TheVariants.{Keep, Clear};
 ghost use Rattle.sqz_tool.specs.Verdict.{IsRefused};
 ghost use Rattle.sqz_examples.specs.Worked.{file_of, CompactsTo};
 
-/// A weak slot keeps nothing alive: what it named is left out, and it names nil.
+/// A weak slot keeps nothing alive: its target is dropped, and the slot then points to nil.
 fn weak_slot()
     ensures { let file = file_of Little
         (0x1007 ∷ 0x1113 ∷ 1 ∷ 1 ∷ 0x405 ∷ 0x100B ∷ 1 ∷ 0x1005 ∷ 0x409 ∷ 0x1014 ∷ 0x320F ∷ 0x1000 ∷ 0x1020 ∷ [])
@@ -24,7 +25,7 @@ fn weak_slot()
         CompactsTo Clear file answer }
 {}
 
-/// The same of a big-endian file.
+/// A weak slot is cleared in a big-endian file too.
 fn weak_slot_in_big_endian()
     ensures { let file = file_of Big
         (0x1007 ∷ 0x1113 ∷ 1 ∷ 1 ∷ 0x405 ∷ 0x100B ∷ 1 ∷ 0x1005 ∷ 0x409 ∷ 0x1014 ∷ 0x320F ∷ 0x1000 ∷ 0x1020 ∷ [])
@@ -35,7 +36,7 @@ fn weak_slot_in_big_endian()
         CompactsTo Clear file answer }
 {}
 
-/// A weak slot that names a live object names it in its new place.
+/// A weak slot that points to a live object then points to its new address.
 fn weak_slot_of_live_object()
     ensures { let file = file_of Little
         (0x1007 ∷ 0x100B ∷ 1 ∷ 0x1113 ∷ 1 ∷ 1 ∷ 0x405 ∷ 0x100B ∷ 1 ∷ 0x100D ∷ 0x409 ∷ 0x101C ∷ 0x3213 ∷
@@ -48,7 +49,7 @@ fn weak_slot_of_live_object()
         CompactsTo Clear file answer }
 {}
 
-/// A fixed field of a weak object keeps alive what it names. Its class states one such field, and
+/// A fixed field of a weak object keeps its target alive. The class states one fixed field, and
 /// the other field is weak.
 fn fixed_field_of_weak_object()
     ensures { let file = file_of Little
@@ -79,8 +80,8 @@ fn sixty_four_fixed_fields()
         CompactsTo Clear file answer }
 {}
 
-/// The class of a weak object may be found by a compact index: the special objects array names the
-/// array of compact classes, and that the class.
+/// The class of a weak object may be found by a compact index: the special objects array points to
+/// the array of compact classes, and that to the class.
 fn weak_object_of_compact_class()
     ensures { let file = file_of Little
         (0x1007 ∷ 0x1113 ∷ 1 ∷ 1 ∷ 0x405 ∷ 0x100B ∷ 1 ∷ 0x140B ∷ 0x1014 ∷ 0x320B ∷ 0x1004 ∷ 0x327B ∷
@@ -95,8 +96,7 @@ fn weak_object_of_compact_class()
         CompactsTo Clear file answer }
 {}
 
-/// The class of a weak object may be that object: its own field 2 states that it has one fixed
-/// field.
+/// A weak object may be its own class: its own field 2 states that it has one fixed field.
 fn weak_object_that_is_its_own_class()
     ensures { let file = file_of Little
         (0x1007 ∷ 0x100B ∷ 1 ∷ 0x1011 ∷ 0x411 ∷ 1 ∷ 0x1004 ∷ 0x409 ∷ 0x320F ∷ 0x1000 ∷ 0x1010 ∷ [])
@@ -107,7 +107,7 @@ fn weak_object_that_is_its_own_class()
         CompactsTo Clear file answer }
 {}
 
-/// The class of a weak object may be weak too: its field 2 counts, whether or not it is strong.
+/// The class of a weak object may be weak too: its field 2 counts even if it is not strong.
 fn weak_class_of_weak_object()
     ensures { let file = file_of Little
         (0x1007 ∷ 0x1113 ∷ 1 ∷ 1 ∷ 0x405 ∷ 0x100B ∷ 1 ∷ 0x1005 ∷ 0x411 ∷ 1 ∷ 0x1014 ∷ 0x405 ∷ 0x1021 ∷
@@ -120,8 +120,8 @@ fn weak_class_of_weak_object()
         CompactsTo Clear file answer }
 {}
 
-/// The special objects array may be weak where its class word leads to its class: its field 0 is
-/// fixed here.
+/// The special objects array may be weak if its class word leads to its class; here its field 0 is
+/// fixed.
 fn weak_special_array_with_class_word()
     ensures { let file = file_of Little
         (0x1007 ∷ 0x1113 ∷ 1 ∷ 1 ∷ 0x409 ∷ 0x1005 ∷ 0x40D ∷ 0x1000 ∷ 1 ∷ [])
@@ -132,7 +132,7 @@ fn weak_special_array_with_class_word()
         CompactsTo Clear file answer }
 {}
 
-/// Where weak slots are kept, a weak special objects array is as any other.
+/// If weak slots are kept, a weak special objects array is like any other.
 fn weak_special_array_kept()
     ensures { let file = file_of Little
         (0x1007 ∷ 0x340B ∷ 0x1000 ∷ [])
@@ -143,8 +143,8 @@ fn weak_special_array_kept()
         CompactsTo Keep file answer }
 {}
 
-/// A weak special objects array without a class word has no strong fields, for its class would be
-/// found by these. So there is no nil.
+/// A weak special objects array without a class word has no strong fields, since its class would
+/// be found through them. So there is no nil.
 fn weak_special_array()
     ensures { IsRefused Clear
         (file_of Little
@@ -153,7 +153,7 @@ fn weak_special_array()
         NoNil }
 {}
 
-/// A special objects array without fields names no nil.
+/// A special objects array without fields points to no nil.
 fn special_array_without_fields()
     ensures { IsRefused Clear
         (file_of Little
@@ -162,7 +162,7 @@ fn special_array_without_fields()
         NoNil }
 {}
 
-/// That there is no nil counts before what is wrong with an object.
+/// A missing nil is reported before a defect of an object.
 fn no_nil_before_no_class()
     ensures { IsRefused Clear
         (file_of Little
@@ -171,7 +171,7 @@ fn no_nil_before_no_class()
         NoNil }
 {}
 
-/// Where weak slots are kept, no nil is asked for.
+/// If weak slots are kept, no nil is needed.
 fn no_class_where_weak_slots_are_kept()
     ensures { IsRefused Keep
         (file_of Little
@@ -180,7 +180,7 @@ fn no_class_where_weak_slots_are_kept()
         (NoClass 0x1000) }
 {}
 
-/// The class of a weak object states its fixed fields by an integer.
+/// The class of a weak object states its fixed fields in a SmallInteger.
 fn bad_class_of_weak_object()
     ensures { IsRefused Clear
         (file_of Little
@@ -199,7 +199,7 @@ fn small_class_of_weak_object()
         (BadWeak 0x1014) }
 {}
 
-/// The class of a weak object states no negative number of fixed fields.
+/// The class of a weak object may not state a negative number of fixed fields.
 fn negative_fixed_fields()
     ensures { IsRefused Clear
         (file_of Little
@@ -208,7 +208,7 @@ fn negative_fixed_fields()
         (BadWeak 0x1018) }
 {}
 
-/// The class of a weak object states no more fixed fields than the object has.
+/// The class of a weak object may not state more fixed fields than the object has.
 fn too_many_fixed_fields()
     ensures { IsRefused Clear
         (file_of Little
@@ -217,7 +217,7 @@ fn too_many_fixed_fields()
         (BadWeak 0x1018) }
 {}
 
-/// Nothing is found by a compact index where the array of compact classes is weak and has no class
+/// No class is found by a compact index if the array of compact classes is weak and has no class
 /// word.
 fn weak_compact_classes()
     ensures { IsRefused Clear
@@ -229,7 +229,7 @@ fn weak_compact_classes()
         (BadWeak 0x1014) }
 {}
 
-/// That a weak object has no class at all counts before that it is bad.
+/// A weak object without a class is reported for that, before it is reported as a bad weak object.
 fn no_class_before_bad_weak()
     ensures { IsRefused Clear
         (file_of Little
@@ -238,7 +238,7 @@ fn no_class_before_bad_weak()
         (NoClass 0x1004) }
 {}
 
-/// That a weak object is bad counts before a bad field of it.
+/// A bad weak object is reported before a bad field of it.
 fn bad_weak_before_field()
     ensures { IsRefused Clear
         (file_of Little
@@ -247,7 +247,7 @@ fn bad_weak_before_field()
         (BadWeak 0x1018) }
 {}
 
-/// A weak slot may not hold a word that is neither an integer nor an address.
+/// A weak slot may not hold a word that is neither a SmallInteger nor an address.
 fn odd_weak_slot()
     ensures { IsRefused Clear
         (file_of Little
@@ -256,7 +256,7 @@ fn odd_weak_slot()
         (BadPointer 0x1018 (Field 0)) }
 {}
 
-/// A weak slot may not hold an address of no object.
+/// A weak slot may not hold an address without an object.
 fn weak_slot_names_nothing()
     ensures { IsRefused Clear
         (file_of Little

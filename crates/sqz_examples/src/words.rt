@@ -1,4 +1,4 @@
-//! How a file spells words, and what a word means where an object holds it.
+//! How a file encodes words, and what the words of an object mean.
 
 ghost use Rattle.std.specs.Prelude.{◌≡◌, [], ◌∷◌, take, drop, pos, negsuc};
 ghost use Rattle.sqz_object.specs.declared.order.Order.TheVariants.{Little, Big};
@@ -6,8 +6,8 @@ ghost use Rattle.sqz_object.specs.declared.value.Value.TheVariants.{Int, Pointer
 ghost use Rattle.sqz_object.specs.Value.{value_of};
 ghost use Rattle.sqz_examples.specs.Worked.{file_of};
 
-/// A little-endian file has the lowest byte of each word first: the first five header words, and
-/// the data words behind all sixteen.
+/// A little-endian file has the lowest byte of each word first: here the first five header words,
+/// and the data words after all sixteen.
 fn little_endian()
     ensures header { take 20 (file_of Little (0x1007 ∷ 0x320F ∷ 1 ∷ 1 ∷ 0x320B ∷ 0x1000 ∷ []) 0x1010)
         ≡ 0x66 ∷ 0x19 ∷ 0 ∷ 0 ∷ 0x40 ∷ 0 ∷ 0 ∷ 0 ∷
@@ -19,7 +19,7 @@ fn little_endian()
         0x0B ∷ 0x32 ∷ 0 ∷ 0 ∷ 0 ∷ 0x10 ∷ 0 ∷ 0 ∷ [] }
 {}
 
-/// A big-endian file has the highest byte of each word first: the same words as above.
+/// A big-endian file has the highest byte of each word first: here the words of `little_endian`.
 fn big_endian()
     ensures header { take 20 (file_of Big (0x1007 ∷ 0x320F ∷ 1 ∷ 1 ∷ 0x320B ∷ 0x1000 ∷ []) 0x1010)
         ≡ 0 ∷ 0 ∷ 0x19 ∷ 0x66 ∷ 0 ∷ 0 ∷ 0 ∷ 0x40 ∷
@@ -31,8 +31,8 @@ fn big_endian()
         0 ∷ 0 ∷ 0x32 ∷ 0x0B ∷ 0 ∷ 0 ∷ 0x10 ∷ 0 ∷ [] }
 {}
 
-/// An integer is the word's upper 31 bits in two's complement; a word that is neither an integer
-/// nor a multiple of four is odd.
+/// A SmallInteger is the word's upper 31 bits in two's complement; a word that is neither that nor
+/// a multiple of four is odd.
 fn values()
     ensures lowest { value_of 0x80000001 ≡ Int (negsuc 1073741823) }
     ensures minus_one { value_of 0xFFFFFFFF ≡ Int (negsuc 0) }

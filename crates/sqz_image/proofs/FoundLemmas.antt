@@ -1,7 +1,7 @@
--- Objects and their addresses: an address finds its object and no other, and where each chunk is an object they stand one
--- behind the other.
--- Serves `CompactedLemmas` and `SettledLemmas` of `sqz_slide`; `CorrespondenceLemmas` and `SettledLemmas` of
--- `sqz_tool`.
+-- Objects and their addresses: an address finds its object and no other, and if every chunk is an
+-- object, each object begins where the one before it ends.
+-- Serves `CompactedLemmas` and `SettledLemmas` of `sqz_slide`; `CorrespondenceLemmas` and
+-- `FixedPointLemmas` of `sqz_tool`.
 use Rattle.std.proofs.Common.{◌≡◌, ℕ, zero, suc, ◌<◌, Bool, true, false, cond, eqb, List, [], ◌∷◌, length}
 use Rattle.std.proofs.Common.{get_or, slice_index_or, take, Option, Some, None, refl, sym, ap, subst, ◌∙◌, arith}
 use Rattle.std.specs.Option.{option_map}

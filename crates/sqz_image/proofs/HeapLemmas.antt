@@ -1,6 +1,6 @@
--- What the parts of a heap say of the objects in its words.
--- Serves `heap::heap_bounds`, `heap::place_at`, `heap::Heap::address`, `::chunk`, `::chunk_length`, `::find`,
--- `::first`, `::len`, `::object`, `::of`, `::special`, `::word` and `::words`.
+-- What the parts of a heap say about the objects in its words.
+-- Serves `heap::Heap::address`, `::chunk`, `::chunk_length`, `::find`, `::first`, `::len`,
+-- `::object`, `::of`, `::special`, `::word`, `heap::heap_bounds` and `heap::place_at`.
 use Rattle.std.proofs.Common.{◌≡◌, ◌≢◌, ℕ, ◌+◌, ◌-◌, ◌*◌, ◌%◌, ◌^◌, ◌<◌, ◌≤◌, List, [], map, length, get_or, take}
 use Rattle.std.proofs.Common.{drop, slice_index, Option, Some, None, refl, sym, ap, subst, ◌∙◌, arith}
 use Rattle.std.specs.List.{concat, AllByRecursion}

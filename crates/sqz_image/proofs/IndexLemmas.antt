@@ -102,7 +102,7 @@ chunk_is_some : (kind : Kind) (chunk : List ℕ) → IsChunkOf kind chunk → 0 
 chunk_is_some kind [] h = absurd (no_empty_chunk kind h)
 chunk_is_some kind (word ∷ rest) h = omega arith
 
--- whether words begin with an object is told by the first of them
+-- words begin with no object if a non-empty prefix of them does not
 is_object-take : (count : ℕ) (words : List ℕ) → is_object (take count words) ≡ false → 0 < length (take count words)
     → is_object words ≡ false
 is_object-take zero words free some = absurd (omega (arith, some))

@@ -1,4 +1,4 @@
--- The numbers of faults that tests find in turn.
+-- The numbers of faults that are tested in order.
 -- Serves `ReadingLemmas`; `DefectLemmas` of `sqz_trace`.
 use Rattle.std.proofs.Common.{◌≡◌, ℕ, Bool, true, false, cond, Option, Some, None, subst}
 use Rattle.std.proofs.lemmas.Option.{none-some, same_Some}

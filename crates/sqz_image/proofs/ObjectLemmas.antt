@@ -1,7 +1,8 @@
--- The objects of chunks: where they stand, in which order, and how they are found.
--- Serves `FoundLemmas`, `HeapLemmas` and `IndexLemmas`; `EdgeLemmas` of `sqz_trace`; `RegionLemmas` of `sqz_regions`;
--- `MemberLemmas` of `sqz_paths`; `laws::core`, `CallLemmas` and `KeptLemmas` of `sqz_marks`; `CompactedLemmas`,
--- `LengthLemmas`, `MovedShapeLemmas` and `WordLemmas` of `sqz_slide`; `GroupLemmas` of `sqz_census`.
+-- The objects of chunks: where they lie, their order, and how they are found.
+-- Serves `FoundLemmas`, `HeapLemmas` and `IndexLemmas`; `EdgeLemmas` of `sqz_trace`;
+-- `RegionLemmas` of `sqz_regions`; `MemberLemmas` of `sqz_paths`; `laws::core`, `CallLemmas` and
+-- `KeptLemmas` of `sqz_marks`; `CompactedLemmas`, `LengthLemmas`, `MovedShapeLemmas` and
+-- `WordLemmas` of `sqz_slide`; `GroupLemmas` of `sqz_census`.
 use Rattle.std.proofs.Common.{◌≡◌, ◌≢◌, ℕ, zero, suc, ◌+◌, ◌*◌, ◌<◌, ◌≤◌, Bool, true, false, cond, eqb, List}
 use Rattle.std.proofs.Common.{[], ◌∷◌, ◌++◌, map, length, get_or, take, drop, Option, Some, None, refl, sym}
 use Rattle.std.proofs.Common.{ap, subst, ◌∙◌, arith, inl, inr}

@@ -1,4 +1,4 @@
--- How many words pieces have together.
+-- The total number of words of pieces.
 -- Serves `writing::word_count`.
 use Rattle.std.proofs.Common.{◌≡◌, ℕ, ◌+◌, ◌<◌, ◌≤◌, List, [], ◌∷◌, ◌++◌, map, length, get_or, take, drop, sym, ap, ◌∙◌}
 use Rattle.std.proofs.Common.{arith}

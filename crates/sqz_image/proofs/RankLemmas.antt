@@ -1,4 +1,4 @@
--- The table of ranks, as far as it was filled, and what a look into it says.
+-- The table of ranks while it is filled, and what a lookup returns.
 -- Serves `ranks::add`, `ranks::place_of` and `IndexLemmas`.
 use Rattle.std.proofs.Common.{◌≡◌, ◌≢◌, ℕ, suc, ◌+◌, ◌-◌, ◌*◌, ◌/◌, ◌%◌, ◌^◌, ◌<◌, ◌≤◌, List, [], ◌∷◌, ◌++◌, length}
 use Rattle.std.proofs.Common.{take, set, replicate, slice_index, count_ones, bit_and, bit_or, Some, None, refl}

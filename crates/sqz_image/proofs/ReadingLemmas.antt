@@ -1,5 +1,6 @@
 -- From a file to its image and back.
--- Serves `reading::read_image` and `SavedLemmas`; `CorrespondenceLemmas` and `RunLemmas` of `sqz_tool`.
+-- Serves `reading::image_of_file` and `SavedLemmas`; `CorrespondenceLemmas` and `RunLemmas` of
+-- `sqz_tool`.
 use Rattle.std.proofs.Common.{◌≡◌, ◌⊎◌, ℕ, ◌+◌, ◌*◌, ◌/◌, ◌%◌, ◌^◌, ◌<◌, ◌≤◌, Bool, true, false, not, ◌||◌}
 use Rattle.std.proofs.Common.{cond, eqb, ltb, List, length, take, drop, slice_index, Option, Some, None, refl}
 use Rattle.std.proofs.Common.{sym, ap, subst, ◌∙◌, arith, inl, inr}

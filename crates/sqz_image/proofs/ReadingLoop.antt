@@ -10,7 +10,7 @@ use Rattle.sqz_image.specs.Devices.{SourceState, IsRead, one_more, turn_limit, M
 use Rattle.std.proofs.lemmas.Bool.{ne_eqb}
 use Rattle.sqz_image.proofs.Turns.{one_more-count_after, count_after-lt, MeetsLimit-all}
 
--- so many reads gave these bytes, each of them some
+-- this many reads gave these bytes, each of them some
 pub record HasRead (old now : SourceState) (file : List ℕ) (turns : ℕ) : Type 0 where
   pub bytes : Consumes old.left now.left file
   pub none_empty : now.empty_reads ≡ old.empty_reads

@@ -1,5 +1,5 @@
--- A header of which two words are renewed: those two are the new ones, and all others stay.
--- Serves `SettledLemmas` of `sqz_tool`.
+-- A header with two renewed words: those two are the new ones, and all others stay.
+-- Serves `FixedPointLemmas` of `sqz_tool`.
 use Rattle.std.proofs.Common.{◌≡◌, ◌≢◌, ℕ, ◌^◌, ◌<◌, List, length, slice_index, sym, ap, subst, ◌∙◌, arith, inl, inr}
 use Rattle.std.specs.Prelude.{slice_set}
 use Rattle.std.proofs.lemmas.Bool.{cases_eq}

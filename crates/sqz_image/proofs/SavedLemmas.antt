@@ -1,5 +1,6 @@
--- Images of which header and data agree: what a file of bytes holds is one, and the image's own file holds it.
--- Serves `SettledLemmas` of `sqz_tool`.
+-- Images whose header and data agree: a file of bytes holds such an image, and the image's own
+-- file holds it.
+-- Serves `FixedPointLemmas` of `sqz_tool`.
 use Rattle.std.proofs.Common.{◌≡◌, ◌⊎◌, ℕ, ◌+◌, ◌*◌, ◌/◌, ◌%◌, ◌^◌, ◌<◌, ◌≤◌, Bool, true, false, not, ◌||◌}
 use Rattle.std.proofs.Common.{cond, eqb, ltb, List, [], ◌∷◌, ◌++◌, length, take, drop, slice_index, Option, Some, None, refl}
 use Rattle.std.proofs.Common.{sym, ap, subst, ◌∙◌, arith, inl, inr, is_some}
@@ -30,7 +31,7 @@ use Rattle.sqz_image.proofs.ReadingLemmas.{front_fits, IsSoundHeader, sound_head
 abbrev pub IsPrefix : List ℕ → Type 0
 IsPrefix prefix = (prefix ≡ []) ⊎ ((length prefix ≡ prefix_size) × (order_of prefix ≡ None))
 
--- an image of which header and data agree, so that it can be read back
+-- an image whose header and data agree, so that it can be read back
 pub record IsSaved (image : SavedImage) : Type 0 where
   pub prefix : IsPrefix image.prefix
   pub sized : length image.header ≡ 16
@@ -123,7 +124,7 @@ module _ (prefix body : List ℕ) (order : Order) (long : 4 ≤ length body) (be
       (ap (λ (bytes : List ℕ). is_some (order_of bytes)) (drop_at prefix body prefix_size sized)
       ∙ ap (λ (found : Option Order). is_some found) begins)
 
-  -- so the header stands behind the prefix
+  -- so the header begins after the prefix
   offset_of : IsPrefix prefix → header_offset (prefix ++ body) ≡ length prefix
   offset_of (inl none) =
       subst (λ (bytes : List ℕ). header_offset (bytes ++ body) ≡ length bytes) (sym none) (offset_at_front body order begins)

@@ -1,5 +1,6 @@
--- Words and the bytes that spell them.
--- Serves `write_words::send_words`, `write_words::spell` and `write_words::write_words`; `NameLemmas` of `sqz_census`.
+-- Words and the bytes that encode them.
+-- Serves `write_words::send_words`, `write_words::spell` and `write_words::write_words`;
+-- `NameLemmas` of `sqz_census`.
 use Rattle.std.proofs.Common.{◌≡◌, ℕ, ◌+◌, ◌*◌, ◌<◌, ◌≤◌, List, [], ◌∷◌, ◌++◌, append-nil, length, take, drop}
 use Rattle.std.proofs.Common.{get_or, map, Vec, Global, sym, ap, ◌∙◌, refl, arith}
 use Rattle.std.specs.List.{concat}
@@ -29,7 +30,7 @@ take-put_word order words block four k room so_far spelled size inside fits =
     take-put_mid (4 * k) room block four (4 * (k + 1)) (omega arith) fits ∙ ap (λ l. l ++ four) so_far
     ∙ ap (λ l. spelling_of order (take k words) ++ l) spelled ∙ sym (spelling_of-take order words k inside)
 
--- words in two parts, of which the first is spelled already
+-- words in two parts, the first of which is encoded already
 pub spelling_of-parts : (order : Order) (words front after spelled : List ℕ) → words ≡ front ++ after → spelled ≡ spelling_of order front
     → spelling_of order words ≡ spelled ++ spelling_of order after
 spelling_of-parts order words front after spelled parts is_spelled =

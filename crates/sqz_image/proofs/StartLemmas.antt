@@ -1,4 +1,4 @@
--- Where the chunks of objects begin, as far as they were found.
+-- Where the chunks of objects begin, while they are being found.
 -- Serves `HeapLemmas` and `IndexLemmas`.
 use Rattle.std.proofs.Common.{◌≡◌, ◌⊎◌, ℕ, ◌+◌, ◌-◌, ◌<◌, ◌≤◌, true, false, List, [], ◌∷◌, ◌++◌, map, length, get_or, drop}
 use Rattle.std.proofs.Common.{refl, sym, ap, ◌∙◌, arith, inl, inr}

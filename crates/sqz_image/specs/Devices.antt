@@ -1,4 +1,4 @@
--- What is seen of a source and a sink of bytes, and what their calls do to that.
+-- What contracts see of byte sources and sinks, and the effect of their calls on it.
 use Rattle.std.specs.Prelude.{◌≡◌, ◌⊎◌, ℕ, ◌+◌, ◌-◌, ◌^◌, ◌<◌, ◌≤◌, nat_lt, min, Bool, true, false, ◌==◌, ◌&&◌}
 use Rattle.std.specs.Prelude.{if◌then◌else◌, List, ◌++◌, length, take, Option, Result, Ok, Err}
 use Rattle.std.specs.Io.KnownBytes.{Keeps, Appends, Consumes, IsAtEnd}
@@ -6,32 +6,32 @@ use Rattle.sqz_image.specs.declared.device.DeviceFault.{DeviceFault}
 use Rattle.sqz_image.specs.declared.fault.Fault.{Fault}
 use Rattle.sqz_image.specs.declared.fault.Fault.TheVariants.{OutOfMemory, ReadFailed, WriteFailed}
 
--- the bytes that a source has left, where it tells them; how many reads it had; how many of these gave
--- no byte for a piece that is not empty; and whether it failed
+-- the bytes that a source has left, if contracts see them; the number of its reads; the number of
+-- reads that returned 0 for a non-empty piece; and whether it failed
 pub record SourceState : Type 0 where
   pub left : Option (List ℕ)
   pub reads : ℕ
   pub empty_reads : ℕ
   pub failed : Bool
 
--- a source that was not read from yet, with these bytes left
+-- a source that has not been read yet, with these bytes left
 abbrev pub new_source : Option (List ℕ) → SourceState
 new_source left = record { left = left; reads = 0; empty_reads = 0; failed = false }
 
--- the bytes that a sink holds, where it tells them; how many writes it had; whether it took bytes that no
--- flush has passed on; and whether it failed
+-- the bytes that a sink holds, if contracts see them; the number of its writes; whether it took
+-- bytes that no flush has passed on; and whether it failed
 pub record SinkState : Type 0 where
   pub contents : Option (List ℕ)
   pub writes : ℕ
   pub unflushed : Bool
   pub failed : Bool
 
--- the count after one more call: a count stays at the greatest number of 64 bits
+-- the count after one more call; a count saturates at 2 ^ 64 - 1
 abbrev pub one_more : ℕ → ℕ
 one_more count = min (count + 1) (2 ^ 64 - 1)
 
--- one read into a piece, which then holds what was read at its front; a source that promises to give all its bytes
--- gives none for a piece that is not empty only if it has none left
+-- one read into a piece, whose front then holds what was read; a source that promises to give all
+-- its bytes returns 0 for a non-empty piece only if it has none left
 abbrev pub IsRead : Bool → SourceState → SourceState → List ℕ → Result ℕ DeviceFault → Type 0
 IsRead gives_all old new piece (Ok count) =
     (old.failed ≡ false) × (new.failed ≡ false) × (count ≤ length piece)
@@ -41,7 +41,7 @@ IsRead gives_all old new piece (Ok count) =
 IsRead gives_all old new piece (Err fault) =
     (new.failed ≡ true) × Keeps old.left new.left × (new.reads ≡ one_more old.reads) × (new.empty_reads ≡ old.empty_reads)
 
--- one write of a piece: some of it from its front on went out
+-- one write of a piece: some of it, from the front on, was taken
 abbrev pub IsWrite : SinkState → SinkState → List ℕ → Result ℕ DeviceFault → Type 0
 IsWrite old new piece (Ok count) =
     (old.failed ≡ false) × (new.failed ≡ false) × (count ≤ length piece) × (0 < length piece → 0 < count)
@@ -51,23 +51,23 @@ IsWrite old new piece (Ok count) =
 IsWrite old new piece (Err fault) =
     (new.failed ≡ true) × Keeps old.contents new.contents × (new.writes ≡ one_more old.writes) × (new.unflushed ≡ old.unflushed)
 
--- a flush, which is no write
+-- a flush; it does not count as a write
 abbrev pub IsFlush : {T : Type 0} → SinkState → SinkState → Result T DeviceFault → Type 0
 IsFlush old new (Ok _) =
     (old.failed ≡ false) × (new.failed ≡ false) × Keeps old.contents new.contents × (new.writes ≡ old.writes) × (new.unflushed ≡ false)
 IsFlush old new (Err fault) =
     (new.failed ≡ true) × Keeps old.contents new.contents × (new.writes ≡ old.writes) × (new.unflushed ≡ old.unflushed)
 
--- how many reads or writes one call of this crate makes at most
+-- the greatest number of reads or writes that one call of this crate makes
 abbrev pub turn_limit : ℕ
 turn_limit = 2 ^ 32
 
--- the counts before and after show that the limit was met; a count that stays at its end counts so too
+-- the counts before and after show that the limit was met; a saturated count shows it too
 abbrev pub MeetsLimit : ℕ → ℕ → Type 0
 MeetsLimit old new = (old + turn_limit ≤ new) ⊎ (new ≡ 2 ^ 64 - 1)
 
--- the source gave these bytes, up to the first read that gave none; if it promises to give all its bytes, it has none
--- left
+-- the source gave these bytes before the first read that returned 0; if it promises to give all
+-- its bytes, it has none left
 pub record ReadsWhole (gives_all : Bool) (old new : SourceState) (file : List ℕ) : Type 0 where
   pub bytes : Consumes old.left new.left file
   pub end : new.empty_reads ≡ one_more old.empty_reads
@@ -76,13 +76,13 @@ pub record ReadsWhole (gives_all : Bool) (old new : SourceState) (file : List �
   pub sound : new.failed ≡ false
   pub below_limit : new.reads < old.reads + turn_limit
 
--- the source has not failed, is below its limit, and was not yet at its end
+-- the source has not failed, is below the limit, and has not reached its end
 pub record IsUnfinished (old new : SourceState) : Type 0 where
   pub sound : new.failed ≡ false
   pub below_limit : new.reads < old.reads + turn_limit
   pub no_end : new.empty_reads ≡ old.empty_reads
 
--- why not all was read; bytes from the front of what was left may be gone
+-- why not everything was read; bytes from the front of what was left may be lost
 abbrev pub ReadStops : SourceState → SourceState → Fault → Type 0
 ReadStops old new fault =
     ((file : List ℕ) × Consumes old.left new.left file)
@@ -96,7 +96,7 @@ pub record WritesWhole (old new : SinkState) (bytes : List ℕ) : Type 0 where
   pub flushed : new.unflushed ≡ false
   pub below_limit : new.writes < old.writes + turn_limit
 
--- why not all was written; bytes from the front of what was to be written, perhaps all of them, went out
+-- why not everything was written; some of the bytes, from the front on, perhaps all, were taken
 pub record WriteStops (old new : SinkState) (bytes : List ℕ) (fault : Fault) : Type 0 where
   pub front : List ℕ
   pub rest : List ℕ
@@ -105,12 +105,11 @@ pub record WriteStops (old new : SinkState) (bytes : List ℕ) (fault : Fault) :
   pub named : fault ≡ WriteFailed
   pub cause : (new.failed ≡ true) ⊎ MeetsLimit old.writes new.writes
 
--- the count after so many more calls
+-- the count after `turns` more calls
 abbrev pub count_after : ℕ → ℕ → ℕ
 count_after count turns = if turns == 0 then count else min (count + turns) (2 ^ 64 - 1)
 
--- the sink took these bytes and nothing else, in as many writes as the turns left went down, of which
--- some are left
+-- the sink took these bytes and nothing else, in `turns` - `left` writes, and some turns are left
 pub record Sends (old new : SinkState) (bytes : List ℕ) (turns left : ℕ) : Type 0 where
   pub bytes_added : Appends old.contents new.contents bytes
   pub failed : new.failed ≡ old.failed
@@ -118,7 +117,7 @@ pub record Sends (old new : SinkState) (bytes : List ℕ) (turns left : ℕ) : T
   pub none_won : left ≤ turns
   pub counted : new.writes ≡ count_after old.writes (turns - left)
 
--- why not all was sent; bytes from the front of what was to be sent, perhaps all of them, went out
+-- why not everything was sent; some of the bytes, from the front on, perhaps all, were taken
 pub record SendStops (old new : SinkState) (bytes : List ℕ) (turns : ℕ) (fault : Fault) : Type 0 where
   pub front : List ℕ
   pub rest : List ℕ

@@ -1,5 +1,5 @@
--- An image file: sixteen header words, and the data directly after them. The header stands at the front, or behind a
--- prefix.
+-- An image file: sixteen header words, and the data directly after them. The header is at the
+-- front, or after a prefix.
 use Rattle.std.specs.Prelude.{ℕ, ◌+◌, ◌*◌, ◌<◌, ◌==◌, ◌&&◌, nat_le, if◌then◌else◌, Bool, List, ◌++◌, length, take, drop}
 use Rattle.std.specs.Prelude.{slice_index, slice_set, Option, Some, None, is_some}
 use Rattle.std.specs.List.{concat}
@@ -7,7 +7,7 @@ use Rattle.sqz_object.specs.declared.order.Order.{Order}
 use Rattle.sqz_object.specs.declared.order.Order.TheVariants.{Little, Big}
 use Rattle.sqz_object.specs.Bytes.{number_of, words_of, spelling_of}
 
--- what a file is made of: numbers below 256
+-- the bytes of a file: numbers below 256
 abbrev pub AreBytes : List ℕ → Type 0
 AreBytes file = (i : ℕ) → slice_index file i < 256
 
@@ -15,25 +15,26 @@ AreBytes file = (i : ℕ) → slice_index file i < 256
 abbrev pub version : ℕ
 version = 6502
 
--- how many bytes the header has
+-- the size of the header in bytes
 abbrev pub header_size : ℕ
 header_size = 64
 
--- the byte order in which the bytes begin with the version
+-- the byte order in which the first word is the version, if there is one
 abbrev pub order_of : List ℕ → Option Order
 order_of bytes =
     if number_of Little bytes == version then Some Little
     else (if number_of Big bytes == version then Some Big else None)
 
--- how many bytes a prefix has
+-- the size of a prefix in bytes
 abbrev pub prefix_size : ℕ
 prefix_size = 512
 
--- whether the file has the version, in one of the orders, behind a prefix
+-- whether the version, in either byte order, follows a prefix
 abbrev pub has_version_behind : List ℕ → Bool
 has_version_behind file = nat_le (prefix_size + 4) (length file) && is_some (order_of (drop prefix_size file))
 
--- the offset of the header: behind a prefix, where the version stands there and the file does not begin with it
+-- the offset of the header: after a prefix, if the version is there and does not begin the file;
+-- else 0
 abbrev pub header_offset : List ℕ → ℕ
 header_offset file = if is_some (order_of file) then 0 else (if has_version_behind file then prefix_size else 0)
 
@@ -44,12 +45,12 @@ prefix_of file = take (header_offset file) file
 abbrev pub image_bytes : List ℕ → List ℕ
 image_bytes file = drop (header_offset file) file
 
--- the header words, which the bytes begin with
+-- the header words that the bytes begin with
 abbrev pub header_of : Order → List ℕ → List ℕ
 header_of order bytes = words_of order (take header_size bytes)
 
--- what four of the header words say: the header's size and the data's in bytes, the address of the
--- first data word, and the address of the special objects array
+-- what four of the header words state: the size of the header in bytes, the size of the data in
+-- bytes, the address of the first data word, and the address of the special objects array
 abbrev pub stated_header_size : List ℕ → ℕ
 stated_header_size header = slice_index header 1
 
@@ -62,17 +63,17 @@ base_address header = slice_index header 3
 abbrev pub special_address : List ℕ → ℕ
 special_address header = slice_index header 4
 
--- the data words behind it
+-- the data words after the header
 abbrev pub data_of : Order → List ℕ → List ℕ
 data_of order bytes =
     words_of order (take (data_size (header_of order bytes)) (drop header_size bytes))
 
--- the header words with another data size in bytes and another address of the special objects array
+-- the header words with another data size in bytes and another address of the special objects
+-- array
 abbrev pub renewed : List ℕ → ℕ → ℕ → List ℕ
 renewed header size special = slice_set (slice_set header 2 size) 4 special
 
--- the bytes of the file with this prefix and these header words, so renewed, whose data are the pieces one after the
--- other
+-- the bytes of the file with this prefix, these header words, renewed, and the pieces as data
 abbrev pub file_with : Order → List ℕ → List ℕ → ℕ → List (List ℕ) → List ℕ
 file_with order prefix header special pieces =
     prefix ++ spelling_of order (renewed header (4 * length (concat pieces)) special ++ concat pieces)

@@ -7,7 +7,8 @@ use Rattle.sqz_image.specs.declared.starts.Start.{Start}
 use Rattle.sqz_image.specs.Ranks.{IsRanked}
 use Rattle.sqz_image.specs.Starts.{AreStarts}
 
--- where the objects of words that are chunks begin, and the table of the indexes of their base headers
+-- where the objects begin in words that are chunks, and the table of the word indexes of their
+-- base headers
 pub record IsIndex (words : List ℕ) (starts : List Start) (headers : List Block) : Type 0 where
   pub chunks : List (List ℕ)
   pub partition : IsPartition words chunks

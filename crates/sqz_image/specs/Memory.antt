@@ -1,4 +1,4 @@
--- The object memory that stands in a list of data words, which is how a heap is kept.
+-- The object memory that a list of data words holds, and how a heap keeps it.
 use Rattle.std.specs.Prelude.{◌≡◌, ◌⊎◌, ℕ, zero, suc, ◌+◌, ◌*◌, ◌%◌, ◌^◌, ◌<◌, ◌≤◌, List, [], ◌∷◌, map, length, take}
 use Rattle.std.specs.Prelude.{drop, Some, None, IsSome}
 use Rattle.sqz_object.specs.declared.order.Order.{Order}
@@ -12,14 +12,14 @@ use Rattle.sqz_image.specs.Starts.{AreStarts}
 use Rattle.sqz_image.specs.Objects.{Memory, objects, header_index, find}
 use Rattle.sqz_image.specs.Refusals.{HasNoPartition}
 
--- words cut by the lengths that their headers state, as many times at most as is said
+-- the words cut by the lengths that their headers state, into at most this many chunks
 abbrev pub cut_at_most : ℕ → List ℕ → List (List ℕ)
 cut_at_most zero words = []
 cut_at_most (suc times) [] = []
 cut_at_most (suc times) (word ∷ words) =
     take (stated_length (word ∷ words)) (word ∷ words) ∷ cut_at_most times (drop (stated_length (word ∷ words)) (word ∷ words))
 
--- the one list of chunks that the words can be
+-- the only list of chunks that the words can be
 unfoldable pub cut : List ℕ → List (List ℕ)
 cut words = cut_at_most (length words) words
 
@@ -33,7 +33,7 @@ memory_of order base special words =
       chunks = cut words;
     }
 
--- the indexes of the objects' base headers
+-- the word indexes of the objects' base headers
 abbrev pub base_headers : Memory → List ℕ
 base_headers memory = map header_index (objects memory)
 
@@ -45,7 +45,8 @@ pub record IsListed (memory : Memory) (words : List ℕ) (starts : List Start) :
   pub within : memory.base + 4 * length words ≤ 2 ^ 32
   pub aligned : memory.base % 4 ≡ 0
 
--- and the table of their base headers, by which an address is found, and which object the special objects array is
+-- also the table of their base headers, by which an address is looked up, and the index of the
+-- special objects array
 pub record IsKept (memory : Memory) (words : List ℕ) (starts : List Start) (blocks : List Block) (special_object : ℕ) : Type 0 where
   pub listed : IsListed memory words starts
   pub headers : IsRanked (base_headers memory) blocks
@@ -58,12 +59,12 @@ pub record IsMemory (order : Order) (base special : ℕ) (words : List ℕ) (mem
   pub special_address : memory.special ≡ special
   pub partition : IsPartition words memory.chunks
 
--- and its special objects array is there
+-- and it has its special objects array
 pub record IsWholeMemory (order : Order) (base special : ℕ) (words : List ℕ) (memory : Memory) : Type 0 where
   pub is_memory : IsMemory order base special words memory
   pub found : IsSome (find memory memory.special)
 
--- there is no object at the address of the special objects array
+-- no object has the address of the special objects array
 pub record LacksSpecial (order : Order) (base special : ℕ) (words : List ℕ) (fault : Fault) : Type 0 where
   pub memory : Memory
   pub is_memory : IsMemory order base special words memory

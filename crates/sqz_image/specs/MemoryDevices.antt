@@ -1,9 +1,9 @@
--- What is set beforehand for a source and a sink in memory.
+-- How a source and a sink in memory are set up.
 use Rattle.std.specs.Prelude.{ℕ, ◌-◌, Option, vec_len}
 use Rattle.sqz_image.specs.declared.memory_source.MemorySource.{MemorySource}
 use Rattle.sqz_image.specs.declared.memory_sink.MemorySink.{MemorySink}
 
--- how many bytes a read gives at most
+-- the greatest number of bytes that a read gives
 abbrev pub piece_size : MemorySource → ℕ
 piece_size source = source.piece
 
@@ -11,11 +11,11 @@ piece_size source = source.piece
 abbrev pub failing_read : MemorySource → Option ℕ
 failing_read source = source.fail
 
--- how many bytes the sink still takes
+-- the number of bytes that the sink still takes
 abbrev pub room_left : MemorySink → ℕ
 room_left sink = sink.room - vec_len sink.taken
 
--- how many writes and flushes the sink had
+-- the number of writes and flushes of the sink
 abbrev pub calls_of : MemorySink → ℕ
 calls_of sink = sink.calls
 

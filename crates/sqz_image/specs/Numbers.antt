@@ -1,4 +1,4 @@
--- The number of each fault, as the documents list them.
+-- The number of each fault, as in the documentation.
 use Rattle.std.specs.Prelude.{ℕ}
 use Rattle.sqz_image.specs.declared.fault.Fault.{Fault}
 use Rattle.sqz_image.specs.declared.fault.Fault.TheVariants.{TooShort, BadVersion, BadHeaderSize, BadDataSize}

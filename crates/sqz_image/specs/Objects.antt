@@ -6,8 +6,8 @@ use Rattle.sqz_object.specs.declared.order.Order.{Order}
 use Rattle.sqz_object.specs.Bytes.{spelling_of}
 use Rattle.sqz_object.specs.Chunk.{is_object, before}
 
--- an object memory as it was saved: the byte order of the file, the address of the first data word,
--- the address of the special objects array, and the chunks, each a list of words
+-- an object memory as it was saved: the byte order of the file, the address of the first data
+-- word, the address of the special objects array, and the chunks, each a list of words
 pub record Memory : Type 0 where
   pub order : Order
   pub base : ℕ
@@ -19,11 +19,12 @@ pub record Object : Type 0 where
   pub first : ℕ
   pub chunk : List ℕ
 
--- the same object behind more words
+-- the same object with `count` more words before it
 abbrev pub moved_on : ℕ → Object → Object
 moved_on count object = record { first = count + object.first; chunk = object.chunk }
 
--- the first chunk's object, where it is one, and then those of the other chunks, behind the first chunk's words
+-- the first chunk, if it is an object, and then the objects of the other chunks, after the first
+-- chunk's words
 abbrev pub objects_of : List (List ℕ) → List Object
 objects_of [] = []
 objects_of (chunk ∷ chunks) =
@@ -54,7 +55,7 @@ address_in base object = base + 4 * header_index object
 abbrev pub address_of : Memory → ℕ → ℕ
 address_of memory index = address_in memory.base (object_at memory index)
 
--- the index of the object whose address it is
+-- the index of the object with this address, if there is one
 abbrev pub find_in : ℕ → List Object → ℕ → Option ℕ
 find_in base [] address = None
 find_in base (object ∷ objects) address =
@@ -69,7 +70,7 @@ pub record SavedImage : Type 0 where
   pub header : List ℕ
   pub memory : Memory
 
--- the bytes of the file that an image is saved as: those before its header, its header words, and the words of its
--- chunks
+-- the bytes of the file that an image is saved as: those before its header, its header words, and
+-- the words of its chunks
 abbrev pub file_bytes : SavedImage → List ℕ
 file_bytes image = image.prefix ++ spelling_of image.memory.order (image.header ++ concat image.memory.chunks)

@@ -1,4 +1,4 @@
--- What a file holds, and why it is refused before its objects are looked at: the refusals 1 to 10.
+-- What a file holds, and why it is rejected before its objects are examined: faults 1 to 10.
 use Rattle.std.specs.Prelude.{◌≡◌, ℕ, ◌+◌, ◌%◌, ◌^◌, ◌==◌, ◌||◌, not, nat_lt, if◌then◌else◌, List, length, Option, Some}
 use Rattle.std.specs.Prelude.{None, IsSome, ◌⊎◌}
 use Rattle.sqz_object.specs.declared.order.Order.{Order}
@@ -13,7 +13,8 @@ use Rattle.sqz_image.specs.File.{header_size, order_of, prefix_of, image_bytes, 
 use Rattle.sqz_image.specs.File.{data_size, base_address, special_address, data_of}
 use Rattle.sqz_image.specs.Objects.{SavedImage, find}
 
--- the first of the refusals 3 to 6 that applies, by the header words and the number of bytes from the header on
+-- the first of faults 3 to 6 that applies, by the header words and the number of bytes from the
+-- header on
 abbrev pub header_fault : List ℕ → ℕ → Option Fault
 header_fault header bytes =
     if not (stated_header_size header == header_size) then Some BadHeaderSize
@@ -26,12 +27,12 @@ abbrev pub fault_in_order : Option Order → List ℕ → Option Fault
 fault_in_order None bytes = Some BadVersion
 fault_in_order (Some order) bytes = header_fault (header_of order bytes) (length bytes)
 
--- the first of the refusals 1 to 6 that applies, by the bytes from the header on
+-- the first of faults 1 to 6 that applies, by the bytes from the header on
 abbrev pub header_bytes_fault : List ℕ → Option Fault
 header_bytes_fault bytes =
     if nat_lt (length bytes) header_size then Some TooShort else fault_in_order (order_of bytes) bytes
 
--- the same of a file
+-- the first of faults 1 to 6 that applies to a file
 abbrev pub file_fault : List ℕ → Option Fault
 file_fault file = header_bytes_fault (image_bytes file)
 
@@ -45,12 +46,12 @@ pub record HasChunks (file : List ℕ) (image : SavedImage) : Type 0 where
   pub special : image.memory.special ≡ special_address image.header
   pub chunks : IsPartition (data_of image.memory.order (image_bytes file)) image.memory.chunks
 
--- the file holds the image: its special objects array is there
+-- the file holds the image, which has its special objects array
 pub record Holds (file : List ℕ) (image : SavedImage) : Type 0 where
   pub parts : HasChunks file image
   pub special : IsSome (find image.memory image.memory.special)
 
--- the refusal of a chunk that cannot be read, by the index of its first word
+-- the fault for a chunk that cannot be read, by the index of its first word
 abbrev pub refusal_of : ChunkFault → ℕ → Fault
 refusal_of chunk_faults.ZeroSize word = ZeroSize word
 refusal_of chunk_faults.HeaderMismatch word = HeaderMismatch word
@@ -70,14 +71,14 @@ pub record HasUnreadableChunk (file : List ℕ) (fault : Fault) : Type 0 where
   pub in_order : order_of (image_bytes file) ≡ Some order
   pub unreadable : HasNoPartition (data_of order (image_bytes file)) fault
 
--- there is no object at the address of the special objects array
+-- no object has the address of the special objects array
 pub record LacksSpecialObjects (file : List ℕ) (fault : Fault) : Type 0 where
   pub image : SavedImage
   pub parts : HasChunks file image
   pub missing : find image.memory image.memory.special ≡ None
   pub refused : fault ≡ BadSpecialObjects
 
--- the file holds no image, for this reason, the first that applies
+-- the file holds no image; the fault is the first that applies
 abbrev pub IsUnreadable : List ℕ → Fault → Type 0
 IsUnreadable file fault =
     (file_fault file ≡ Some fault) ⊎ HasUnreadableChunk file fault ⊎ LacksSpecialObjects file fault

@@ -1,9 +1,9 @@
--- Where the chunks of objects begin, as it is kept.
+-- How a heap keeps where the chunks of objects begin.
 use Rattle.std.specs.Prelude.{◌≡◌, ℕ, ◌+◌, ◌%◌, ◌^◌, ◌<◌, List, [], map, length, slice_index_or}
 use Rattle.sqz_image.specs.declared.starts.Start.{Start}
 use Rattle.sqz_image.specs.Objects.{Object}
 
--- the index of the first word of the chunk that begins there
+-- the index of the first word of the chunk
 abbrev pub first_of : Start → ℕ
 first_of start = start.index % 2 ^ 30
 
@@ -17,7 +17,7 @@ start_at starts index = slice_index_or starts index record { index = 0 }
 abbrev pub object_in : List Object → ℕ → Object
 object_in objects index = slice_index_or objects index record { first = 0; chunk = [] }
 
--- the index of the word behind an object's chunk
+-- the index of the first word after an object's chunk
 abbrev pub end_of : Object → ℕ
 end_of object = object.first + length object.chunk
 
@@ -26,7 +26,8 @@ pub record IsNextAfter (objects : List Object) (index : ℕ) : Type 0 where
   pub inside : index + 1 < length objects
   pub adjacent : (object_in objects (index + 1)).first ≡ end_of (object_in objects index)
 
--- a start for each object, which says where its chunk begins, and whether the next object's follows directly
+-- one start per object: where its chunk begins, and whether the next object's chunk follows
+-- directly
 pub record AreStarts (objects : List Object) (starts : List Start) : Type 0 where
   pub firsts : map first_of starts ≡ map (λ object. object.first) objects
   pub followed : (index : ℕ) → index < length objects → IsFollowed (start_at starts index) → IsNextAfter objects index

@@ -1,10 +1,10 @@
-//! The data of an image, kept where they lie in its file.
+//! The data bytes of an image, kept inside the bytes of its file.
 
 ghost use Rattle.std.specs.Prelude.{◌≡◌, ◌-◌, ◌≤◌, take, drop, vec_len};
 
 use std::marker::Model;
 
-/// The data bytes of an image, among all bytes of its file. Contracts see the data bytes.
+/// The data bytes of an image, as a range of all bytes of its file. Contracts see the data bytes.
 #[derive(Drop)]
 pub(crate) struct DataBytes {
     file: Vec<u8>,
@@ -23,7 +23,7 @@ impl Model for DataBytes {
 }
 
 impl DataBytes {
-    /// The bytes of a file from `start` up to `end`.
+    /// Returns the bytes of `file` from offset `start` up to `end`.
     pub(crate) fn of(file: Vec<u8>, start: usize, end: usize) -> Self
         requires ordered { start ≤ end }
         requires inside { end ≤ vec_len file }
@@ -32,7 +32,7 @@ impl DataBytes {
         DataBytes { file, start, end }
     }
 
-    /// The data bytes.
+    /// Returns the data bytes.
     pub(crate) fn as_slice(&self) -> &[u8]
         ensures { result.now ≡ self.now }
     {

@@ -1,4 +1,4 @@
-//! Why a call was refused.
+//! Why a call failed.
 
 ghost use Rattle.std.specs.Prelude.{◌≡◌};
 ghost use Rattle.sqz_image.specs.declared.fault.Fault.TheVariants.{OutOfMemory};
@@ -9,8 +9,8 @@ use sqz_object::{Address, WordIndex};
 use std::alloc::{AllocError, AllocFailed};
 use thiserror::Error;
 
-/// Why a call was refused: the image is at fault, or memory, a device or an argument. `word` is the
-/// index of a data word, `address` that of a base header.
+/// Why a call failed: a fault of the image, an allocation failure, a device failure, or a bad
+/// argument. `word` is the index of a data word, `address` the address of a base header.
 #[derive(Clone, Copy, Debug, PartialEq, Eq, Error)]
 pub enum Fault {
     #[error("image is shorter than its header")]
@@ -58,7 +58,7 @@ pub enum Fault {
 }
 
 impl Fault {
-    /// The number under which the documents list the fault.
+    /// Returns the fault's number in the documentation.
     pub fn number(&self) -> u32
         ensures { result ≡ number_of_fault self.now }
     {

@@ -8,38 +8,38 @@ ghost use Rattle.sqz_image.specs.Refusals.{header_fault, header_bytes_fault};
 use crate::fault::Fault;
 use sqz_object::{Order, word_at};
 
-/// The first header word of an image of this format.
+/// The first header word of a supported image.
 const VERSION: u32 = 6502;
 
-/// The number of bytes of the header.
+/// The size of the header in bytes.
 pub(crate) const HEADER_SIZE: usize = 64;
 
-/// The number of words of the header.
+/// The size of the header in words.
 pub(crate) const HEADER_WORDS: usize = 16;
 
-/// The header word with the size of the header in bytes.
+/// The index of the header word that holds the size of the header in bytes.
 const HEADER_SIZE_WORD: usize = 1;
 
-/// The header word with the size of the data in bytes.
+/// The index of the header word that holds the size of the data in bytes.
 pub const DATA_SIZE_WORD: usize = 2;
 
-/// The header word with the address of the first data word.
+/// The index of the header word that holds the address of the first data word.
 pub(crate) const BASE_WORD: usize = 3;
 
-/// The header word with the address of the special objects array.
+/// The index of the header word that holds the address of the special objects array.
 pub(crate) const SPECIAL_WORD: usize = 4;
 
-/// The number of bytes before a header that does not begin the file.
+/// The number of bytes before the header, if the header does not begin the file.
 const PREFIX_SIZE: usize = 512;
 
-/// The header of a file, and the order of its bytes.
+/// The header of a file, and its byte order.
 #[derive(Clone, Copy)]
 pub(crate) struct Header {
     pub order: Order,
     pub words: [u32; HEADER_WORDS],
 }
 
-/// The byte order in which the bytes begin with the version.
+/// Returns the byte order in which the first word is the version, if there is one.
 fn order_of(bytes: &[u8]) -> Option<Order>
     requires { 4 ≤ length bytes.now }
     ensures { result ≡ order_of bytes.now }
@@ -53,8 +53,8 @@ fn order_of(bytes: &[u8]) -> Option<Order>
     None
 }
 
-/// The offset of the header in a file: 512 if the version stands there, in either order, and the
-/// file does not begin with it; else 0.
+/// Returns the offset of the header in bytes: 512 if the version is at offset 512, in either byte
+/// order, and not at offset 0; else 0.
 pub(crate) fn header_offset(file: &[u8]) -> usize
     ensures offset { result ≡ header_offset file.now }
     ensures inside { result ≤ length file.now }
@@ -69,7 +69,7 @@ pub(crate) fn header_offset(file: &[u8]) -> usize
     }
 }
 
-/// The sixteen words that the first 64 bytes spell.
+/// Returns the sixteen words that the first 64 bytes encode.
 fn header_words(order: Order, bytes: &[u8]) -> [u32; HEADER_WORDS]
     requires { 64 ≤ length bytes.now }
     ensures { result ≡ words_of order (take 64 bytes.now) }
@@ -82,7 +82,8 @@ fn header_words(order: Order, bytes: &[u8]) -> [u32; HEADER_WORDS]
     words
 }
 
-/// What is wrong with the header words of an image of this many bytes.
+/// Returns what is wrong with the header words, if anything. `bytes` is the number of bytes from
+/// the header on.
 fn header_fault(words: &[u32; HEADER_WORDS], bytes: usize) -> Option<Fault>
     ensures { result ≡ header_fault words.now bytes }
 {
@@ -104,7 +105,7 @@ fn header_fault(words: &[u32; HEADER_WORDS], bytes: usize) -> Option<Fault>
     None
 }
 
-/// The header that the bytes begin with, or the first thing that is wrong with it.
+/// Returns the header that the bytes begin with, or the first fault that it has.
 pub(crate) fn read_header(bytes: &[u8]) -> Result<Header, Fault>
     ensures sound { IfOk result (λ header. header_bytes_fault bytes.now ≡ None) }
     ensures order { IfOk result (λ header. order_of bytes.now ≡ Some header.order) }

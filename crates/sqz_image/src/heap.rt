@@ -22,19 +22,19 @@ use sqz_object::{Address, Chunk, ObjectIndex, Order, WordIndex, Words, known_chu
 use std::alloc::Global;
 use std::marker::Model;
 
-/// An object memory as it was saved: chunks of words, of which those that are not free are objects.
-/// Objects are named by their index, counted from 0 in address order.
+/// An object memory as it was saved: chunks of words, each an object or free. An object is
+/// referred to by its index, counted from 0 in address order.
 #[derive(Drop)]
 pub struct Heap {
     order: Order,
     base: Address,
     special: Address,
     special_object: ObjectIndex,
-    /// The data words, as the bytes of the file.
+    /// The data words, as bytes of the file.
     bytes: DataBytes,
     /// Where each object's chunk begins.
     starts: Vec<Start>,
-    /// The table of the indexes of the base headers.
+    /// The table of the word indexes of the base headers.
     headers: Vec<Block>,
 }
 
@@ -54,9 +54,11 @@ impl Model for Heap {
 }
 
 impl Heap {
-    /// The object memory with these data. Refused if their words are not chunks one after the
-    /// other, or if no object has the address of the special objects array; otherwise it fails only
-    /// by running out of memory.
+    /// Returns the object memory with these data.
+    ///
+    /// Fails with `ZeroSize`, `HeaderMismatch` or `Overrun` if the data words are not a sequence
+    /// of chunks, and with `BadSpecialObjects` if no object has the address `special`. Otherwise
+    /// fails only if out of memory.
     pub(crate) fn of(
         alloc: Global,
         order: Order,
@@ -89,7 +91,7 @@ impl Heap {
         })
     }
 
-    /// The data words, free chunks included.
+    /// Returns the data words, free chunks included.
     pub fn data(&self) -> Words<'_>
         ensures words { result ≡ concat self.now.chunks }
         ensures few { length result < 2 ^ 30 }
@@ -98,14 +100,14 @@ impl Heap {
         Words::of(self.order, self.bytes.as_slice())
     }
 
-    /// The byte order of the file.
+    /// Returns the byte order of the file.
     pub fn order(&self) -> Order
         ensures { result ≡ self.now.order }
     {
         self.order
     }
 
-    /// The address of the first data word.
+    /// Returns the address of the first data word.
     pub fn base(&self) -> Address
         ensures base { result ≡ self.now.base }
         ensures aligned { result % 4 ≡ 0 }
@@ -113,7 +115,7 @@ impl Heap {
         self.base
     }
 
-    /// The number of data words.
+    /// Returns the number of data words.
     pub fn words(&self) -> u32
         ensures words { result ≡ length (concat self.now.chunks) }
         ensures few { result < 2 ^ 30 }
@@ -121,7 +123,7 @@ impl Heap {
         self.data().len() as u32
     }
 
-    /// The number of objects.
+    /// Returns the number of objects.
     pub fn len(&self) -> u32
         ensures objects { result ≡ object_count self.now }
         ensures few { result < 2 ^ 30 }
@@ -129,7 +131,7 @@ impl Heap {
         self.starts.len() as u32
     }
 
-    /// The address of the object's base header.
+    /// Returns the address of the object's base header.
     pub fn address(&self, object: ObjectIndex) -> Address
         requires { object < object_count self.now }
         ensures address { result ≡ address_of self.now object }
@@ -139,7 +141,7 @@ impl Heap {
         offset + self.base
     }
 
-    /// The index of the first word of the object's chunk among the data words.
+    /// Returns the index of the first word of the object's chunk among the data words.
     pub fn first(&self, object: ObjectIndex) -> WordIndex
         requires { object < object_count self.now }
         ensures first { result ≡ (object_at self.now object).first }
@@ -148,7 +150,7 @@ impl Heap {
         self.starts[object as usize].first()
     }
 
-    /// The object: its chunk's header and words.
+    /// Returns the object: its chunk's header and words.
     pub fn object(&self, object: ObjectIndex) -> Object<'_>
         requires { object < object_count self.now }
         ensures { result ≡ chunk_words self.now object }
@@ -159,7 +161,7 @@ impl Heap {
         Object::new(header, words)
     }
 
-    /// What the header words of the object's chunk say.
+    /// Returns what the header words of the object's chunk state.
     pub fn chunk(&self, object: ObjectIndex) -> Chunk
         requires { object < object_count self.now }
         ensures described { result ≡ description (chunk_words self.now object) }
@@ -169,8 +171,8 @@ impl Heap {
         known_chunk(&self.data(), self.first(object) as usize)
     }
 
-    /// How many words the object's chunk has. Its header is read only where no object's chunk
-    /// follows it directly.
+    /// Returns the length of the object's chunk in words. The header is read only if the next
+    /// object's chunk does not follow directly.
     pub fn chunk_length(&self, object: ObjectIndex) -> u32
         requires { object < object_count self.now }
         ensures length { result ≡ length (chunk_words self.now object) }
@@ -184,7 +186,7 @@ impl Heap {
         }
     }
 
-    /// Word `k` of the object's chunk, header words counted.
+    /// Returns word `k` of the object's chunk, counting header words.
     pub fn word(&self, object: ObjectIndex, k: u32) -> u32
         requires object { object < object_count self.now }
         requires word { k < length (chunk_words self.now object) }
@@ -193,7 +195,7 @@ impl Heap {
         self.data().at((self.first(object) + k) as usize)
     }
 
-    /// The number of the object's fields: the words after its base header.
+    /// Returns the number of the object's fields: the words after its base header.
     pub fn fields(&self, object: ObjectIndex) -> u32
         requires { object < object_count self.now }
         ensures { result ≡ length (fields (chunk_words self.now object)) }
@@ -202,7 +204,7 @@ impl Heap {
         chunk.length - chunk.before - 1
     }
 
-    /// Field `k` of the object. The program goes over slices of fields, by `object`.
+    /// Returns field `k` of the object. Loops over fields use the slice that `object` returns.
     pub fn field(&self, object: ObjectIndex, k: u32) -> u32
         requires object { object < object_count self.now }
         requires field { k < length (fields (chunk_words self.now object)) }
@@ -211,14 +213,14 @@ impl Heap {
         self.word(object, self.chunk(object).before + 1 + k)
     }
 
-    /// The object whose address it is.
+    /// Returns the object whose base header has this address, if there is one.
     pub fn find(&self, address: Address) -> Option<ObjectIndex>
         ensures { result ≡ find self.now address }
     {
         place_at(&self.headers, self.base, address)
     }
 
-    /// The special objects array.
+    /// Returns the special objects array.
     pub fn special(&self) -> ObjectIndex
         ensures special { find self.now self.now.special ≡ Some result }
         ensures inside { result < object_count self.now }
@@ -227,19 +229,19 @@ impl Heap {
     }
 }
 
-/// There are fewer than 2^30 objects and fewer than 2^30 data words, and no data word lies at 2^32
-/// or above. A law of every heap: the call does nothing.
+/// There are fewer than 2^30 objects and fewer than 2^30 data words, and every data word lies
+/// below address 2^32. A law of every heap: the call does nothing.
 pub fn heap_bounds(heap: &Heap)
     ensures objects { object_count heap.now < 2 ^ 30 }
     ensures words { length (concat heap.now.chunks) < 2 ^ 30 }
     ensures within { heap.now.base + 4 * length (concat heap.now.chunks) ≤ 2 ^ 32 }
 {
-    // what a heap keeps says so, and is known where one of its fields is used
+    // the invariant of a heap says so; it is known when a field is used
     let _ = &heap.bytes;
 }
 
-/// The place of an address among those of the words whose indexes the table has, the first word's
-/// address being `base`.
+/// Returns the index of the object whose base header has this address, if there is one. `headers`
+/// is the table of the word indexes of the base headers, `base` the address of word 0.
 fn place_at(headers: &[Block], base: Address, address: Address) -> Option<ObjectIndex>
     requires { IsTable headers.now }
     ensures { (indexes : List ℕ) → IsRanked indexes headers.now

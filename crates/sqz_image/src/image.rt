@@ -48,7 +48,7 @@ impl Image {
         }
     }
 
-    /// The bytes before the header: none, or 512.
+    /// Returns the bytes before the header: none, or 512.
     pub fn prefix(&self) -> &[u8]
         ensures prefix { result.now ≡ self.now.prefix }
         ensures sized { (length result.now ≡ 0) ⊎ (length result.now ≡ prefix_size) }
@@ -56,8 +56,8 @@ impl Image {
         &self.prefix
     }
 
-    /// The header words, with another data size in bytes and another address of the special objects
-    /// array.
+    /// Returns the header words, with `size` as the data size in bytes and `special` as the
+    /// address of the special objects array.
     pub(crate) fn renewed_header(&self, size: u32, special: Address) -> [u32; HEADER_WORDS]
         ensures { result ≡ renewed self.now.header size special }
     {
@@ -67,14 +67,14 @@ impl Image {
         header
     }
 
-    /// The object memory.
+    /// Returns the object memory.
     pub fn heap(&self) -> &Heap
         ensures { result.now ≡ self.now.memory }
     {
         &self.heap
     }
 
-    /// Header word `k` of the sixteen, as it was read.
+    /// Returns header word `k` of the sixteen, as it was read.
     pub fn header(&self, k: u32) -> u32
         requires { k < 16 }
         ensures { result ≡ slice_index self.now.header k }

@@ -1,4 +1,4 @@
-//! Where the objects stand among the data words.
+//! Where the objects lie among the data words.
 
 ghost use Rattle.std.specs.Prelude.{◌≡◌, ◌⊎◌, ◌^◌, ◌<◌, length, IfOk, IfErr};
 ghost use Rattle.sqz_image.specs.declared.fault.Fault.TheVariants.{OutOfMemory};
@@ -11,17 +11,18 @@ use crate::starts::{Start, begins_object};
 use sqz_object::{ChunkFault, Kind, WordIndex, Words, chunk_in};
 use std::alloc::Global;
 
-/// Where each object stands.
+/// Where each object lies.
 #[derive(Drop)]
 pub(crate) struct Index {
     /// Where each object's chunk begins.
     pub starts: Vec<Start>,
-    /// The table of the indexes of the base headers.
+    /// The table of the word indexes of the base headers.
     pub headers: Vec<Block>,
 }
 
-/// The objects of words that are chunks, one after the other. Refused at the first chunk that
-/// cannot be read: `ZeroSize`, `HeaderMismatch` or `Overrun`; else for want of memory alone.
+/// Returns the objects of words that are a sequence of chunks. Fails with `ZeroSize`,
+/// `HeaderMismatch` or `Overrun` at the first chunk that cannot be read. Otherwise fails only if
+/// out of memory.
 pub(crate) fn index_of(alloc: Global, words: &Words<'_>) -> Result<Index, Fault>
     requires few { length words.now < 2 ^ 30 }
     ensures index { IfOk result (λ index.
@@ -51,7 +52,7 @@ pub(crate) fn index_of(alloc: Global, words: &Words<'_>) -> Result<Index, Fault>
     Ok(Index { starts, headers })
 }
 
-/// The refusal of a chunk that cannot be read, by the index of its first word.
+/// Returns the fault for a chunk that cannot be read. `word` is the index of its first word.
 fn refusal_of(reason: ChunkFault, word: WordIndex) -> Fault
     ensures { result ≡ refusal_of reason word }
 {

@@ -1,4 +1,4 @@
-//! Laws about the definitions and the types, each the contract of a function that does nothing.
+//! Laws of the definitions and types. Each is the contract of a function that does nothing.
 
 ghost use Rattle.std.specs.Prelude.{◌≡◌, ◌⊎◌, ℕ, List};
 ghost use Rattle.sqz_object.specs.declared.chunk.ChunkFault.{ChunkFault};
@@ -7,8 +7,8 @@ ghost use Rattle.sqz_image.specs.File.{AreBytes};
 
 pub use crate::heap::heap_bounds;
 
-/// Data words are chunks one after the other in exactly one way, or they are stuck at exactly one
-/// place for one reason, and never both.
+/// Every list of data words either is a sequence of chunks in exactly one way, or is stuck at
+/// exactly one word for one reason.
 pub fn partition()
     ensures one_or_other { (words : List ℕ) →
         ((chunks : List (List ℕ)) × IsPartition words chunks)
@@ -21,8 +21,7 @@ pub fn partition()
         → IsPartition words chunks → IsStuck words place fault → ⊥ }
 {}
 
-/// What a slice of bytes holds are numbers below 256. A law of every such slice: the call does
-/// nothing.
+/// Each byte of a slice is a number below 256. A law of every such slice: the call does nothing.
 pub fn byte_bounds(file: &[u8])
     ensures { AreBytes file.now }
 {}

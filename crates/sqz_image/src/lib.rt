@@ -1,5 +1,5 @@
-//! Image files of the Squeak object memory, version 6502 of 32 bits: the devices that bytes come
-//! from and go to, the file as bytes, and the objects that it holds.
+//! Image files of the 32-bit Squeak object memory, version 6502: byte sources and sinks, the file
+//! as bytes, and the objects that it holds.
 #![tactic(auto)]
 
 mod data_bytes;

@@ -1,4 +1,4 @@
-//! A sink that keeps bytes in memory, which can be told to fail.
+//! A sink in memory, which can be made to fail.
 
 ghost use Rattle.std.specs.Prelude.{◌≡◌, ◌+◌, ◌<◌, ◌≤◌, ◌↔◌, ◌⊎◌, true, false, Some, [], min};
 ghost use Rattle.std.specs.Prelude.{length, IfOk, OnOk};
@@ -10,8 +10,8 @@ use crate::device::{DeviceFault, Sink};
 use crate::fault::Fault;
 use std::alloc::Global;
 
-/// Takes bytes as long as it has room, which it has from the start on, and fails at a call that was
-/// set beforehand. A write to a full sink fails, where it is of a piece that is not empty.
+/// Takes bytes while there is room, which is allocated at the start, and fails at a chosen call. A
+/// write of a non-empty piece to a full sink fails.
 #[derive(Drop)]
 pub struct MemorySink {
     taken: Vec<u8>,
@@ -28,10 +28,10 @@ pub struct MemorySink {
 impl MemorySink {
     ghost use Rattle.sqz_image.specs.MemoryDevices.{room_left, calls_of, failing_call};
 
-    /// A sink with room for so many bytes. The call with the number `fail` fails, where writes and
-    /// flushes are counted together from 0.
+    /// Returns a sink with room for `room` bytes. The call with the number `fail` fails; writes
+    /// and flushes are counted together, from 0.
     ///
-    /// Fails with `OutOfMemory`.
+    /// Fails with `OutOfMemory` if the room cannot be allocated.
     pub fn new(alloc: Global, room: u32, fail: Option<u64>) -> Result<Self, Fault>
         ensures starts { IfOk result (λ sink. ⟦<MemorySink as Sink>⟧.state sink
             ≡ record { contents = Some []; writes = 0; unflushed = false; failed = false }) }
@@ -51,14 +51,14 @@ impl MemorySink {
         })
     }
 
-    /// The bytes that were taken.
+    /// Returns the bytes that were taken.
     pub fn contents(&self) -> &[u8]
         ensures { Some result.now ≡ (⟦<MemorySink as Sink>⟧.state self.now).contents }
     {
         &self.taken
     }
 
-    /// Counts a call, and refuses it where the sink failed before or is to fail now.
+    /// Counts a call. Fails if the sink failed before or is to fail now.
     fn begin(&mut self) -> Result<(), DeviceFault>
         ensures fails { IsErr result ↔ ((self.old.failed ≡ true)
             ⊎ (failing_call self.old ≡ Some (calls_of self.old))) }

@@ -1,4 +1,4 @@
-//! A source of bytes in memory, which can be told to fail.
+//! A source of bytes in memory, which can be made to fail.
 
 ghost use Rattle.std.specs.Prelude.{◌≡◌, ◌≤◌, ◌↔◌, ◌⊎◌, true, false, Some, min, length, take, drop};
 ghost use Rattle.std.specs.Prelude.{vec_len};
@@ -7,7 +7,7 @@ ghost use Rattle.sqz_image.specs.Devices.{SourceState, IsRead};
 
 use crate::device::{DeviceFault, Source};
 
-/// Gives bytes in pieces, and fails at a read that was set beforehand.
+/// Gives bytes in pieces, and fails at a chosen read.
 #[derive(Drop)]
 pub struct MemorySource {
     bytes: Vec<u8>,
@@ -24,8 +24,8 @@ pub struct MemorySource {
 impl MemorySource {
     ghost use Rattle.sqz_image.specs.MemoryDevices.{piece_size, failing_read};
 
-    /// A source that gives at most `piece` bytes a read. The read with the number `fail`, counted
-    /// from 0, fails.
+    /// Returns a source that gives at most `piece` bytes per read. The read with the number
+    /// `fail`, counted from 0, fails.
     pub fn new(bytes: Vec<u8>, piece: u32, fail: Option<u64>) -> Self
         requires { 1 ≤ piece }
         ensures starts { ⟦<MemorySource as Source>⟧.state result
@@ -86,8 +86,8 @@ impl Source for MemorySource {
     }
 }
 
-/// Copies bytes to the front of `into`, as many as both have and `most` at most, and answers how
-/// many.
+/// Copies bytes to the front of `into`: as many as both slices have, but at most `most`. Returns
+/// their number.
 fn copy_front(from: &[u8], most: usize, into: &mut [u8]) -> usize
     ensures count { result ≡ min (min (length from.now) (length into.old)) most }
     ensures copied { take result into.new ≡ take result from.now }

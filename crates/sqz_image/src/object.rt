@@ -8,7 +8,7 @@ ghost use Rattle.sqz_object.specs.Reading.{description};
 use sqz_object::{Chunk, Layout, Words, base_of};
 use std::marker::Model;
 
-/// An object's chunk: what its header says, and all its words. Contracts see it as the list of its
+/// An object's chunk: what its header states, and all its words. Contracts see the list of its
 /// words.
 #[derive(Drop)]
 pub struct Object<'a> {
@@ -28,7 +28,7 @@ impl<'a> Model for Object<'a> {
 }
 
 impl<'a> Object<'a> {
-    /// An object with this header and these words, all header words among them.
+    /// Returns an object with this header and these words, header words included.
     pub(crate) fn new(header: Chunk, words: Words<'a>) -> Self
         requires described { header ≡ description words }
         requires headed { header.before < header.length }
@@ -38,7 +38,7 @@ impl<'a> Object<'a> {
         Object { header, words }
     }
 
-    /// What the header words say.
+    /// Returns what the header words state.
     pub fn header(&self) -> Chunk
         ensures described { result ≡ description self.now }
         ensures headed { result.before < result.length }
@@ -47,21 +47,21 @@ impl<'a> Object<'a> {
         self.header
     }
 
-    /// How the fields are laid out.
+    /// Returns the layout of the fields.
     pub fn layout(&self) -> Layout
         ensures { result ≡ layout self.now }
     {
         Layout::of(&base_of(self.header.base))
     }
 
-    /// All words of the chunk, the header words among them.
+    /// Returns all words of the chunk, header words included.
     pub fn words(&self) -> &Words<'a>
         ensures { result.now ≡ self.now }
     {
         &self.words
     }
 
-    /// The words after the base header.
+    /// Returns the words after the base header.
     pub fn fields(&self) -> Words<'a>
         ensures fields { result ≡ fields self.now }
         ensures few { length result < 2 ^ 30 }

@@ -1,24 +1,24 @@
-//! The place of a number among numbers that rise, told by a bit for each number and ranks.
+//! The index of a number in an ascending list: a table with one bit per number, and ranks.
 
 ghost use Rattle.std.specs.Prelude.{◌≡◌, ℕ, ◌^◌, ◌<◌, List, [], ◌∷◌, ◌++◌, length, IfOk};
 ghost use Rattle.sqz_image.specs.Ranks.{IsPlaceOf, IsAbove, IsFilled, IsRanked, IsTable};
 
 use std::alloc::AllocError;
 
-/// How many numbers a block has a bit for.
+/// The number of bits of a block.
 const BLOCK_SIZE: u32 = 32;
 
-/// A row of 32 numbers.
+/// A block: 32 adjacent numbers.
 #[derive(Clone, Copy)]
 pub(crate) struct Block {
-    /// Bit `k` is set where number `k` of the row is a member of the table.
+    /// Bit `k` is set if number `k` of the block is a member of the table.
     members: u32,
-    /// How many members are below the row.
+    /// The number of members below the block.
     below: u32,
 }
 
-/// Adds a number to the table of so many numbers, which are all below it. The table has a block for
-/// each row of 32 numbers, from 0 on up to the last of them.
+/// Adds a number to a table of `count` smaller numbers. The table has a block for each 32 numbers,
+/// from 0 up to the greatest one.
 pub(crate) fn add(blocks: &mut Vec<Block>, count: u32, number: u32) -> Result<(), AllocError>
     ensures { IfOk result (λ _. (numbers : List ℕ) → IsFilled numbers blocks.old.items
         → length numbers ≡ count → IsAbove numbers number
@@ -36,7 +36,8 @@ pub(crate) fn add(blocks: &mut Vec<Block>, count: u32, number: u32) -> Result<()
     Ok(())
 }
 
-/// The place of a number among those of the table, in constant time.
+/// Returns the index of a number among the members of the table, if it is one. Takes constant
+/// time.
 pub(crate) fn place_of(blocks: &[Block], number: u32) -> Option<u32>
     requires { IsTable blocks.now }
     ensures { (numbers : List ℕ) → IsRanked numbers blocks.now → IsPlaceOf numbers number result }

@@ -7,7 +7,8 @@ use crate::device::{DeviceFault, Source};
 use crate::source_calls::SourceCalls;
 use std::io::Read;
 
-/// Gives the bytes of a reader. Each error of the reader is a failure, an interrupted read too.
+/// Gives the bytes of a reader. Every error of the reader is a failure, including an interrupted
+/// read.
 #[derive(Drop)]
 pub struct ReadSource<R> {
     inner: R,
@@ -15,7 +16,7 @@ pub struct ReadSource<R> {
 }
 
 impl<R: Read> ReadSource<R> {
-    /// A source that was not read yet.
+    /// Returns a source that has not been read yet.
     pub fn new(inner: R) -> Self
         ensures { ⟦<ReadSource<R> as Source>⟧.state result
             ≡ record { left = R.remaining inner; reads = 0; empty_reads = 0; failed = false } }

@@ -1,4 +1,4 @@
-//! All the bytes of a source.
+//! Reading all bytes of a source.
 
 ghost use Rattle.std.specs.Prelude.{◌≡◌, ◌++◌, IfOk, OnOk, IfErr};
 ghost use Rattle.sqz_image.specs.Devices.{ReadsWhole, ReadStops};
@@ -8,19 +8,20 @@ use crate::device::Source;
 use crate::fault::Fault;
 use std::alloc::Global;
 
-/// How many reads are made at most: where they do not end, this many are made and the call fails.
+/// The greatest number of reads: the call fails after this many, if the end was not reached.
 const TURNS: u64 = 1 << 32;
 
-/// How many bytes are asked for at once.
+/// The number of bytes that one read asks for.
 const PIECE: usize = 1 << 16;
 
-/// How many bytes of room are added at least.
+/// The least number of bytes by which room grows.
 const LEAST_ROOM: usize = 1 << 20;
 
-/// The bytes that the source gives up to the first read that gives none. If the source promises to
-/// give all its bytes, it then has none left.
+/// Returns the bytes that the source gives before the first read that returns 0. If the source
+/// promises to give all its bytes, it has none left after that.
 ///
-/// Fails with `OutOfMemory`, or with `ReadFailed` if a read fails or 2^32 reads do not come to the
+/// Fails with `OutOfMemory`, or with `ReadFailed` if a read fails or 2^32 reads do not reach the
+/// end. The bytes read so far are then lost.
 /// end. The bytes that were read are then lost.
 pub fn read_all<R: Source>(alloc: Global, source: &mut R) -> Result<Vec<u8>, Fault>
     ensures whole { IfOk result (λ file.
@@ -39,13 +40,13 @@ pub fn read_all<R: Source>(alloc: Global, source: &mut R) -> Result<Vec<u8>, Fau
         }
         append(&mut file, &piece[..count])?;
     }
-    // The last turn: what it gives is not looked at, since no turn is left to come to the end.
+    // The last read: what it returns is not examined, since no read is left to reach the end.
     let _ = source.read(&mut piece);
     Err(Fault::ReadFailed)
 }
 
-/// Puts bytes at the end of a file. Room is added in steps of a quarter of what is there, so that
-/// the memory taken stays close to what is used.
+/// Appends bytes to a file. Room grows by a quarter of what is there, so that the memory taken
+/// stays close to what is used.
 fn append(file: &mut Vec<u8>, bytes: &[u8]) -> Result<(), Fault>
     ensures whole { OnOk result (file.new.items ≡ file.old.items ++ bytes.now) }
     ensures stopped { IfErr result (λ fault. fault ≡ OutOfMemory) }

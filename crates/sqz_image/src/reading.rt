@@ -14,13 +14,13 @@ use crate::image::Image;
 use crate::laws::byte_bounds;
 use std::alloc::Global;
 
-/// The image that the bytes of a file hold, over a copy of them. The header stands at the front, or
-/// after 512 other bytes, which the image keeps. Bytes after the data are ignored.
+/// Returns the image that the bytes of a file hold, over a copy of them. The header is at offset
+/// 0, or at offset 512; the image keeps the 512 bytes before it. Bytes after the data are ignored.
 ///
-/// Fails with the first fault of a file that applies: `TooShort`, `BadVersion`, `BadHeaderSize`,
+/// Fails with the first fault of the file that applies: `TooShort`, `BadVersion`, `BadHeaderSize`,
 /// `BadDataSize`, `BadBase`, `Truncated`; then `ZeroSize`, `HeaderMismatch` or `Overrun` at the
-/// first chunk that cannot be read; then `BadSpecialObjects`. Otherwise it fails only by running
-/// out of memory, and never so if the header has a fault.
+/// first chunk that cannot be read; then `BadSpecialObjects`. Otherwise fails only if out of
+/// memory, and never with `OutOfMemory` if the header has a fault.
 pub fn read_image(alloc: Global, bytes: &[u8]) -> Result<Image, Fault>
     ensures image { IfOk result (λ image. Holds bytes.now image) }
     ensures refused { IfErr result (λ fault.
@@ -32,8 +32,8 @@ pub fn read_image(alloc: Global, bytes: &[u8]) -> Result<Image, Fault>
     image_of_file(alloc, file)
 }
 
-/// The image that a file holds. Its words stay where they lie among the bytes of the file, which
-/// the image keeps. It fails as `read_image` does; the bytes are then lost.
+/// Returns the image that a file holds, without copying: the image keeps the bytes of the file.
+/// Fails as `read_image` does; the bytes are then lost.
 pub fn image_of_file(alloc: Global, file: Vec<u8>) -> Result<Image, Fault>
     ensures image { IfOk result (λ image. Holds file.items image) }
     ensures refused { IfErr result (λ fault.

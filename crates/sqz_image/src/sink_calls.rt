@@ -1,4 +1,4 @@
-//! What a sink over a writer keeps of its calls.
+//! The record of calls of a sink over a writer.
 
 ghost use Rattle.std.specs.Prelude.{◌≡◌, ◌<◌, ◌↔◌, ◌==◌, if◌then◌else◌, Ok, true, false, length};
 ghost use Rattle.std.specs.Prelude.{IfOk, OnOk, OnErr, IsErr};
@@ -7,19 +7,19 @@ ghost use Rattle.sqz_image.specs.Devices.{one_more};
 use crate::device::DeviceFault;
 use std::io;
 
-/// What a sink over a writer keeps of its calls.
+/// The record of calls of a sink over a writer.
 #[derive(Clone, Copy, Debug, PartialEq, Eq)]
 pub struct SinkCalls {
-    /// How many writes it had.
+    /// The number of writes.
     pub writes: u64,
-    /// Whether it took bytes that no flush has passed on.
+    /// Whether bytes were taken that no flush has passed on.
     pub unflushed: bool,
     /// Whether a call failed.
     pub failed: bool,
 }
 
 impl SinkCalls {
-    /// No call yet.
+    /// Returns the record with no call yet.
     pub const fn new() -> Self
         ensures { result ≡ record { writes = 0; unflushed = false; failed = false } }
     {
@@ -30,7 +30,7 @@ impl SinkCalls {
         }
     }
 
-    /// Counts a write that begins. It is refused where a call has failed.
+    /// Counts a write that begins. Fails if a call has failed.
     pub fn begin_write(&mut self) -> Result<(), DeviceFault>
         ensures refused { IsErr result ↔ (self.old.failed ≡ true) }
         ensures counted { self.new.writes ≡ one_more self.old.writes }
@@ -41,9 +41,9 @@ impl SinkCalls {
         self.begin_flush()
     }
 
-    /// Ends a write of a piece, of which the writer answered this. Each error of the writer is a
-    /// failure, an interrupted write too, and so is a write that took nothing of a piece that is
-    /// not empty.
+    /// Ends a write of the piece `from`, for which the writer returned `written`. Every error of
+    /// the writer is a failure, including an interrupted write, and so is a write of a non-empty
+    /// piece that returns 0.
     pub fn end_write(
         &mut self,
         from: &[u8],
@@ -71,7 +71,7 @@ impl SinkCalls {
         }
     }
 
-    /// Begins a flush. It is refused where a call has failed.
+    /// Begins a flush. Fails if a call has failed.
     pub fn begin_flush(&self) -> Result<(), DeviceFault>
         ensures { IsErr result ↔ (self.now.failed ≡ true) }
     {
@@ -81,7 +81,7 @@ impl SinkCalls {
         Ok(())
     }
 
-    /// Ends a flush, of which the writer answered this.
+    /// Ends a flush, for which the writer returned `flushed`.
     pub fn end_flush(&mut self, flushed: io::Result<()>) -> Result<(), DeviceFault>
         ensures answered { OnOk result (self.new.unflushed ≡ false) }
         ensures failed { IsErr result ↔ IsErr flushed }

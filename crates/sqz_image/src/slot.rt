@@ -7,7 +7,7 @@ use std::fmt;
 pub enum Slot {
     /// The class word of a header of two or three words.
     ClassWord,
-    /// The field with this index.
+    /// The field with this index: 0 is the word after the base header.
     Field(u32),
 }
 

@@ -1,4 +1,4 @@
-//! What a source keeps of its calls.
+//! The record of calls of a source.
 
 ghost use Rattle.std.specs.Prelude.{◌≡◌, ◌↔◌, ◌==◌, ◌&&◌, if◌then◌else◌, nat_lt, Ok, true, false};
 ghost use Rattle.std.specs.Prelude.{length};
@@ -8,19 +8,19 @@ ghost use Rattle.sqz_image.specs.Devices.{one_more};
 use crate::device::DeviceFault;
 use std::io;
 
-/// What a source keeps of its calls.
+/// The record of calls of a source.
 #[derive(Clone, Copy, Debug, PartialEq, Eq)]
 pub(crate) struct SourceCalls {
-    /// How many reads it had.
+    /// The number of reads.
     pub reads: u64,
-    /// How many of them gave nothing for a piece that is not empty.
+    /// The number of reads that returned 0 for a non-empty piece.
     pub empty_reads: u64,
     /// Whether a call failed.
     pub failed: bool,
 }
 
 impl SourceCalls {
-    /// No call yet.
+    /// Returns the record with no call yet.
     pub const fn new() -> Self
         ensures { result ≡ record { reads = 0; empty_reads = 0; failed = false } }
     {
@@ -31,7 +31,7 @@ impl SourceCalls {
         }
     }
 
-    /// Counts a read that begins. It is refused after a failure.
+    /// Counts a read that begins. Fails after a failure.
     pub fn begin_read(&mut self) -> Result<(), DeviceFault>
         ensures refused { IsErr result ↔ (self.old.failed ≡ true) }
         ensures counted { self.new.reads ≡ one_more self.old.reads }
@@ -45,8 +45,8 @@ impl SourceCalls {
         Ok(())
     }
 
-    /// Ends a read into a piece, for which the reader returned this. Each error of the reader is a
-    /// failure, an interrupted read too.
+    /// Ends a read into the piece `into`, for which the reader returned `read`. Every error of the
+    /// reader is a failure, including an interrupted read.
     pub fn end_read(&mut self, into: &[u8], read: io::Result<usize>) -> Result<usize, DeviceFault>
         ensures given { IfOk result (λ count. read ≡ Ok count) }
         ensures empty { IfOk result (λ count. self.new.empty_reads

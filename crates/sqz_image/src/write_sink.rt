@@ -7,8 +7,8 @@ use crate::device::{DeviceFault, Sink};
 use crate::sink_calls::SinkCalls;
 use std::io::Write;
 
-/// Passes bytes on to a writer. Each error of the writer is a failure, an interrupted write too,
-/// and so is a write that takes nothing of a piece that is not empty.
+/// Passes bytes on to a writer. Every error of the writer is a failure, including an interrupted
+/// write, and so is a write of a non-empty piece that returns 0.
 #[derive(Drop)]
 pub struct WriteSink<W> {
     inner: W,
@@ -16,7 +16,7 @@ pub struct WriteSink<W> {
 }
 
 impl<W: Write> WriteSink<W> {
-    /// A sink that was not written to yet.
+    /// Returns a sink that has not been written to yet.
     pub fn new(inner: W) -> Self
         ensures { ⟦<WriteSink<W> as Sink>⟧.state result
             ≡ record {

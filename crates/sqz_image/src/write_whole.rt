@@ -1,4 +1,4 @@
-//! All of some bytes to a sink.
+//! Writing all of some bytes to a sink.
 
 ghost use Rattle.std.specs.Prelude.{◌<◌, OnOk, IfErr};
 ghost use Rattle.sqz_image.specs.Devices.{WritesWhole, WriteStops, Sends, SendStops};
@@ -6,13 +6,13 @@ ghost use Rattle.sqz_image.specs.Devices.{WritesWhole, WriteStops, Sends, SendSt
 use crate::device::Sink;
 use crate::fault::Fault;
 
-/// How many writes are made at most: where they do not end, this many are made and the call fails.
+/// The greatest number of writes: the call fails after this many, if bytes are left.
 pub(crate) const TURNS: u64 = 1 << 32;
 
-/// Writes all the bytes, and then flushes. It takes no memory.
+/// Writes all the bytes, and then flushes. It allocates no memory.
 ///
-/// Fails with `WriteFailed` where a write or the flush fails, and where 2^32 writes were made.
-/// Bytes from the front on, perhaps all, were then taken.
+/// Fails with `WriteFailed` if a write or the flush fails, or if 2^32 writes do not suffice. The
+/// sink has then taken some of the bytes, from the front on, perhaps all.
 pub fn write_all<W: Sink>(sink: &mut W, bytes: &[u8]) -> Result<(), Fault>
     ensures whole { OnOk result (WritesWhole (W.state sink.old) (W.state sink.new) bytes.now) }
     ensures stopped { IfErr result (λ fault.
@@ -23,7 +23,7 @@ pub fn write_all<W: Sink>(sink: &mut W, bytes: &[u8]) -> Result<(), Fault>
     sink.flush().map_err(|_| Fault::WriteFailed)
 }
 
-/// Writes all the bytes, one turn a write. It fails where no turn is left after a write.
+/// Writes all the bytes; each write uses one turn. Fails if a write leaves no turn.
 pub(crate) fn send<W: Sink>(sink: &mut W, bytes: &[u8], turns: &mut u64) -> Result<(), Fault>
     requires { 0 < turns.old }
     ensures whole { OnOk result (Sends (W.state sink.old) (W.state sink.new) bytes.now turns.old

@@ -1,4 +1,4 @@
-//! The bytes and words of an image to a sink.
+//! Writing the bytes and words of an image to a sink.
 
 ghost use Rattle.std.specs.Prelude.{◌≡◌, ◌*◌, ◌<◌, ◌≤◌, ◌++◌, length, take, map, OnOk, IfErr};
 ghost use Rattle.std.specs.List.{concat};
@@ -10,17 +10,17 @@ use crate::fault::Fault;
 use crate::write_whole::{TURNS, send};
 use sqz_object::{Order, put_word};
 
-/// How many words are spelled at once.
+/// The number of words that are encoded at once.
 const BLOCK_WORDS: usize = 1 << 14;
 
-/// The bytes of so many words.
+/// The size of a block in bytes.
 const BLOCK: usize = 4 * BLOCK_WORDS;
 
 /// Writes the bytes of the prefix, then the header words and the words of each piece, in this byte
-/// order, and then flushes. It takes no memory.
+/// order, and then flushes. It allocates no memory.
 ///
-/// Fails with `WriteFailed` where a write or the flush fails, and where 2^32 writes were made.
-/// Bytes from the front on, perhaps all, were then taken.
+/// Fails with `WriteFailed` if a write or the flush fails, or if 2^32 writes do not suffice. The
+/// sink has then taken some of the bytes, from the front on, perhaps all.
 pub(crate) fn write_words<W: Sink>(
     sink: &mut W,
     order: Order,
@@ -44,7 +44,7 @@ pub(crate) fn write_words<W: Sink>(
     sink.flush().map_err(|_| Fault::WriteFailed)
 }
 
-/// Writes all the words, one block of bytes after the other.
+/// Writes all the words, block by block.
 fn send_words<W: Sink>(
     sink: &mut W,
     order: Order,
@@ -68,7 +68,7 @@ fn send_words<W: Sink>(
     Ok(())
 }
 
-/// Spells the words at the front of the block.
+/// Encodes the words at the front of the block.
 fn spell(block: &mut [u8], order: Order, words: &[u32])
     requires { 4 * length words.now ≤ length block.old }
     ensures { take (4 * length words.now) block.new ≡ spelling_of order words.now }

@@ -1,4 +1,4 @@
-//! An image to a sink.
+//! Writing an image to a sink.
 
 ghost use Rattle.std.specs.Prelude.{◌≡◌, ◌*◌, ◌^◌, ◌<◌, length, map, OnOk, IfErr};
 ghost use Rattle.std.specs.List.{concat};
@@ -11,17 +11,18 @@ use crate::image::Image;
 use crate::write_words::write_words;
 use sqz_object::Address;
 
-/// Writes the bytes before the image's header, the header, with the size in bytes of the pieces and
-/// the address `special` of the special objects array in it, and then the pieces, all words in the
-/// image's byte order; then flushes. It takes no memory.
+/// Writes the bytes before the image's header, the header, and then the pieces, all words in the
+/// image's byte order; then flushes. The header states the size of the pieces in bytes, and
+/// `special` as the address of the special objects array. It allocates no memory.
 ///
 /// `special` is the address in bytes of that array's base header among the pieces, as
-/// `Forward::place` tells it: neither an object's index nor its address before. It is written as it
-/// is, and an image with a wrong one is refused by whoever reads it (`BadSpecialObjects`), so what
-/// calls this says in its own contract which address it gives, as `run` does.
+/// `Forward::place` returns it (the forwarding address): neither an object index nor the old
+/// address. It is written unchecked. A reader rejects an image with a wrong one
+/// (`BadSpecialObjects`), so a caller states in its own contract which address it passes, as `run`
+/// does.
 ///
-/// Fails with `WriteFailed` where a write or the flush fails, and where 2^32 writes were made.
-/// Bytes from the front on, perhaps all, were then taken.
+/// Fails with `WriteFailed` if a write or the flush fails, or if 2^32 writes do not suffice. The
+/// sink has then taken some of the bytes, from the front on, perhaps all.
 pub fn write_image<W: Sink>(
     image: &Image,
     special: Address,
@@ -40,7 +41,7 @@ pub fn write_image<W: Sink>(
     write_words(sink, image.heap().order(), image.prefix(), &header, pieces)
 }
 
-/// How many words the pieces have together.
+/// Returns the total number of words of the pieces.
 fn word_count(pieces: &[Vec<u32>]) -> u32
     requires { length (concat (map (λ v. v.items) pieces.now)) < 2 ^ 30 }
     ensures { result ≡ length (concat (map (λ v. v.items) pieces.now)) }

@@ -1,5 +1,7 @@
--- What the calls on the mark table owe at their steps, from what contracts see of the table and of the pass.
--- Serves `table::MarkTable::blacken`, `::claim_of`, `::grow`, `::join_into`, `::look` and `::part`.
+-- What the calls on the mark table owe at their steps, from what contracts see of the table and of
+-- the pass.
+-- Serves `table::MarkTable::blacken`, `::claim_of`, `::grow`, `::join_into`, `::look` and
+-- `::part`.
 use Rattle.std.proofs.Common.{◌≡◌, ℕ, ◌+◌, ◌%◌, ◌^◌, ◌<◌, ◌≤◌, max, [], length, sym, ap, subst, ◌∙◌, arith}
 use mathlib.Core.Option.{none}
 use Rattle.std.specs.Prelude.{Some}
@@ -154,7 +156,7 @@ module _
         marking : Marking
         marking = marking_in key key_weak key_workers
 
-        -- so many words may be added to a word
+        -- this many words may be added to a word
         IsAllowed : ℕ → ℕ → Type 0
         IsAllowed w words =
             Allows (IsKept marking {S = S}) id.slots number me w (λ n. (n + words) % 2 ^ 64)

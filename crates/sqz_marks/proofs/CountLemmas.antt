@@ -1,4 +1,4 @@
--- How many words all passes together counted in a region.
+-- The number of words that all passes together counted in a region.
 -- Serves `KeptLemmas` and `StepLemmas`.
 use Rattle.std.proofs.Common.{◌≡◌, ℕ, suc, ◌+◌, ◌^◌, ◌<◌, ◌≤◌, cond, eqb, List, [], ◌∷◌, ◌++◌, refl, sym, ap, subst, ◌∙◌, arith}
 use Rattle.std.specs.List.{sum_by}

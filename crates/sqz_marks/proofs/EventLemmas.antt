@@ -1,4 +1,5 @@
--- Each event leaves a lawful state lawful. The rule of the mark table and the law of legal runs both rest on these.
+-- Each event leaves a lawful state lawful. The rule of the mark table and the law of legal runs
+-- both follow from these lemmas.
 -- Serves `RunLemmas` and `StepLemmas`.
 use Rattle.std.proofs.Common.{◌≡◌, ◌≢◌, ◌⊎◌, ℕ, ◌+◌, ◌<◌, ◌≤◌, true, List, [], ◌∷◌, ◌++◌, length, set, get_or, refl}
 use Rattle.std.proofs.Common.{sym, ap, subst, ◌∙◌, if◌then◌else◌, eq-eqb, ne_eqb, arith, inl, inr}
@@ -26,7 +27,7 @@ use Rattle.sqz_marks.proofs.ViewLemmas.{KnowsTruth-part}
 use Rattle.sqz_marks.proofs.ViewLemmas.{KnowsTruth-seen, KnowsTruth-won, KnowsTruth-counted, KnowsTruth-blackened}
 use Rattle.sqz_marks.proofs.ViewLemmas.{KnowsTruth-kept, KnowsTruth-joined}
 
--- shades of which one object got another shade
+-- shades after one object got another shade
 module _ (shades : List Shade) (object : ℕ) (shade : Shade) (inside : object < length shades) where
   shade-same : shade_at (set shades object shade) object ≡ shade
   shade-same = get_or-set_same shades object shade White inside

@@ -219,7 +219,7 @@ module _ (heap : Regioning) (weak : Weak) (workers : ℕ) {S : Type 0} (table : 
               (counted_once (marking_in heap weak workers) table kept id view at whole all);
         }
 
-  -- the words of a table that is closed say the shades, and behind these the regions' numbers
+  -- the words of a closed table encode the shades, and after these the regions' sums
   module _ (words : List ℕ) (are : table.words ≡ words) (count : ℕ) (count_is : count ≡ object_count heap.memory) where
     pub shades_read : map shade_of (take count words) ≡ kept.shades
     shades_read =

@@ -1,4 +1,4 @@
--- Each step on the mark table keeps its rule, and tells its pass what it may.
+-- Each step on the mark table keeps its rule, and what it shows its pass is true.
 -- Serves `table::read_shades`, `table::read_sums`, `CallLemmas` and `KeptLemmas`.
 use Rattle.std.proofs.Common.{◌≡◌, ◌≢◌, ℕ, zero, suc, ◌+◌, ◌-◌, ◌%◌, ◌^◌, ◌<◌, ◌≤◌, max, true, List, [], ◌∷◌, ◌++◌}
 use Rattle.std.proofs.Common.{length, map, set, get_or, refl, sym, ap, subst, ◌∙◌, arith}

@@ -1,6 +1,7 @@
--- How often an object stands in a list.
--- Serves `EventLemmas`, `RunLemmas`, `StepLemmas` and `ViewLemmas`; `claiming::mark_slots`, `rest::mark_from`,
--- `GainLemmas`, `RestLemmas` and `ShareLemmas` of `sqz_workers`; `PassLemmas` of `sqz_test_marks`.
+-- How often an object occurs in a list.
+-- Serves `EventLemmas`, `RunLemmas`, `StepLemmas` and `ViewLemmas`; `scanning::scan_if_grey`,
+-- `scanning::scan_object`, `GainLemmas`, `RemainingLemmas` and `ShareLemmas` of `sqz_workers`;
+-- `PassLemmas` of `sqz_test_marks`.
 use Rattle.std.proofs.Common.{◌≡◌, ◌≢◌, ◌⊎◌, ℕ, zero, suc, ◌+◌, ◌<◌, ◌≤◌, List, ◌∷◌, ◌++◌}
 use Rattle.std.proofs.Common.{eqb, cond, refl, sym, subst, ◌∙◌, arith, inl, inr, eq-eqb, ne_eqb}
 use Rattle.std.proofs.lemmas.Bool.{cases_eq}

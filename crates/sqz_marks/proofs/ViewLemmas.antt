@@ -1,4 +1,4 @@
--- What passes know stays so as objects get darker, and what a step tells them is so.
+-- What passes know stays true as objects get darker, and what a step shows them is true.
 -- Serves `EventLemmas` and `RunLemmas`.
 use Rattle.std.proofs.Common.{◌≡◌, ℕ, zero, suc, ◌<◌, ◌≤◌, true, List, ◌∷◌, refl, sym, subst, arith, inl, inr}
 use Rattle.std.proofs.lemmas.Bool.{cases_eq}

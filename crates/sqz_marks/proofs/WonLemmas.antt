@@ -1,5 +1,5 @@
--- How many objects were won, where each marked object was won once.
--- Serves `KeptLemmas`; `stealing::marked_of` of `sqz_workers`.
+-- The number of objects that were won, if each marked object was won once.
+-- Serves `KeptLemmas`; `marked::Marked::of_closed` of `sqz_workers`.
 use Rattle.std.proofs.Common.{◌≡◌, ℕ, Bool, true, false, zero, suc, ◌+◌, ◌≤◌, cond, List, [], ◌∷◌, length, take, refl}
 use Rattle.std.proofs.Common.{sym, ap, subst, ◌∙◌, arith}
 use Rattle.std.specs.Prelude.{count_by}

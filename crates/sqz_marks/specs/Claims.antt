@@ -1,4 +1,4 @@
--- What a claim answers.
+-- What a claim returns.
 use Rattle.std.specs.Prelude.{◌≡◌, ◌⊎◌, ℕ, Option, Some, None}
 use Rattle.sqz_trace.specs.declared.shades.Shade.TheVariants.{White, Grey}
 use Rattle.sqz_marks.specs.declared.claim.Claim.{Claim}
@@ -6,8 +6,8 @@ use Rattle.sqz_marks.specs.declared.claim.Claim.TheVariants.{Won, Seen, Nothing}
 use Rattle.sqz_marks.specs.Core.{claimed}
 use Rattle.sqz_marks.specs.Table.{HeldPass, knowing}
 
--- the answer to a claim of what a strong slot names, and the pass before and after: where it names none there is no step; else the object is
--- won or was marked before
+-- a claim of the target of a strong slot: what it returns, and the pass before and after. Without
+-- a target there is no step; otherwise the object is won, or was marked before
 abbrev pub IsClaim : Option ℕ → HeldPass → HeldPass → Claim → Type 0
 IsClaim None old new answer = (answer ≡ Nothing) × (new ≡ old)
 IsClaim (Some object) old new answer =

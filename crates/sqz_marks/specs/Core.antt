@@ -1,4 +1,5 @@
--- The core of marking by several passes: the state that they share, the events that change it, and their legal runs.
+-- The core of marking by several passes: their shared state, the events that change it, and their
+-- legal runs.
 use Rattle.std.specs.Prelude.{◌≡◌, ◌≢◌, ℕ, ◌+◌, ◌-◌, ◌<◌, ◌≤◌, ◌==◌, List, [], ◌∷◌, ◌++◌, length, count_by}
 use Rattle.std.specs.Prelude.{slice_index, slice_index_or, slice_set, replicate}
 use Rattle.sqz_trace.specs.declared.shades.Shade.{Shade}
@@ -11,7 +12,8 @@ use Rattle.sqz_trace.specs.Shades.{shade_at}
 use Rattle.sqz_regions.specs.Regions.{Regioning, region_at, region_count}
 use Rattle.sqz_marks.specs.declared.view.View.{View}
 
--- what is to be marked, and by how many workers: a graph, the number of regions, and each object's region and length in words
+-- what is to be marked, and by how many workers: a graph, the number of regions, and each object's
+-- region and length in words
 pub record Marking : Type 1 where
   pub graph : Graph
   pub regions : ℕ
@@ -19,7 +21,8 @@ pub record Marking : Type 1 where
   pub words : ℕ → ℕ
   pub workers : ℕ
 
--- the objects of an object memory under a cut, where the one with this index is the special objects array
+-- the marking of an object memory under a cut; the object with this index is the special objects
+-- array
 abbrev pub marking_of : Regioning → Weak → ℕ → ℕ → Marking
 marking_of heap weak workers start =
     record {
@@ -30,13 +33,13 @@ marking_of heap weak workers start =
       workers = workers;
     }
 
--- the shades of the objects, how many words were counted in each region, and what each pass knows
+-- the shades of the objects, the number of words counted in each region, and what each pass knows
 pub record State : Type 0 where
   pub shades : List Shade
   pub sums : List ℕ
   pub passes : List View
 
--- how often an object stands in a list
+-- how often an object occurs in a list
 abbrev pub times : ℕ → List ℕ → ℕ
 times object list = count_by (λ other. other == object) list
 
@@ -64,7 +67,7 @@ pass_at passes pass = slice_index_or passes pass spent
 pub data Event : Type 0 where
   -- looks at an object
   Look : ℕ → Event
-  -- claims an object along an edge from another, which is named first
+  -- claims an object along an edge from another, which comes first
   Claim : ℕ → ℕ → Event
   -- counts the words of an object that it won
   Count : ℕ → Event
@@ -104,7 +107,7 @@ claimed object White view = won_by object view
 claimed object Grey view = seen_by object view
 claimed object Black view = seen_by object view
 
--- the shade of an object that is claimed
+-- the shade of an object after it is claimed
 abbrev pub greyed : Shade → Shade
 greyed White = Grey
 greyed Grey = Grey
@@ -129,7 +132,7 @@ joined view other =
       blackened = view.blackened ++ other.blackened;
     }
 
--- the number of a region as an object of so many words is counted there
+-- the sums of the regions after an object of this many words is counted in a region
 abbrev pub grown : List ℕ → ℕ → ℕ → List ℕ
 grown sums region words = slice_set sums region (slice_index sums region + words)
 
@@ -186,11 +189,13 @@ after marking state pass (Join other) =
       passes = slice_set (slice_set state.passes pass (joined (pass_at state.passes pass) (pass_at state.passes other))) other spent;
     }
 
--- the pass that marking begins with: it is all workers' share, and it won and counted the object at which all paths start
+-- the pass with which marking begins: it is the share of all workers, and has won and counted the
+-- object at which all paths start
 abbrev pub first_view : ℕ → ℕ → View
 first_view workers start = record { weight = workers; won = start ∷ []; seen = start ∷ []; counted = start ∷ []; blackened = [] }
 
--- the state in which marking begins: the start is grey and counted in its region, all else white
+-- the state in which marking begins: the start is grey and counted in its region, every other
+-- object is white
 abbrev pub opening : Marking → State
 opening marking =
     record {
@@ -205,6 +210,6 @@ LeadsTo marking from [] to = from ≡ to
 LeadsTo marking from ((pass, event) ∷ run) to =
     (pass < length from.passes) × Meets marking from pass event × LeadsTo marking (after marking from pass event) run to
 
--- a legal run, in any order of its passes' events, leads from the opening to this state
+-- a legal run, in any interleaving of its passes' events, leads from the opening to this state
 abbrev pub IsLegalRun : Marking → List (ℕ × Event) → State → Type 0
 IsLegalRun marking run state = LeadsTo marking (opening marking) run state

@@ -1,4 +1,5 @@
--- The mark table and its passes as contracts see them, what its words mean, and what each step tells its pass.
+-- The mark table and its passes as contracts see them, the meaning of its words, and what each
+-- step shows its pass.
 use Rattle.std.specs.Prelude.{◌≡◌, ℕ, zero, suc, ◌^◌, ◌<◌, ◌≤◌, ◌++◌, nat_lt, if◌then◌else◌, true, List, map, unwrap_or}
 use Rattle.atomic_table.specs.Table.{Step, Me}
 use Rattle.atomic_table.specs.Table.{State as TableState}
@@ -15,14 +16,15 @@ use Rattle.sqz_marks.specs.declared.view.View.{View}
 use Rattle.sqz_marks.specs.Core.{Marking, marking_of, times, HasWon, HasSeen, HasCounted, HasBlackened, looked, claimed, counted, blackened}
 use Rattle.sqz_marks.specs.Lawful.{IsLawful, wins, words_listed}
 
--- a mark table: which one it is, the object memory and its cut, what becomes of weak slots, and how many workers share it
+-- a mark table: its identity, the object memory and its cut, the policy on weak slots, and the
+-- number of workers that share it
 pub record SharedMarks : Type 0 where
   pub table : TableId
   pub heap : Regioning
   pub weak : Weak
   pub workers : ℕ
 
--- a pass: which table's it is, how many workers share that, and what it knows
+-- a pass: the identity of its table, the number of workers that share it, and what it knows
 pub record HeldPass : Type 0 where
   pub table : TableId
   pub workers : ℕ
@@ -63,7 +65,7 @@ start_of memory = unwrap_or (find memory memory.special) 0
 abbrev pub marking_in : Regioning → Weak → ℕ → Marking
 marking_in heap weak workers = marking_of heap weak workers (start_of heap.memory)
 
--- the word of an object says its shade
+-- the word of an object encodes its shade
 abbrev pub number_of : Shade → ℕ
 number_of White = 0
 number_of Grey = 1
@@ -74,13 +76,14 @@ shade_of zero = White
 shade_of (suc zero) = Grey
 shade_of (suc (suc more)) = Black
 
--- objects of a list, each of which stands there once, have fewer than 2^30 words in each region
+-- the objects of a list without repetitions have fewer than 2 ^ 30 words in each region
 abbrev pub HasFewWords : Marking → Type 0
 HasFewWords marking =
     (region : ℕ) (list : List ℕ) → ((object : ℕ) → times object list ≤ 1) → ((object : ℕ) → marking.graph.count ≤ object → times object list ≡ 0)
     → words_listed marking region list < 2 ^ 30
 
--- between any two steps the words say shades, and behind these the number of each region; and these and the passes are a lawful state
+-- between any two steps the words encode the shades, and after these the sum of each region; these
+-- and the passes are a lawful state
 pub record IsKept (marking : Marking) {S : Type 0} (table : TableState S View) : Type 0 where
   pub shades : List Shade
   pub sums : List ℕ
@@ -90,7 +93,7 @@ pub record IsKept (marking : Marking) {S : Type 0} (table : TableState S View) :
   pub few_words : HasFewWords marking
 
 module _ {S : Type 0} where
-  -- a look tells the shade
+  -- a look shows the shade
   pub record Looked (step : Step S) (before : Me S View) (found : ℕ) (after : Me S View) : Type 0 where
     pub small : found ≤ 2
     pub knows : after ≡ (looked step.word (shade_of found) before.0, before.1)
@@ -98,7 +101,8 @@ module _ {S : Type 0} where
     pub unseen : HasSeen before.0 step.word → 1 ≤ found
     pub black : HasBlackened before.0 step.word → found ≡ 2
 
-  -- a claim tells the shade that was found; what was white the pass has neither seen nor counted
+  -- a claim shows the shade that was found; the pass has neither seen nor counted an object that
+  -- was white
   pub record Claimed (step : Step S) (before : Me S View) (found : ℕ) (after : Me S View) : Type 0 where
     pub knows : after ≡ (claimed step.word (shade_of found) before.0, before.1)
     pub new : found ≡ 0 → IsNewTo before.0 step.word
@@ -109,17 +113,18 @@ module _ {S : Type 0} where
   abbrev pub Blackened : Step S → Me S View → ℕ → Me S View → Type 0
   Blackened step before found after = after ≡ (blackened step.word before.0, before.1)
 
-  -- a pass has no more weight than all together
+  -- a pass has at most the total weight of all passes
   abbrev pub Weighed : Step S → Me S View → ℕ → Me S View → Type 0
   Weighed step before found after = (after ≡ before) × (before.0.weight ≤ 64)
 
--- what a pass that is all workers' share knows of an object's shade
+-- what a pass that is the share of all workers knows about an object's shade
 abbrev pub shade_known : View → ℕ → Shade
 shade_known view object =
     if nat_lt 0 (times object view.blackened) then Black else (if nat_lt 0 (times object view.won) then Grey else White)
 
--- the shades when a table is closed by the pass that knows all: it knows each object's shade, it won each marked object once, what it has
--- seen is marked, and marking can be finished from them
+-- the shades when a table is closed by the pass that knows everything: it knows each object's
+-- shade, it won each marked object once, what it has seen is marked, and marking can be finished
+-- from them
 pub record AreClosed (memory : Memory) (weak : Weak) (view : View) (shades : List Shade) : Type 0 where
   pub known : (object : ℕ) → shade_at shades object ≡ shade_known view object
   pub once : (object : ℕ) → times object view.won ≡ wins (shade_at shades object)

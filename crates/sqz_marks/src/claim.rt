@@ -1,14 +1,14 @@
-//! What a claim of an object finds.
+//! The outcome of a claim.
 
 use sqz_object::ObjectIndex;
 
-/// What a claim found.
+/// The outcome of a claim.
 #[derive(Clone, Copy, Debug, PartialEq, Eq)]
 pub enum Claim {
     /// The object was white. It is grey now, and no other pass wins it.
     Won(ObjectIndex),
     /// The object was marked before.
     Seen(ObjectIndex),
-    /// The slot is weak, or names no object.
+    /// The slot is weak, or points to no object.
     Nothing,
 }

@@ -1,4 +1,4 @@
-//! Laws about the definitions, each the contract of a function that does nothing.
+//! Laws of the definitions. Each is the contract of a function that does nothing.
 
 ghost use Rattle.std.specs.Prelude.{◌≡◌, ◌≢◌, ◌≤◌, ℕ, List, Some};
 ghost use Rattle.sqz_image.specs.Objects.{find};
@@ -11,7 +11,7 @@ ghost use Rattle.sqz_regions.specs.Regions.{Regioning};
 ghost use Rattle.sqz_marks.specs.Core.{State, Event, IsLegalRun, marking_of};
 ghost use Rattle.sqz_marks.specs.Lawful.{IsLawful};
 
-/// Each state of each legal run is lawful; and in a lawful state without a grey object the marked
+/// Every state of a legal run is lawful; and in a lawful state without grey objects the marked
 /// objects are exactly the reachable ones.
 pub fn core()
     ensures lawful { (heap : Regioning) (weak : Weak) (workers start : ℕ) (run : List (ℕ

@@ -1,7 +1,8 @@
 //! The mark table that workers share, and their passes.
 //!
-//! By itself it is a marker. Here one worker marks a heap with one pass and a list of the objects that it won; an object is
-//! won once at most, so there are no more turns than objects:
+//! The mark table can be used without workers in threads. In this example one pass marks a heap,
+//! with a list of the objects that it won; an object is won at most once, so there are no more
+//! turns than objects:
 //!
 //! ```text
 //! let (table, mut pass) = MarkTable::new(alloc, heap, weak, &regions, Workers::new(1)?)?;
@@ -24,8 +25,8 @@
 //! }
 //! ```
 //!
-//! Several workers each take a part of the pass, by `split_off`, and give it back by `join_into`. The same, as a test that is
-//! proved, stands in `sqz_test_marks` `alone`.
+//! Several workers each take a part of the pass with `split_off`, and give it back with
+//! `join_into`. The example is proved as a test, in `alone` of `sqz_test_marks`.
 #![tactic(auto)]
 
 mod claim;

@@ -1,4 +1,4 @@
-//! What a worker marks with.
+//! A worker's handle on the mark table.
 
 ghost use Rattle.std.specs.Prelude.{◌≡◌, ◌≤◌, ◌==◌};
 
@@ -7,8 +7,8 @@ use crate::workers::Workers;
 use atomic_table::Seat;
 use std::marker::Model;
 
-/// What a worker marks with: one or more workers' share of the marking, which can be split and
-/// joined. Contracts see what it knows.
+/// A worker's handle on the mark table: the share of one or more workers in the marking. It can be
+/// split and joined. Contracts see what it knows.
 #[derive(Drop)]
 pub struct Pass {
     pub(crate) seat: Seat<(), View>,
@@ -34,7 +34,7 @@ impl Model for Pass {
 }
 
 impl Pass {
-    /// How many workers' share it is, at least 1.
+    /// Returns the number of workers whose share it is, at least 1.
     pub fn weight(&self) -> u32
         ensures weight { result ≡ self.now.view.weight }
         ensures some { 1 ≤ result }
@@ -42,7 +42,7 @@ impl Pass {
         self.weight
     }
 
-    /// Whether it is all workers' share.
+    /// Returns whether it is the share of all workers.
     pub fn is_whole(&self) -> bool
         ensures { result ≡ (self.now.view.weight == self.now.workers) }
     {

@@ -1,4 +1,4 @@
-//! The rule of the mark table, and what its steps do to what passes know.
+//! The rule of the mark table, and how its steps change what passes know.
 
 ghost use Rattle.std.specs.Prelude.{ℕ};
 
@@ -10,8 +10,8 @@ use sqz_trace::Weak;
 use std::marker::{Brand, PhantomData};
 use std::snapshot::Snapshot;
 
-/// What the rule is told once: the regions, and with them the heap, what becomes of weak slots, and
-/// the workers.
+/// What the rule is given once: the regions (and with them the heap), the policy on weak slots,
+/// and the workers.
 pub(crate) type Key<'a> = (Snapshot<Regions<'a>>, Weak, Workers);
 
 /// The words and the passes are a lawful state of marking.
@@ -26,7 +26,7 @@ impl<'a> TableRule<(), View, Key<'a>> for MarkingRule {
     ghost first = { λ key. first_view key.2 (start_of key.0.value.memory) };
 }
 
-/// A look at an object.
+/// A pass looks at an object.
 pub(crate) struct Look;
 
 impl Play<(), View> for Look {
@@ -35,7 +35,7 @@ impl Play<(), View> for Look {
     ghost then = { Looked };
 }
 
-/// A claim of an object.
+/// A pass claims an object.
 pub(crate) struct Claiming;
 
 impl Play<(), View> for Claiming {
@@ -44,7 +44,7 @@ impl Play<(), View> for Claiming {
     ghost then = { Claimed };
 }
 
-/// The object whose words a pass counts.
+/// The object whose words a pass counts. A type stands for it, as `table.rt` explains.
 pub(crate) trait CountedObject {
     ghost object: { ℕ };
 }
@@ -64,7 +64,7 @@ impl<O: CountedObject> Play<(), View> for Counting<O> {
     ghost then = { Counted O.object };
 }
 
-/// An object becomes black.
+/// A pass makes an object black.
 pub(crate) struct Blacken;
 
 impl Play<(), View> for Blacken {
@@ -73,7 +73,7 @@ impl Play<(), View> for Blacken {
     ghost then = { Blackened };
 }
 
-/// A pass learns that its weight is that of workers.
+/// A pass learns that its weight is that of some workers, so at most 64.
 pub(crate) struct Weigh;
 
 impl Play<(), View> for Weigh {
@@ -82,7 +82,7 @@ impl Play<(), View> for Weigh {
     ghost then = { Weighed };
 }
 
-/// The weight that a pass gives up.
+/// The weight that a pass gives up. A type stands for it, as `table.rt` explains.
 pub(crate) trait Share {
     ghost weight: { ℕ };
 }
@@ -104,7 +104,7 @@ impl<W: Share> Split<View> for Parting<W> {
     ghost right = { λ view. part_of W.weight };
 }
 
-/// A pass takes in another.
+/// A pass takes in another pass.
 pub(crate) struct Joining;
 
 impl Join<View> for Joining {

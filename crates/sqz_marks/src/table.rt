@@ -1,4 +1,10 @@
-//! The table of marks that workers share without waiting.
+//! The lock-free mark table that workers share.
+//!
+//! A rule of `atomic_table` sees only words and views. If a step needs another number (the object
+//! whose words are counted, the weight of a new pass), a type parameter with a ghost member stands
+//! for it: `grow::<Brand>(..)` and `part::<Brand>(..)`. The proof of the call picks the member of
+//! `Brand` (in `proofs/`). Only the contract reads the argument with that number, so the body has
+//! `let _ = object;`.
 
 ghost use Rattle.std.specs.Prelude.{◌≡◌, ◌≢◌, ℕ, ◌+◌, ◌*◌, ◌^◌, ◌<◌, ◌≤◌, [], length, map, take};
 ghost use Rattle.std.specs.Prelude.{sum, slice_index, Some, IfOk, IfErr};
@@ -36,9 +42,9 @@ use std::alloc::Global;
 use std::marker::{Brand, Model};
 use std::snapshot::Snapshot;
 
-/// A word for each object of a heap, which says its shade, and one for each region, which says how
-/// many words of marked objects were counted there. They change in single atomic steps. Workers
-/// share them by `&`, each with a pass of its own; no call waits.
+/// The mark table: one word per object with its shade, and one word per region with the number of
+/// words of marked objects that were counted there. Each change is one atomic step. Workers share
+/// the table by `&`, each with a pass of its own; it is lock-free, and no call waits.
 #[derive(Drop)]
 pub struct MarkTable<'a> {
     heap: &'a Heap,
@@ -73,19 +79,20 @@ impl<'a> Model for MarkTable<'a> {
         ≡ Some (start_of marks.regions.now.memory)) };
 }
 
-/// What is left of a mark table when all have marked.
+/// What is left of a mark table when marking is complete.
 #[derive(Drop)]
 pub struct Closed {
     /// The shade of each object, as `finish` takes them.
     pub shades: Shades,
-    /// For each region the sum of the lengths of its marked objects' chunks, in words.
+    /// For each region, the total length of its marked objects' chunks in words.
     pub live_words: Vec<u32>,
 }
 
 impl<'a> MarkTable<'a> {
-    /// The table at which marking begins, and the pass that is all workers' share: the special
-    /// objects array is grey, won by it and counted, all else white. Takes 8 bytes for each object
-    /// and each region, and as much again while it is made. Fails for want of memory alone.
+    /// Returns the table at the beginning of marking, and the pass that is the share of all
+    /// workers. The special objects array is grey, and the pass has won and counted it; every
+    /// other object is white. Takes 8 bytes per object and per region, and twice that while it is
+    /// made. Fails only if out of memory.
     pub fn new(
         alloc: Global,
         heap: &'a Heap,
@@ -100,7 +107,7 @@ impl<'a> MarkTable<'a> {
             IsPassOf made.0 made.1 × (made.1.view ≡ first_view workers (start_of heap.now))) }
         ensures refused { IfErr result (λ fault. fault ≡ OutOfMemory) }
     {
-        heap_bounds(heap);
+        heap_bounds(heap); // fewer than 2^30 words
         let special = heap.special();
         let objects = heap.len() as usize;
         let mut words = vec![in alloc; 0u64; objects + regions.count() as usize]?;
@@ -126,8 +133,9 @@ impl<'a> MarkTable<'a> {
         ))
     }
 
-    /// The shade of an object. What the pass won or has seen marked is never white, and what it
-    /// knows to be black is black; of what it has not seen the answer may be old.
+    /// Returns the shade of an object. It is not white if the pass won the object or has seen it
+    /// marked, and black if the pass knows it to be black. For an object that the pass has not
+    /// seen, the shade may be out of date.
     pub fn look(&self, pass: &mut Pass, object: ObjectIndex) -> Shade
         requires of { IsPassOf self.now pass.old }
         requires inside { object < object_count self.now.heap.memory }
@@ -144,8 +152,8 @@ impl<'a> MarkTable<'a> {
         )
     }
 
-    /// Makes the object that a strong slot of a parent points to grey, if it is white. The pass has
-    /// seen the parent marked. An object that it wins it had neither seen nor counted.
+    /// Makes the object that a strong slot of a parent points to grey, if it is white. The pass
+    /// has seen the parent marked. If it wins an object, it had neither seen nor counted it.
     pub fn claim(&self, pass: &mut Pass, parent: ObjectIndex, slot: Slot) -> Claim
         requires of { IsPassOf self.now pass.old }
         requires inside { parent < object_count self.now.heap.memory }
@@ -160,15 +168,15 @@ impl<'a> MarkTable<'a> {
         self.claim_of(pass, &self.edges(parent), slot)
     }
 
-    /// The heap whose objects the table marks.
+    /// Returns the heap whose objects the table marks.
     pub fn heap(&self) -> &'a Heap
         ensures { result.now ≡ self.now.heap.memory }
     {
         self.heap
     }
 
-    /// The outgoing edges of an object, by which its targets are claimed. The header of the object
-    /// is read here, and not again.
+    /// Returns the outgoing edges of an object, to claim its targets. The header of the object is
+    /// read here, and not again.
     pub fn edges(&self, object: ObjectIndex) -> OutEdges<'_>
         requires { object < object_count self.now.heap.memory }
         ensures { result ≡ out_edges self.now.heap.memory self.now.weak object }
@@ -176,8 +184,8 @@ impl<'a> MarkTable<'a> {
         OutEdges::of(self.heap, self.weak, object)
     }
 
-    /// Makes the object that a strong slot points to grey, if it is white. The pass has seen marked
-    /// the object whose edges these are. An object that it wins it had neither seen nor counted.
+    /// As `claim`, for a parent whose header was read before: `edges` are its edges. The pass has
+    /// seen the parent marked. If it wins an object, it had neither seen nor counted it.
     pub fn claim_of(&self, pass: &mut Pass, edges: &OutEdges<'_>, slot: Slot) -> Claim
         requires of { IsPassOf self.now pass.old }
         requires seen { AreEdgesOfSeen self.now.heap.memory self.now.weak pass.old.view edges.now }
@@ -200,8 +208,8 @@ impl<'a> MarkTable<'a> {
         }
     }
 
-    /// Adds the length of an object's chunk to the number of its region. The pass won the object
-    /// and has not counted it.
+    /// Adds the length of an object's chunk in words to the sum of its region. The pass won the
+    /// object and has not counted it.
     pub fn count(&self, pass: &mut Pass, object: ObjectIndex)
         requires of { IsPassOf self.now pass.old }
         requires inside { object < object_count self.now.heap.memory }
@@ -214,7 +222,7 @@ impl<'a> MarkTable<'a> {
         self.grow::<Brand>(&mut pass.seat, object, region, words);
     }
 
-    /// Makes an object black. The pass has seen it marked, and all objects to which it has an edge.
+    /// Makes an object black. The pass has seen it and all targets of its edges marked.
     pub fn blacken(&self, pass: &mut Pass, object: ObjectIndex)
         requires of { IsPassOf self.now pass.old }
         requires inside { object < object_count self.now.heap.memory }
@@ -228,7 +236,7 @@ impl<'a> MarkTable<'a> {
             .fetch_max::<Blacken>(&mut pass.seat, object as usize, 2);
     }
 
-    /// Gives a part of the pass's weight to a new pass, which knows nothing.
+    /// Gives part of the pass's weight to a new pass, which knows nothing.
     pub fn split_off(&self, pass: &mut Pass, weight: u32) -> Pass
         requires of { IsPassOf self.now pass.old }
         requires positive { 1 ≤ weight }
@@ -245,8 +253,8 @@ impl<'a> MarkTable<'a> {
         }
     }
 
-    /// Cuts a pass in two: the first keeps what it knows and the rest of the weight, the second has
-    /// this weight.
+    /// Splits a pass in two: the first keeps what it knows and the rest of the weight, the second
+    /// has this weight and knows nothing.
     pub fn split(&self, mut pass: Pass, weight: u32) -> (Pass, Pass)
         requires of { IsPassOf self.now pass }
         requires positive { 1 ≤ weight }
@@ -274,7 +282,7 @@ impl<'a> MarkTable<'a> {
         pass.weight += weight;
     }
 
-    /// Makes two passes one, which knows what both know, and has the weight of both.
+    /// Joins two passes into one, which knows what both know and has the weight of both.
     pub fn join(&self, mut pass: Pass, other: Pass) -> Pass
         requires of { IsPassOf self.now pass }
         requires other { IsPassOf self.now other }
@@ -284,10 +292,10 @@ impl<'a> MarkTable<'a> {
         pass
     }
 
-    /// Ends the marking by the pass that is all workers' share, which has counted all that it won.
-    /// Gives the shades, and the sums of the regions; behind the heap's base there is room below
-    /// 2^32 for all of these, which `bases` asks for. Refused for want of memory alone; table and
-    /// pass come back as they were.
+    /// Ends the marking. The pass is the share of all workers, and has counted every object that
+    /// it won. Returns the shades, and the sums of the regions; from the heap's base on, all these
+    /// words fit below 2^32, as `bases` requires. Fails only if out of memory; it then returns the
+    /// table and the pass unchanged.
     pub fn close(self, alloc: Global, pass: Pass) -> Result<Closed, (Self, Pass)>
         requires of { IsPassOf self pass }
         requires whole { pass.view.weight ≡ self.workers }
@@ -302,7 +310,7 @@ impl<'a> MarkTable<'a> {
             self.entry.heap.memory.base + 4 * sum closed.live_words.items ≤ 2 ^ 32) }
         ensures refused { IfErr result (λ back. (back.0 ≡ self.entry) × (back.1 ≡ pass)) }
     {
-        heap_bounds(self.heap);
+        heap_bounds(self.heap); // all words have addresses up to 2^32
         let objects = self.heap.len() as usize;
         let regions = self.regions.count() as usize;
         let Ok(mut shades) = vec![in alloc; Shade::White; objects] else {
@@ -330,7 +338,7 @@ impl<'a> MarkTable<'a> {
         Ok(Closed { shades, live_words })
     }
 
-    /// Adds an object's length to the number of its region.
+    /// Adds an object's length in words to the sum of its region.
     fn grow<O: CountedObject>(
         &self,
         seat: &mut Seat<(), View>,
@@ -355,7 +363,7 @@ impl<'a> MarkTable<'a> {
             .fetch_add::<Counting<O>>(seat, word, u64::from(words));
     }
 
-    /// The seat of a new pass.
+    /// Returns the seat of a new pass with this weight.
     fn part<W: Share>(&self, seat: &mut Seat<(), View>, weight: u32) -> Seat<(), View>
         requires of { seat.old.table_id ≡ self.now.table }
         requires weight { weight ≡ W.weight }
@@ -370,7 +378,7 @@ impl<'a> MarkTable<'a> {
     }
 }
 
-/// The shade that a word says.
+/// Returns the shade that a word encodes.
 fn shade_of(word: u64) -> Shade
     ensures { result ≡ shade_of word }
 {
@@ -381,7 +389,7 @@ fn shade_of(word: u64) -> Shade
     }
 }
 
-/// Puts the shade that each word says in the place of the object's.
+/// Stores the shade that each object's word encodes.
 fn read_shades(closed: &atomic_table::Closed<(), Global>, shades: &mut [Shade])
     requires inside { length shades.old ≤ slots_len closed.now.words }
     requires full { IsFull closed.now.words }
@@ -392,7 +400,7 @@ fn read_shades(closed: &atomic_table::Closed<(), Global>, shades: &mut [Shade])
     }
 }
 
-/// Puts the number that each word from this one on says in the place of the region's.
+/// Stores the sum that each region's word holds. `first` is the index of the first of these words.
 fn read_sums(closed: &atomic_table::Closed<(), Global>, first: usize, sums: &mut [u32])
     requires inside { first + length sums.old ≤ slots_len closed.now.words }
     requires full { IsFull closed.now.words }

@@ -2,9 +2,10 @@
 
 use std::collections::LinkedList;
 
-/// What a pass knows, in contracts alone: no value of it is made. Objects are named by index.
+/// What a pass knows. It exists in contracts only: no value of it is made. Objects are given by
+/// index.
 pub struct View {
-    /// How many workers' share of the marking the pass is.
+    /// The number of workers whose share of the marking the pass is.
     pub weight: u32,
     /// The objects that it made grey.
     pub won: LinkedList<u32>,

@@ -1,4 +1,4 @@
-//! How many workers there are.
+//! The number of workers.
 
 ghost use Rattle.std.specs.Prelude.{◌≡◌, ◌≤◌, ◌↔◌, IfOk, IfErr, IsOk};
 ghost use Rattle.sqz_image.specs.declared.fault.Fault.TheVariants.{BadWorkers};
@@ -6,11 +6,11 @@ ghost use Rattle.sqz_image.specs.declared.fault.Fault.TheVariants.{BadWorkers};
 use sqz_image::Fault;
 use std::marker::Model;
 
-/// The most workers that there may be.
+/// The greatest number of workers.
 const MOST: u32 = 64;
 
-/// How many workers share the work: from 1 to 64. They are numbered from 0 on. Contracts see the
-/// number of them.
+/// The number of workers that share the work, from 1 to 64. Workers are numbered from 0. Contracts
+/// see the number.
 #[derive(Clone, Copy)]
 pub struct Workers {
     number: u32,
@@ -29,7 +29,7 @@ impl Model for Workers {
 }
 
 impl Workers {
-    /// So many workers. Refused with `BadWorkers` unless these are from 1 to 64.
+    /// Returns `number` workers. Fails with `BadWorkers` unless `number` is from 1 to 64.
     pub fn new(number: u32) -> Result<Workers, Fault>
         ensures workers { IfOk result (λ workers. workers ≡ number) }
         ensures refused { IfErr result (λ fault. fault ≡ BadWorkers) }
@@ -41,7 +41,7 @@ impl Workers {
         Ok(Workers { number })
     }
 
-    /// How many workers there are.
+    /// Returns the number of workers.
     pub fn number(self) -> u32
         ensures number { result ≡ self }
         ensures some { 1 ≤ result }

@@ -1,7 +1,7 @@
--- What the words of a chunk say of it, and when no chunk begins with some words.
--- Serves `chunk::chunk_in` and `PartitionLemmas`; `CutLemmas`, `HeapLemmas`, `IndexLemmas` and `ObjectLemmas` of
--- `sqz_image`; `ShapeLemmas` of `sqz_trace`; `LengthLemmas`, `MovedShapeLemmas` and `SettledLemmas` of `sqz_slide`;
--- `WorkedImages` of `sqz_examples`.
+-- What the words of a chunk say about it, and when no chunk begins with some words.
+-- Serves `chunk::chunk_in`, `chunk::known_chunk` and `PartitionLemmas`; `CutLemmas`, `HeapLemmas`,
+-- `IndexLemmas` and `ObjectLemmas` of `sqz_image`; `ShapeLemmas` of `sqz_trace`; `LengthLemmas`,
+-- `MovedShapeLemmas` and `SettledLemmas` of `sqz_slide`; `WorkedImages` of `sqz_examples`.
 use Rattle.std.proofs.Common.{◌≡◌, ℕ, zero, suc, ◌+◌, ◌-◌, ◌/◌, ◌%◌, ◌<◌, ◌≤◌, ◌⊎◌, Bool, true, false, not, ◌&&◌, cond}
 use Rattle.std.proofs.Common.{eqb, ltb}
 use Rattle.std.proofs.Common.{List, ◌∷◌, ◌++◌, length, take, drop, slice_index, Option, Some, None}
@@ -84,7 +84,7 @@ chunk_kind_is Free (free ∷ rest) h = kind_of-free free h.0
 chunk_kind_is Short (base ∷ fields) h = kind_of-short base h.0
 chunk_kind_is _ _ h = absurd h
 
--- the kind that words begin with is told by any front of them
+-- the kind that words begin with is that of any non-empty prefix
 pub chunk_kind-take : (count : ℕ) (words : List ℕ) → 0 < count → chunk_kind (take count words) ≡ chunk_kind words
 chunk_kind-take count words h = ap kind_of (get_or-take count words 0 0 h)
 
@@ -233,7 +233,7 @@ pub record StatesChunk (words : List ℕ) (size : ℕ) : Type 0 where
   pub has_room : HasRoom words
   pub states : stated_length words ≡ size
 
--- words state a chunk where their header, read by its kind, states so many of them and has one type
+-- words state a chunk of this size if their header, read by its kind, states it and has one type
 states_by_kind : (kind : Kind) (words : List ℕ) (size : ℕ)
     → chunk_kind words ≡ kind → is_of_one_type words ≡ true
     → words_before kind + size_stated kind (slice_index words 0) (slice_index words (words_before kind)) ≡ size

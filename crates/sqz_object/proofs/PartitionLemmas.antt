@@ -1,6 +1,7 @@
--- Partitions of words into chunks: each list of words has one, or is stuck at one place, and not both.
--- Serves `laws::partition` and `IndexLemmas` of `sqz_image`; `MovedLemmas` and `PieceLemmas` of `sqz_slide`;
--- `Uniqueness` of `sqz_tool`.
+-- Partitions of words into chunks: each list of words either has exactly one, or is stuck at one
+-- index.
+-- Serves `laws::partition` and `IndexLemmas` of `sqz_image`; `MovedLemmas` and `PieceLemmas` of
+-- `sqz_slide`; `Uniqueness` of `sqz_tool`.
 use Rattle.std.proofs.Common.{◌≡◌, ℕ, zero, suc, ◌+◌, ◌-◌, ◌<◌, ◌≤◌, ◌⊎◌, List, [], ◌∷◌, ◌++◌, length, take, drop}
 use Rattle.std.proofs.Common.{Option, Some, None, refl, sym, ap, subst, ◌∙◌, arith, inl, inr}
 use Rattle.std.specs.List.{concat, AllByRecursion}
@@ -91,7 +92,7 @@ IsPartition-unique words one other p q =
 
 -- ---- words that are stuck
 
--- chunks that begin with these words, of which there are some
+-- chunks that begin with these words, at least one of them
 first_is_prefix : (chunks : List (List ℕ)) (words rest : List ℕ)
     → AllByRecursion IsChunk chunks → concat chunks ++ rest ≡ words → 0 < length (concat chunks)
     → (count : ℕ) × IsChunk (take count words)

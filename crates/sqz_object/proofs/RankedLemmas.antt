@@ -1,4 +1,5 @@
--- Lists that are filled by key and then sorted stably, so that more words come first and, of as many, the lower key.
+-- Lists filled by key and then sorted stably: more words come first, and the lower key comes first
+-- on a tie.
 -- Serves `ShareLemmas` of `sqz_census` and `MemberLemmas` of `sqz_paths`.
 use Rattle.std.proofs.Common.{◌≡◌, ◌⊎◌, ℕ, zero, suc, ◌+◌, ◌-◌, ◌<◌, ◌≤◌, eqb, List, [], ◌∷◌, ◌++◌, map, length, get_or}
 use Rattle.std.proofs.Common.{refl, sym, ap, subst, ◌∙◌, arith, inl, inr, true≢false}

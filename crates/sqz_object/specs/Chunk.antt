@@ -12,7 +12,8 @@ header_type word = word % 4
 abbrev pub size_field : ℕ → ℕ
 size_field base = (base_of base).size_field
 
--- a chunk of this kind: all its header words have the kind's type, and it is as long as they say
+-- a chunk of this kind: all its header words have the kind's type, and its length is the stated
+-- one
 abbrev pub IsChunkOf : Kind → List ℕ → Type 0
 IsChunkOf Three (size ∷ class ∷ base ∷ fields) =
     (header_type size ≡ 0) × (header_type class ≡ 0) × (header_type base ≡ 0) × (length (base ∷ fields) ≡ size / 4)
@@ -34,7 +35,7 @@ kind_of word =
 abbrev pub chunk_kind : List ℕ → Kind
 chunk_kind chunk = kind_of (slice_index chunk 0)
 
--- how many header words stand before the base header
+-- the number of header words before the base header
 abbrev pub words_before : Kind → ℕ
 words_before Three = 2
 words_before Two = 1
@@ -44,7 +45,7 @@ words_before Short = 0
 abbrev pub before : List ℕ → ℕ
 before chunk = words_before (chunk_kind chunk)
 
--- the base header word, which of a free chunk is its one header word
+-- the base header word; for a free chunk, its only header word
 abbrev pub base_word : List ℕ → ℕ
 base_word chunk = slice_index chunk (before chunk)
 
@@ -58,7 +59,7 @@ compact_index chunk = (base_of (base_word chunk)).compact
 abbrev pub fields : List ℕ → List ℕ
 fields chunk = drop (before chunk + 1) chunk
 
--- a free chunk is no object
+-- a free chunk is not an object
 abbrev pub is_object : List ℕ → Bool
 is_object [] = Bool.false
 is_object (word ∷ rest) = if header_type word == 2 then Bool.false else Bool.true

@@ -1,4 +1,4 @@
--- How the fields of an object are laid out, by the format and the compact class index of its base header.
+-- The layout of an object's fields, by the format and compact class index of its base header.
 use Rattle.std.specs.Prelude.{ℕ, Bool, true, false, ◌==◌, ◌&&◌, ◌||◌, if◌then◌else◌, List, [], ◌∷◌, slice_index_or}
 use Rattle.sqz_object.specs.declared.base.Base.{Base}
 use Rattle.sqz_object.specs.declared.layout.Layout.{Layout}
@@ -6,16 +6,16 @@ use Rattle.sqz_object.specs.declared.layout.Layout.TheVariants.{Fields, Weak, Co
 use Rattle.sqz_object.specs.Value.{base_of}
 use Rattle.sqz_object.specs.Chunk.{base_word}
 
--- the layouts of the formats 0 to 11, but for contexts; each format above is a method's
+-- the layouts of formats 0 to 11, except contexts; each format above is a compiled method's
 abbrev pub layouts : List Layout
 layouts =
     Fields ∷ Fields ∷ Fields ∷ Fields ∷ Weak ∷ Words ∷ Words ∷ Words ∷ Bytes 0 ∷ Bytes 1 ∷ Bytes 2 ∷ Bytes 3 ∷ []
 
--- the two classes of contexts have the compact class indexes 13 and 14
+-- the two context classes have the compact class indexes 13 and 14
 abbrev pub is_context_index : ℕ → Bool
 is_context_index index = index == 13 || index == 14
 
--- format 3 is a context's if the compact class index is one of theirs
+-- format 3 is a context if the compact class index is 13 or 14
 abbrev pub layout_by : ℕ → ℕ → Layout
 layout_by format compact =
     if format == 3 && is_context_index compact then Context else slice_index_or layouts format Method
@@ -27,7 +27,7 @@ layout_of base = layout_by base.format base.compact
 abbrev pub layout : List ℕ → Layout
 layout chunk = layout_of (base_of (base_word chunk))
 
--- the layout of a weak object
+-- whether the layout is that of a weak object
 abbrev pub is_weak_layout : Layout → Bool
 is_weak_layout Fields = false
 is_weak_layout Weak = true

@@ -1,14 +1,14 @@
--- What a word means where an object holds it, and the parts of a base header word.
+-- What a word of an object means, and the fields of a base header word.
 use Rattle.std.specs.Prelude.{ℕ, ◌/◌, ◌%◌, ◌^◌, ◌==◌, nat_lt, if◌then◌else◌, ℤ, pos, ◌-ℤ◌}
 use Rattle.sqz_object.specs.declared.value.Value.{Value}
 use Rattle.sqz_object.specs.declared.value.Value.TheVariants.{Int, Pointer, Odd}
 use Rattle.sqz_object.specs.declared.base.Base.{Base}
 
--- a number of 31 bits as a signed one, in two's complement
+-- a 31-bit number as a signed one, in two's complement
 abbrev pub signed_31 : ℕ → ℤ
 signed_31 bits = if nat_lt bits (2 ^ 30) then pos bits else pos bits -ℤ pos (2 ^ 31)
 
--- bit 0 marks an integer in the 31 bits above it; the low bits 00 mark an address
+-- bit 0 marks a SmallInteger in the 31 bits above it; the low bits 00 mark an address
 abbrev pub value_of : ℕ → Value
 value_of word =
     if word % 2 == 1 then Int (signed_31 (word / 2)) else (if word % 4 == 0 then Pointer word else Odd word)

@@ -5,7 +5,7 @@ ghost use Rattle.sqz_object.specs.Value.{base_of};
 
 use crate::bit_field::BitField;
 
-/// The bits of a base header word that its fields have.
+/// Where each field lies in a base header word.
 const KIND: BitField = BitField {
     lowest: 0,
     width: 2,
@@ -31,13 +31,13 @@ const HASH: BitField = BitField {
     width: 12,
 };
 
-/// The fields of a base header word. The bits 29 to 31 belong to the garbage collector of the
-/// machine that saved the image, and no field has them.
+/// The fields of a base header word. Bits 29 to 31 belong to the garbage collector of the virtual
+/// machine that saved the image, and no field covers them.
 #[derive(Clone, Copy, Debug, PartialEq, Eq)]
 pub struct Base {
     /// The header type: bits 0 and 1.
     pub kind: u32,
-    /// The size in words, the base header counted: bits 2 to 7.
+    /// The size in words, counting the base header: bits 2 to 7.
     pub size_field: u32,
     /// Bits 8 to 11.
     pub format: u32,
@@ -47,7 +47,7 @@ pub struct Base {
     pub hash: u32,
 }
 
-/// The bit fields of a base header word.
+/// Returns the bit fields of a base header word.
 pub fn base_of(word: u32) -> Base
     ensures { result ≡ base_of word }
 {

@@ -1,8 +1,9 @@
-//! Neighbouring bits of a word.
+//! A field of adjacent bits of a word.
 
 ghost use Rattle.std.specs.Prelude.{◌≡◌, ◌/◌, ◌%◌, ◌^◌, ◌<◌};
 
-/// Some neighbouring bits of a word: so many of them, from one on. Bit 0 is the lowest.
+/// A field of `width` adjacent bits of a word; `lowest` is the number of the lowest one. Bit 0 is
+/// the least significant bit.
 #[derive(Clone, Copy, Debug, PartialEq, Eq)]
 pub struct BitField {
     pub lowest: u32,
@@ -10,7 +11,7 @@ pub struct BitField {
 }
 
 impl BitField {
-    /// The number in these bits of a word.
+    /// Returns the field's value in `word`, shifted down to bit 0.
     pub const fn get(self, word: u32) -> u32
         requires inside { self.lowest < 32 }
         requires narrow { self.width < 32 }

@@ -10,8 +10,8 @@ ghost use Rattle.sqz_object.specs.Reading.{BeginsWith, HasNoChunk};
 use crate::base::base_of;
 use crate::word_list::WordList;
 
-/// How many header words a chunk has, told by the type of its first word: a three word, two word or
-/// one word header of an object, or a free chunk.
+/// The kind of a chunk, by the type of its first word: an object with a header of three words, two
+/// words or one word (`Short`), or a free chunk.
 #[derive(Clone, Copy, Debug, PartialEq, Eq)]
 pub enum Kind {
     Three,
@@ -20,32 +20,32 @@ pub enum Kind {
     Short,
 }
 
-/// What the header words of a chunk say.
+/// What the header words of a chunk state.
 #[derive(Clone, Copy, Debug, PartialEq, Eq)]
 pub struct Chunk {
     pub kind: Kind,
-    /// How many header words stand before the base header.
+    /// The number of header words before the base header.
     pub before: u32,
-    /// How many words the whole chunk has, all header words counted.
+    /// The number of words of the whole chunk, header words included.
     pub length: u32,
-    /// The base header word, which of a free chunk is its one header word.
+    /// The base header word; for a free chunk, its only header word.
     pub base: u32,
 }
 
 /// Why no chunk begins at a word.
 #[derive(Clone, Copy, Debug, PartialEq, Eq)]
 pub enum ChunkFault {
-    /// The header states a size of no words.
+    /// The header states a size of 0 words.
     ZeroSize,
     /// The header words have different types.
     HeaderMismatch,
-    /// The header or the words that it states run past the end.
+    /// The header, or the words that it states, run past the end.
     Overrun,
 }
 
-/// The chunk that begins at word `p`, or the first reason for which none does: the header words run
-/// past the end, they have different types, they state a size of no words, or the stated words run
-/// past the end.
+/// Returns the chunk that begins at word `p`, or the first reason why none does: the header words
+/// run past the end (`Overrun`), their types differ (`HeaderMismatch`), they state a size of 0
+/// words (`ZeroSize`), or the stated words run past the end (`Overrun`).
 pub fn chunk_at(words: &[u32], p: usize) -> Result<Chunk, ChunkFault>
     requires inside { p < length words.now }
     requires bounded { length words.now < 2 ^ 30 }
@@ -90,7 +90,8 @@ pub fn chunk_in<W: WordList>(words: &W, p: usize) -> Result<Chunk, ChunkFault>
     })
 }
 
-/// The chunk that begins at word `p`, where one does: its header is read, and not checked again.
+/// Returns the chunk that is known to begin at word `p`. Its header is read, but not checked
+/// again.
 pub fn known_chunk<W: WordList>(words: &W, p: usize) -> Chunk
     requires begins { (chunk : Chunk) × BeginsWith (drop p (W.words words.now)) chunk }
     requires bounded { length (W.words words.now) < 2 ^ 30 }
@@ -109,7 +110,7 @@ pub fn known_chunk<W: WordList>(words: &W, p: usize) -> Chunk
     }
 }
 
-/// The kind of the chunk that begins with a word, by the word's header type.
+/// Returns the kind of the chunk that begins with `word`, by the word's header type.
 fn kind_of(word: u32) -> Kind
     ensures { result ≡ kind_of word }
 {
@@ -121,7 +122,7 @@ fn kind_of(word: u32) -> Kind
     }
 }
 
-/// How many header words stand before the base header of a chunk.
+/// Returns the number of header words before the base header of a chunk.
 fn words_before(kind: Kind) -> u32
     ensures before { result ≡ words_before kind }
     ensures few { result ≤ 2 }
@@ -133,7 +134,7 @@ fn words_before(kind: Kind) -> u32
     }
 }
 
-/// Whether the words from `start` up to `end` have the header type of the first of them.
+/// Returns whether the words from `start` up to `end` all have the header type of the first one.
 fn is_of_one_type<W: WordList>(words: &W, start: usize, end: usize) -> bool
     requires some { start < end }
     requires inside { end ≤ length (W.words words.now) }
@@ -150,8 +151,8 @@ fn is_of_one_type<W: WordList>(words: &W, start: usize, end: usize) -> bool
     true
 }
 
-/// How many words the header says that a chunk of this kind has from its base header on, by its
-/// first word and its base header.
+/// Returns the size in words, from the base header on, that a chunk's header states. `first` is
+/// the chunk's first word, `base` its base header word.
 fn stated_size(kind: Kind, first: u32, base: u32) -> u32
     ensures { result ≡ size_stated kind first base }
 {

@@ -1,31 +1,31 @@
-//! How the fields of an object are laid out.
+//! The layout of an object's fields.
 
 ghost use Rattle.std.specs.Prelude.{◌≡◌};
 ghost use Rattle.sqz_object.specs.Layout.{layout_of};
 
 use crate::base::Base;
 
-/// How the fields of an object are laid out, by the format and the compact class index of its base
+/// The layout of an object's fields, given by the format and the compact class index in its base
 /// header.
 #[derive(Clone, Copy, Debug, PartialEq, Eq)]
 pub enum Layout {
-    /// Slots alone: formats 0 to 3, but for contexts.
+    /// Slots only: formats 0 to 3, except contexts.
     Fields,
-    /// Slots, of which those after the fixed ones are weak: format 4.
+    /// Slots; those after the fixed ones are weak: format 4.
     Weak,
-    /// The slots of a context up to the top of its stack: format 3 with compact class index 13 or
-    /// 14.
+    /// The slots of a context (an activation record), up to the top of its stack: format 3 with
+    /// compact class index 13 or 14.
     Context,
-    /// Words that are no slots: formats 5 to 7.
+    /// Words that are not slots: formats 5 to 7.
     Words,
-    /// Bytes, without this many of the last word: formats 8 to 11.
+    /// Bytes; the last `unused` bytes of the last word are padding: formats 8 to 11.
     Bytes { unused: u32 },
-    /// A method: its header, its literals, and then bytes: formats 12 to 15.
+    /// A compiled method: its header word, its literals, and then bytes: formats 12 to 15.
     Method,
 }
 
 impl Layout {
-    /// The layout by the fields of a base header.
+    /// Returns the layout that the fields of a base header give.
     pub fn of(base: &Base) -> Layout
         ensures { result ≡ layout_of base.now }
     {

@@ -1,6 +1,6 @@
-//! Words, values, header words and chunks of a Squeak object memory of 32 bits.
+//! Words, values, header words and chunks of a 32-bit Squeak object memory.
 //!
-//! No function of this crate takes memory.
+//! No function of this crate allocates memory.
 #![tactic(auto)]
 
 mod base;

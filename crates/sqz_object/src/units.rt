@@ -1,9 +1,10 @@
-//! What numbers of 32 bits stand for in signatures.
+//! What 32-bit numbers stand for in signatures.
 
-/// The index of an object: objects are counted from 0, by address. Free chunks are not objects.
+/// The index of an object. Objects are counted from 0 in address order; free chunks are not
+/// objects.
 pub type ObjectIndex = u32;
 
-/// An address in bytes, as a pointer holds it.
+/// An address in bytes, as an object pointer (oop) holds it.
 pub type Address = u32;
 
 /// The index of a data word, counted from 0.

@@ -1,10 +1,10 @@
-//! What a word means where an object holds it.
+//! What a word of an object means.
 
 ghost use Rattle.std.specs.Prelude.{◌≡◌};
 ghost use Rattle.sqz_object.specs.Value.{value_of};
 
-/// A word of an object: an integer of 31 bits (bit 0 is 1), the address of a base header (the low
-/// bits are 00), or neither (10).
+/// A word of an object: a SmallInteger of 31 bits (bit 0 is 1), an object pointer (oop), which is
+/// the address of a base header (the low bits are 00), or neither (10).
 #[derive(Clone, Copy, Debug, PartialEq, Eq)]
 pub enum Value {
     Int(i32),
@@ -12,7 +12,7 @@ pub enum Value {
     Odd(u32),
 }
 
-/// The value of a word.
+/// Returns the value of a word.
 pub fn value_of(word: u32) -> Value
     ensures { result ≡ value_of word }
 {

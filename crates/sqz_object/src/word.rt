@@ -1,4 +1,4 @@
-//! Words of 32 bits as four bytes, in either order.
+//! 32-bit words as four bytes, in either byte order.
 
 ghost use Rattle.std.specs.Prelude.{◌≡◌, ◌+◌, ◌*◌, ◌≤◌, length, take, drop, slice_index};
 ghost use Rattle.sqz_object.specs.Bytes.{number_of, bytes_of};
@@ -6,7 +6,7 @@ ghost use Rattle.sqz_object.specs.Bytes.{number_of, bytes_of};
 use crate::order::Order;
 use byteorder::{BigEndian, ByteOrder, LittleEndian};
 
-/// The word with index `k` among the words that `bytes` spell: the bytes from `4 * k` on.
+/// Returns word `k` of `bytes`: the four bytes from offset `4 * k` on.
 pub fn word_at(bytes: &[u8], order: Order, k: usize) -> u32
     requires { 4 * k + 4 ≤ length bytes.now }
     ensures { result ≡ number_of order (take 4 (drop (4 * k) bytes.now)) }
@@ -14,7 +14,7 @@ pub fn word_at(bytes: &[u8], order: Order, k: usize) -> u32
     word_of(order, &bytes[4 * k..4 * k + 4])
 }
 
-/// The word that the first four bytes spell.
+/// Returns the word that the first four bytes encode.
 pub(crate) fn word_of(order: Order, bytes: &[u8]) -> u32
     requires { 4 ≤ length bytes.now }
     ensures { result ≡ number_of order bytes.now }
@@ -25,7 +25,7 @@ pub(crate) fn word_of(order: Order, bytes: &[u8]) -> u32
     }
 }
 
-/// The four bytes that spell a word.
+/// Returns the four bytes that encode `word`.
 pub fn put_word(order: Order, word: u32) -> [u8; 4]
     ensures spelled { result ≡ bytes_of order word }
     ensures read_again { number_of order result ≡ word }

@@ -1,17 +1,17 @@
-//! Lists of words, however they are kept.
+//! Lists of words, independent of how they are stored.
 
 ghost use Rattle.std.specs.Prelude.{◌≡◌, ℕ, ◌<◌, List, length, slice_index};
 
-/// Words of 32 bits that are read by their index.
+/// A list of 32-bit words that are read by index.
 pub trait WordList {
     /// The words.
     ghost words: { Self → List ℕ };
 
-    /// The number of words.
+    /// Returns the number of words.
     fn count(&self) -> usize
         ensures { result ≡ length (words self.now) };
 
-    /// Word `k`.
+    /// Returns word `k`.
     fn word(&self, k: usize) -> u32
         requires { k < length (words self.now) }
         ensures { result ≡ slice_index (words self.now) k };

@@ -1,4 +1,4 @@
-//! Words as they lie in a file.
+//! The words of a file, read from its bytes.
 
 ghost use Rattle.std.specs.Prelude.{◌≡◌, ◌-◌, ◌<◌, ◌≤◌, ◌↔◌, [], IsTrue, length, take, drop};
 ghost use Rattle.std.specs.Prelude.{slice_index, slice_get};
@@ -10,8 +10,8 @@ use crate::word::word_of;
 use crate::word_list::WordList;
 use std::marker::Model;
 
-/// Words of 32 bits as they lie in a file: four bytes each, in one order. Contracts see the list of
-/// the words.
+/// 32-bit words that stay as bytes of a file: four bytes each, in one byte order. Contracts see
+/// the list of the words.
 #[derive(Drop)]
 pub struct Words<'a> {
     order: Order,
@@ -28,7 +28,7 @@ impl<'a> Model for Words<'a> {
 }
 
 impl<'a> Words<'a> {
-    /// The words that bytes spell. Fewer than four bytes at the end spell none.
+    /// Returns the words that `bytes` encode. One to three bytes left over at the end are ignored.
     pub fn of(order: Order, bytes: &'a [u8]) -> Self
         ensures { result ≡ words_of order bytes.now }
     {
@@ -36,21 +36,21 @@ impl<'a> Words<'a> {
         Words { order, bytes }
     }
 
-    /// The number of words.
+    /// Returns the number of words.
     pub fn len(&self) -> usize
         ensures { result ≡ length self.now }
     {
         self.bytes.len()
     }
 
-    /// Whether there are no words.
+    /// Returns whether there are no words.
     pub fn is_empty(&self) -> bool
         ensures { IsTrue result ↔ (length self.now ≡ 0) }
     {
         self.len() == 0
     }
 
-    /// Word `k`.
+    /// Returns word `k`.
     pub fn at(&self, k: usize) -> u32
         requires { k < length self.now }
         ensures { result ≡ slice_index self.now k }
@@ -58,7 +58,7 @@ impl<'a> Words<'a> {
         word_of(self.order, &self.bytes[k])
     }
 
-    /// Word `k`, if there is one.
+    /// Returns word `k`, if there is one.
     pub fn get(&self, k: usize) -> Option<u32>
         ensures { result ≡ slice_get self.now k }
     {
@@ -69,7 +69,7 @@ impl<'a> Words<'a> {
         }
     }
 
-    /// The words from `start` up to `end`.
+    /// Returns the words from `start` up to `end`.
     pub fn part(&self, start: usize, end: usize) -> Words<'a>
         requires ordered { start ≤ end }
         requires inside { end ≤ length self.now }
@@ -82,7 +82,7 @@ impl<'a> Words<'a> {
         }
     }
 
-    /// The first `count` words, and the others.
+    /// Returns the first `count` words, and the remaining ones.
     pub fn split_at(&self, count: usize) -> (Words<'a>, Words<'a>)
         requires { count ≤ length self.now }
         ensures front { result.0 ≡ take count self.now }
@@ -98,7 +98,7 @@ impl<'a> Words<'a> {
         (front, back)
     }
 
-    /// The words, one after the other.
+    /// Returns an iterator over the words.
     pub fn iter(&self) -> WordIter<'a>
         ensures { result ≡ self.now }
     {
@@ -121,7 +121,7 @@ impl WordList for Words<'_> {
     }
 }
 
-/// The words of a file, one after the other. Contracts see the list of those that are left.
+/// An iterator over the words of a file. Contracts see the list of the words that are left.
 #[derive(Drop)]
 pub struct WordIter<'a> {
     order: Order,

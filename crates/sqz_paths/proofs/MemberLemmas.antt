@@ -37,7 +37,7 @@ words-le memory index lt =
     omega (arith, stands.inside)
 
 module _ (memory : Memory) (weak : Weak) (marks : List Bool) (class : ℕ) where
-  -- what is told of a member
+  -- what holds of a member
   abbrev Is : Member → Type 0
   Is = IsMember memory weak marks class
 

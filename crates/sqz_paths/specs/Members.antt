@@ -6,13 +6,13 @@ use Rattle.sqz_trace.specs.Strong.{class_of}
 use Rattle.sqz_trace.specs.Graph.{is_marked}
 use Rattle.sqz_paths.specs.declared.members.Member.{Member}
 
--- a marked object is of the class
+-- a marked object of the class
 pub record IsOfClass (memory : Memory) (weak : Weak) (marks : List Bool) (class index : ℕ) : Type 0 where
   pub inside : index < object_count memory
   pub marked : is_marked marks index ≡ true
   pub of_class : class_of memory weak (chunk_words memory index) ≡ Some class
 
--- what is told of it: its words
+-- a member: the object, and the length of its chunk in words
 pub record IsMember (memory : Memory) (weak : Weak) (marks : List Bool) (class : ℕ) (member : Member) : Type 0 where
   pub is : IsOfClass memory weak marks class member.object
   pub words : member.words ≡ length (chunk_words memory member.object)
@@ -20,11 +20,11 @@ pub record IsMember (memory : Memory) (weak : Weak) (marks : List Bool) (class :
 abbrev pub no_member : Member
 no_member = record { object = 0; words = 0 }
 
--- more words come first, and else a lower address
+-- more words come first; on a tie the lower address does
 abbrev pub ComesBefore : Member → Member → Type 0
 ComesBefore one other = (other.words < one.words) ⊎ ((one.words ≡ other.words) × (one.object < other.object))
 
--- all marked objects of the class, in their order, each once
+-- all marked objects of the class, in order, each once
 pub record AreMembers (memory : Memory) (weak : Weak) (marks : List Bool) (class : ℕ) (members : List Member) : Type 0 where
   pub each : (i : ℕ) → i < length members → IsMember memory weak marks class (slice_index_or members i no_member)
   pub all : (index : ℕ) → IsOfClass memory weak marks class index
@@ -32,7 +32,7 @@ pub record AreMembers (memory : Memory) (weak : Weak) (marks : List Bool) (class
   pub ordered : (i j : ℕ) → i < j → j < length members
       → ComesBefore (slice_index_or members i no_member) (slice_index_or members j no_member)
 
--- those with an index below a bound, by index
+-- the members with an index below a bound, by index
 pub record AreMembersBelow (memory : Memory) (weak : Weak) (marks : List Bool) (class bound : ℕ) (members : List Member) : Type 0 where
   pub each : (i : ℕ) → i < length members → IsMember memory weak marks class (slice_index_or members i no_member)
   pub below : (i : ℕ) → i < length members → (slice_index_or members i no_member).object < bound

@@ -7,17 +7,18 @@ use Rattle.sqz_trace.specs.Graph.{Leads, IsReachable}
 use Rattle.sqz_trace.specs.Reachability.{graph_from}
 use Rattle.sqz_paths.specs.declared.path.Step.{Step}
 
--- from an object, each step's slot names the object that the step comes to, and the last one is the goal
+-- from an object on, each step's slot points to the object of the step, and the last one is the
+-- goal
 abbrev pub LeadsBySlots : Memory → Weak → ℕ → List Step → ℕ → Type 0
 LeadsBySlots memory weak from [] goal = from ≡ goal
 LeadsBySlots memory weak from (step ∷ steps) goal =
     (strong_target memory weak from step.slot ≡ Some step.object) × LeadsBySlots memory weak step.object steps goal
 
--- the objects that steps come to, one after the other
+-- the objects of the steps, in order
 abbrev pub objects_on : List Step → List ℕ
 objects_on steps = map (λ step. step.object) steps
 
--- the steps are a path to the object, by the slots that they name, and no path to it has fewer
+-- the steps are a path to the object along their slots, and no path to it has fewer
 pub record IsShortestPath (memory : Memory) (weak : Weak) (object : ℕ) (steps : List Step) : Type 0 where
   pub start : ℕ
   pub is_special : find memory memory.special ≡ Some start

@@ -16,13 +16,13 @@ use std::alloc::{AllocError, Global};
 pub struct Member {
     /// The index of the object.
     pub object: ObjectIndex,
-    /// The words of its chunk, header words among them.
+    /// The length of its chunk in words, header words included.
     pub words: u32,
 }
 
-/// The marked objects of the class with this index, each once: those with more bytes come first, of
-/// as many bytes those with lower addresses. With the marks of the reachable objects these are the
-/// live ones. Fails for want of memory alone.
+/// Returns the marked objects of the class with this index, each once: longer ones first, and on a
+/// tie those with lower addresses. With the marks of the reachable objects these are the live
+/// instances. Fails only if out of memory.
 pub fn members_of(
     alloc: Global,
     heap: &Heap,
@@ -45,7 +45,7 @@ pub fn members_of(
     Ok(members)
 }
 
-/// The marked objects of a class, by address.
+/// Returns the marked objects of a class, by address.
 fn members_by_address(
     alloc: Global,
     heap: &Heap,

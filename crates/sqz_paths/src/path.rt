@@ -14,30 +14,29 @@ use sqz_object::ObjectIndex;
 use sqz_trace::{OutEdges, Weak};
 use std::alloc::{AllocError, Global};
 
-/// A step of a path: from the object before, by a strong slot of it, to the object that the slot
-/// points to.
+/// A step of a path: from the object before, along one of its strong slots, to the object that the
+/// slot points to.
 #[derive(Clone, Copy, Debug, PartialEq, Eq)]
 pub struct Step {
-    /// The slot of the object before.
+    /// The slot, which belongs to the object before.
     pub slot: Slot,
     /// The index of the object that it points to.
     pub object: ObjectIndex,
 }
 
-/// A path from the special objects array. The path to that array itself has no step.
+/// A path from the special objects array. The path to that array itself has no steps.
 #[derive(Debug, Drop)]
 pub struct Path {
-    /// In their order: the first goes by a slot of the special objects array.
+    /// The steps in order; the first goes along a slot of the special objects array.
     pub steps: Vec<Step>,
 }
 
-/// A shortest path along strong slots from the special objects array to the object with this index;
-/// None exactly if no path leads to it. A step goes by the first slot of its object that points to
-/// the next one, the class word before the fields.
+/// Returns a shortest path along strong slots from the special objects array to the object with
+/// this index, or None if no path leads to it. A step goes along the first slot of its object that
+/// points to the next one; the class word comes before the fields.
 ///
-/// Objects are looked at in the order in which they are found, those nearest to the special objects
-/// array first, until this one comes. That is linear in the words, and takes two numbers for each
-/// object. Fails only if it is out of memory.
+/// The search is breadth-first, and ends when it comes to this object. It takes time linear in the
+/// words of the heap, and eight bytes per object. Fails only if out of memory.
 pub fn path_to(
     alloc: Global,
     heap: &Heap,
@@ -62,7 +61,8 @@ pub fn path_to(
     Ok(None)
 }
 
-/// The path to the object that was found at a place: back from there, by those that led to each.
+/// Returns the path to the object at index `place` of the list of found objects, by following back
+/// the objects that led to each.
 fn path_back(alloc: Global, search: &Search<'_>, place: usize) -> Result<Path, AllocError>
     requires searching { IsSearching search.now place }
     requires inside { place < length search.now.found.items }

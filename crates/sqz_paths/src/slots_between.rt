@@ -1,4 +1,4 @@
-//! The slot by which one object leads to another.
+//! The slot along which one object leads to another.
 
 ghost use Rattle.std.specs.Prelude.{◌≡◌, IfSome, IfNone, Some};
 ghost use Rattle.sqz_trace.specs.Edges.{strong_slots, edge_target, IsTargetAmong};
@@ -7,8 +7,8 @@ use sqz_image::Slot;
 use sqz_object::ObjectIndex;
 use sqz_trace::OutEdges;
 
-/// The first strong slot of an object that points to another: its class word, or else the first of
-/// its fields.
+/// Returns the first strong slot of an object that points to another: its class word, or else the
+/// first of its fields. None if no strong slot does.
 pub(crate) fn slot_between(edges: &OutEdges<'_>, to: ObjectIndex) -> Option<Slot>
     ensures names { IfSome result (λ slot. edge_target edges.now slot ≡ Some to) }
     ensures none { IfNone result (IsTargetAmong edges.now (strong_slots edges.now) to → ⊥) }

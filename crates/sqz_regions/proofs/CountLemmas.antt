@@ -1,4 +1,5 @@
--- How many of a list pass a test that passes a first part of it and nothing behind.
+-- The number of elements of a list that pass a test, if exactly a first part of the list passes
+-- it.
 -- Serves `CutLemmas` and `RegionLemmas`.
 use Rattle.std.proofs.Common.{◌≡◌, ℕ, zero, suc, ◌+◌, ◌<◌, ◌≤◌, Bool, true, false, cond, List, [], ◌∷◌, length}
 use Rattle.std.proofs.Common.{get_or, refl, ap, ◌∙◌, ltb, arith, inl, inr}

@@ -73,7 +73,7 @@ region_at_point cut points word region is list inside at =
 
 -- ---- a list that is read from its first word on
 
--- so many of the points are those of a cut, and the next one must be at least the lowest
+-- the first `count` points are those of a cut, and the next one must be at least the lowest
 pub record IsCutListSoFar (points : List ℕ) (count lowest : ℕ) : Type 0 where
   pub rises : (i j : ℕ) → i < j → j < count → get_or points i 0 < get_or points j 0
   pub bounded : (i : ℕ) → i < count → get_or points i 0 ≤ 2 ^ 30

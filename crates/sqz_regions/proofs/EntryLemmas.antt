@@ -1,4 +1,4 @@
--- The entries of a table of places, from those of ranges of objects.
+-- The entries of a table of new addresses, from those of ranges of objects.
 -- Serves `forward::places_between`, `forward::range_places` and `forward::Forward::build`.
 use Rattle.std.proofs.Common.{◌≡◌, ℕ, zero, suc, ◌+◌, ◌-◌, ◌*◌, ◌^◌, ◌<◌, ◌≤◌, Bool, true, false, List, [], ◌∷◌, ◌++◌}
 use Rattle.std.proofs.Common.{map, length, get_or, refl, sym, ap, subst, ◌∙◌, arith, inl, inr, None, Ok, Result}
@@ -61,7 +61,7 @@ module _ (memory : Memory) (marks : List Bool) where
   entry_of-unmarked index is = rw is refl
 
   -- where the live words from a marked object on go: the object's place, the room behind it,
-  -- and where those behind the object go
+  -- and where those after the object go
   pub placed : (index next : ℕ) (chunk : Chunk) → index < object_count memory → is_marked marks index ≡ true
       → chunk ≡ description (chunk_words memory index) → chunk.before < chunk.length
       → memory.base + 4 * length (concat memory.chunks) ≤ 2 ^ 32
@@ -139,7 +139,7 @@ module _ (cut : Cutting) (memory : Memory) where
       → range_begin cut memory range ≡ objects_before cut memory (region_at cut memory (range * 4096))
   range_begin-inside range lt = rw (lt-ltb (range * 4096) (object_count memory) lt) refl
 
-  -- behind the last range
+  -- after the last range
   pub range_begin-past : (range : ℕ) → object_count memory ≤ range * 4096
       → range_begin cut memory range ≡ object_count memory
   range_begin-past range le = rw (le-ltb (range * 4096) (object_count memory) le) refl
@@ -154,7 +154,7 @@ module _ (cut : Cutting) (memory : Memory) where
         | inr ge ↦ omega (arith, range_begin-past range ge)
       ]
 
-  -- no range begins behind the next one
+  -- no range begins after the next one
   pub range_begin-rises : (range : ℕ) → range_begin cut memory range ≤ range_begin cut memory (range + 1)
   range_begin-rises range =
       elim (cases_lt ((range + 1) * 4096) (object_count memory)) [

@@ -1,4 +1,5 @@
--- Sums along lists of object indexes, in any order, are sums over the indexes below the number of objects.
+-- Sums along lists of object indexes, in any order, are sums over the indexes below the number of
+-- objects.
 -- Serves `KeptLemmas` and `WonLemmas` of `sqz_marks`; `RemainingLemmas` of `sqz_workers`.
 use Rattle.std.proofs.Common.{◌≡◌, ◌≢◌, ℕ, zero, suc, ◌+◌, ◌*◌, ◌<◌, ◌≤◌, Bool, true, false, cond, eqb, List, [], ◌∷◌}
 use Rattle.std.proofs.Common.{filter, length, get_or, refl, sym, ap, ◌∙◌, arith, inl, inr}

@@ -1,7 +1,8 @@
 -- The words of the marked objects below an object.
--- Serves `forward::places_between`, `sums::live_words_between`, `EntryLemmas`, `ListedLemmas` and `SumLemmas`;
--- `piece_sizes::piece_size`, `MovedShapeLemmas`, `SettledLemmas` and `SizeLemmas` of `sqz_slide`; `CensusLemmas`,
--- `SumLemmas` and `TallyLemmas` of `sqz_census`; `compaction::moved` of `sqz_tool`.
+-- Serves `forward::places_between`, `sums::live_words_between`, `EntryLemmas`, `ListedLemmas` and
+-- `SumLemmas`; `piece_sizes::piece_size`, `MovedShapeLemmas`, `SettledLemmas` and `SizeLemmas` of
+-- `sqz_slide`; `CensusLemmas`, `SumLemmas` and `TallyLemmas` of `sqz_census`; `compaction::moved`
+-- of `sqz_tool`.
 use Rattle.std.proofs.Common.{◌≡◌, ℕ, zero, suc, ◌+◌, ◌<◌, ◌≤◌, Bool, true, false, List, [], ◌∷◌}
 use Rattle.std.proofs.Common.{map, length, get_or, take, refl, ap, ◌∙◌, arith}
 use Rattle.std.specs.List.{count_by}

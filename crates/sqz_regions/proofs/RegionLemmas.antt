@@ -1,6 +1,7 @@
--- Regions along the objects: they never fall, and so the objects of each stand together.
--- Serves `regions::end_of`, `regions::Regions::before`, `::count`, `::objects`, `::of`, `::region`, `sums::live_words`,
--- `EntryLemmas` and `RisingLemmas`; `moved_objects::piece_of` and `PieceLemmas` of `sqz_slide`.
+-- Regions never decrease along the objects, so the objects of each region are adjacent.
+-- Serves `regions::end_of`, `regions::Regions::before`, `::count`, `::objects`, `::of`,
+-- `::region`, `sums::live_words`, `EntryLemmas` and `RisingLemmas`; `mover::Mover::piece_of` and
+-- `PieceLemmas` of `sqz_slide`.
 use Rattle.std.proofs.Common.{◌≡◌, ℕ, zero, suc, ◌+◌, ◌-◌, ◌/◌, ◌<◌, ◌≤◌, Bool, true, false, cond, List, [], ◌∷◌, ◌++◌}
 use Rattle.std.proofs.Common.{map, length, get_or, refl, sym, ap, subst, ◌∙◌, ◌↔◌, leb, arith, inl, inr}
 use Rattle.std.specs.List.{concat}
@@ -220,7 +221,7 @@ module _ (cut : Cutting) (memory : Memory) where
 
 -- ---- the ends of regions
 
--- the ends of so many regions, and the last of them
+-- the ends of the first `count` regions, and the last of them
 pub record AreEndsSoFar (cut : Cutting) (memory : Memory) (count last : ℕ) (ends : List ℕ) : Type 0 where
   pub sized : length ends ≡ count
   pub each : (region : ℕ) → region < count → get_or ends region 0 ≡ objects_before cut memory (region + 1)

@@ -1,4 +1,5 @@
--- Regions never fall along the objects, so the marked objects below a region are those below its first object.
+-- Regions never decrease along the objects, so the marked objects below a region are those below
+-- its first object.
 -- Serves `EntryLemmas` and `SumLemmas`; `PieceLemmas` of `sqz_slide`.
 use Rattle.std.proofs.Common.{◌≡◌, ℕ, suc, ◌+◌, ◌<◌, ◌≤◌, Bool, true, false, cond, ltb, eqb, List, [], ◌∷◌, ◌++◌, map}
 use Rattle.std.proofs.Common.{filter, length, get_or, take, refl, sym, ap, ◌∙◌, arith, inl, inr}

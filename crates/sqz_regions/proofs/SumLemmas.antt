@@ -1,7 +1,7 @@
 -- The live words of the regions, one region after the other.
--- Serves `forward::range_places`, `sums::live_words`, `sums::live_words_between`, `EntryLemmas` and `ListedLemmas`;
--- `table::MarkTable::close` of `sqz_marks`; `TallyLemmas` of `sqz_census`; `compaction::moved` and
--- `SettledLemmas` of `sqz_tool`; `stages::print_moving` of `sqz_stage_times`.
+-- Serves `forward::range_places`, `sums::live_words`, `sums::live_words_between`, `EntryLemmas`
+-- and `ListedLemmas`; `table::MarkTable::close` of `sqz_marks`; `TallyLemmas` of `sqz_census`;
+-- `compaction::moved` and `FixedPointLemmas` of `sqz_tool`.
 use Rattle.std.proofs.Common.{◌≡◌, ◌⊎◌, ℕ, zero, suc, ◌+◌, ◌*◌, ◌<◌, ◌≤◌, Bool, true, false, cond, ltb, eqb}
 use Rattle.std.proofs.Common.{List, [], ◌∷◌, ◌++◌, map, filter, length, get_or, take}
 use Rattle.std.proofs.Common.{refl, sym, ap, subst, ◌∙◌, arith, add-one, inl, inr}
@@ -127,7 +127,7 @@ module _ (memory : Memory) (marks : List Bool) where
         let here = h.each region (omega (arith, h.sized)) in
         omega (arith, more, before, here, live_words_below-next_region region))
 
--- the live words of a region go behind the live words below its first object
+-- the live words of a region go after the live words below its first object
 pub base_of_region : (regions : Regioning) (marks : List Bool) (bases : List ℕ) → AreBasesOf regions marks bases
     → (region : ℕ) → region < region_count regions.cut regions.memory
     → get_or bases region 0

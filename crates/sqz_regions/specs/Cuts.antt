@@ -1,4 +1,4 @@
--- Which cuts there are, and what contracts see of one.
+-- Which cuts are valid, and what contracts see of one.
 use Rattle.std.specs.Prelude.{ℕ, ◌^◌, ◌<◌, ◌≤◌, List, length, slice_index}
 use Rattle.sqz_regions.specs.declared.cut.Division.{Division}
 use Rattle.sqz_regions.specs.declared.cut.Division.TheVariants as divisions

@@ -1,18 +1,18 @@
--- The place of an object in the compacted memory: the marked objects below it, and then it.
+-- The new address (place) of an object in the compacted memory: after the marked objects below it.
 use Rattle.std.specs.Prelude.{ℕ, ◌+◌, ◌*◌, ◌==◌, Bool, if◌then◌else◌, List, take, length, sum_by, Option, Some, None}
 use Rattle.sqz_object.specs.Chunk.{before}
 use Rattle.sqz_image.specs.Objects.{Memory, Object, objects, chunk_words}
 use Rattle.sqz_trace.specs.Live.{marked, live}
 
--- how many words the chunks of objects have together
+-- the total length of the objects' chunks in words
 abbrev pub words_in : List Object → ℕ
 words_in objects = sum_by (λ object. length object.chunk) objects
 
--- how many words the marked objects below an index have together
+-- the total length in words of the marked objects below an index
 abbrev pub live_words_below : Memory → List Bool → ℕ → ℕ
 live_words_below memory marks index = words_in (marked (take index marks) (take index (objects memory)))
 
--- how many words all marked objects have together
+-- the total length in words of all marked objects
 abbrev pub live_words : Memory → List Bool → ℕ
 live_words memory marks = words_in (live memory marks)
 
@@ -21,10 +21,11 @@ abbrev pub place : Memory → List Bool → ℕ → ℕ
 place memory marks index =
     memory.base + 4 * (live_words_below memory marks index + before (chunk_words memory index))
 
--- a table of places has an entry for each object: its place, or this number, which is no address, where it has none
+-- the table of new addresses has an entry for each object: its new address, or this number, which
+-- is no address, if it has none
 abbrev pub no_place : ℕ
 no_place = 4294967295
 
--- the place that an entry stands for
+-- the new address that an entry stands for
 abbrev pub place_of_entry : ℕ → Option ℕ
 place_of_entry entry = if entry == no_place then None else Some entry

@@ -1,4 +1,5 @@
--- Regions of an object memory: where its data words are cut, and which objects begin in each part.
+-- Regions of an object memory: where its data words are cut, and which objects begin in each
+-- region.
 use Rattle.std.specs.Prelude.{ℕ, ◌+◌, ◌-◌, ◌/◌, ◌==◌, nat_le, nat_lt, Bool, List, length, filter, count_by}
 use Rattle.std.specs.List.{concat}
 use Rattle.sqz_image.specs.Objects.{Memory, Object, objects, object_at}
@@ -22,17 +23,18 @@ region_of cut object = points_up_to cut object.first
 abbrev pub region_at : Cutting → Memory → ℕ → ℕ
 region_at cut memory index = region_of cut (object_at memory index)
 
--- how many regions there are: the data words by the words of one, rounded up, or one more than the points
+-- the number of regions: the data words divided by the words of a region, rounded up; or one more
+-- than the points
 abbrev pub region_count : Cutting → Memory → ℕ
 region_count (Every words) memory = (length (concat memory.chunks) + (words - 1)) / words
 region_count (At points) memory = length points + 1
 
--- how many objects there are in the regions before one
+-- the number of objects in the regions before one
 abbrev pub objects_before : Cutting → Memory → ℕ → ℕ
 objects_before cut memory region =
     count_by (λ object. nat_lt (region_of cut object) region) (objects memory)
 
--- how many words the marked objects of a region have together
+-- the total length in words of the marked objects of a region
 abbrev pub live_words_in : Cutting → Memory → List Bool → ℕ → ℕ
 live_words_in cut memory marks region =
     words_in (filter (λ object. region_of cut object == region) (live memory marks))

@@ -9,7 +9,7 @@ use sqz_image::{Fault, Heap};
 use sqz_object::WordIndex;
 use std::marker::Model;
 
-/// The most words that a region has, and the highest cut point.
+/// The greatest number of words of a region, and the highest cut point.
 const MOST: u32 = 1 << 30;
 
 /// Where data words are cut into regions: at each multiple of a number of words, or at listed
@@ -21,9 +21,9 @@ pub struct Cut {
 
 #[derive(Drop)]
 enum Division {
-    /// At each multiple of so many words, from that one on.
+    /// At each positive multiple of this number of words.
     Every(u32),
-    /// At these words, which rise.
+    /// At these words, in ascending order.
     At(Vec<u32>),
 }
 
@@ -39,7 +39,7 @@ impl Model for Cut {
 }
 
 impl Cut {
-    /// Cuts every so many words. Refused with `BadCut` unless these are from 1 to 2^30.
+    /// Returns a cut every `words` words. Fails with `BadCut` unless `words` is from 1 to 2^30.
     pub fn every(words: u32) -> Result<Cut, Fault>
         ensures cut { IfOk result (λ cut. cut ≡ Every words) }
         ensures refused { IfErr result (λ fault. fault ≡ BadCut) }
@@ -53,8 +53,9 @@ impl Cut {
         })
     }
 
-    /// Cuts at these words, which the program never asks for; no point is one region. Refused with
-    /// `BadCut`, and the list is dropped, unless each is above the one before, and none above 2^30.
+    /// Returns a cut at these words; an empty list gives one region. The program itself uses only
+    /// `every`. Fails with `BadCut`, and drops the list, unless each word is above the one before
+    /// and none is above 2^30.
     pub fn at(list: Vec<u32>) -> Result<Cut, Fault>
         ensures cut { IfOk result (λ cut. cut ≡ At list.items) }
         ensures refused { IfErr result (λ fault. fault ≡ BadCut) }
@@ -68,7 +69,7 @@ impl Cut {
         })
     }
 
-    /// How many regions the heap has.
+    /// Returns the number of regions of the heap.
     pub(crate) fn count(&self, heap: &Heap) -> u32
         ensures count { result ≡ region_count self.now heap.now }
         ensures few { result ≤ 2 ^ 30 + 2 }
@@ -80,7 +81,7 @@ impl Cut {
         }
     }
 
-    /// The region that a word is in.
+    /// Returns the region that a word is in.
     pub(crate) fn region(&self, word: WordIndex) -> u32
         ensures region { result ≡ points_up_to self.now word }
         ensures valid { IsValidCut self.now }
@@ -91,7 +92,8 @@ impl Cut {
         }
     }
 
-    /// The first word behind this region, in constant time; 2^32 where no cut point is behind it.
+    /// Returns the index of the first word after this region, or 2^32 if no cut point follows it.
+    /// Takes constant time.
     pub(crate) fn end(&self, region: u32) -> u64
         ensures { (word : ℕ) → word < 2 ^ 32 → (word < result)
             ↔ (points_up_to self.now word ≤ region) }
@@ -106,7 +108,7 @@ impl Cut {
     }
 }
 
-/// Whether each point is above the one before, and none above the highest.
+/// Returns whether each point is above the one before, and none above 2^30.
 fn is_cut_list(points: &[u32]) -> bool
     ensures { IsTrue result ↔ IsCutList points.now }
 {

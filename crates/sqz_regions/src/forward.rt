@@ -20,7 +20,7 @@ use std::marker::Model;
 use std::ops::Range;
 use std::thread::Threads;
 
-/// The entry of an object that is not marked. No address is odd.
+/// The entry of an object that is not marked. It is not an address, since addresses are even.
 const DEAD: u32 = u32::MAX;
 
 /// The number of objects of a range, before its ends are moved to the first objects of their
@@ -32,7 +32,7 @@ const RANGE: u32 = 4096;
 /// or none.
 #[derive(Drop)]
 pub struct Forward {
-    /// The address for each object; `DEAD` where it has none. Addresses are multiples of four.
+    /// The new address of each object, or `DEAD`. Addresses are multiples of four.
     places: Vec<Address>,
 }
 
@@ -49,9 +49,9 @@ impl Model for Forward {
 }
 
 impl Forward {
-    /// The new addresses of the marked objects, by the bases of their regions. Several threads
-    /// build them if there are more than 4096 objects and more than one region: each takes whole
-    /// regions. Fails only if out of memory.
+    /// Returns the new addresses of the marked objects, by the bases of their regions. If there
+    /// are more than 4096 objects and more than one region, several threads build them, and each
+    /// takes whole regions. Fails only if out of memory.
     pub fn build(
         rt: &(impl Threads + Sync),
         alloc: Global,
@@ -85,7 +85,7 @@ impl Forward {
         Ok(Forward { places })
     }
 
-    /// The new address of the object's base header; none for an object that is not marked.
+    /// Returns the new address of the object's base header; None for an object that is not marked.
     pub fn place(&self, object: ObjectIndex) -> Option<Address>
         requires { object < length self.now }
         ensures place { result ≡ slice_index_or self.now object None }
@@ -96,7 +96,7 @@ impl Forward {
     }
 }
 
-/// The first object of the range with this number: the first one of the region of object
+/// Returns the first object of the range with this number: the first one of the region of object
 /// `range * RANGE`. After the last range it is the number of objects.
 fn first_of_range(regions: &Regions<'_>, objects: u32, range: u32) -> ObjectIndex
     requires objects { objects ≡ object_count regions.now.memory }
@@ -111,7 +111,7 @@ fn first_of_range(regions: &Regions<'_>, objects: u32, range: u32) -> ObjectInde
     }
 }
 
-/// The entries of the objects of the range with this number.
+/// Returns the entries of the objects of the range with this number.
 fn range_places(
     alloc: Global,
     regions: &Regions<'_>,
@@ -134,7 +134,7 @@ fn range_places(
     places_between(alloc, heap, marks, from..to, bases[region as usize])
 }
 
-/// The entries of these objects, of which the first live one goes to an address.
+/// Returns the entries of these objects; the first live one goes to `address`.
 fn places_between(
     alloc: Global,
     heap: &Heap,
@@ -167,7 +167,7 @@ fn places_between(
     Ok(places)
 }
 
-/// The entries of all ranges, in one list.
+/// Concatenates the entries of all ranges.
 fn concat_parts(alloc: Global, objects: u32, parts: &[Vec<u32>]) -> Result<Vec<u32>, AllocError>
     ensures { IfOk result (λ places. places.items ≡ flat_map (λ part. part.items) parts.now) }
 {

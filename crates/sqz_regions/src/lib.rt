@@ -1,4 +1,5 @@
-//! Regions of an object memory, how many live words each has, and where live objects go.
+//! The regions of an object memory, the number of live words of each, and the new addresses of
+//! live objects.
 #![tactic(auto)]
 
 mod cut;

@@ -8,8 +8,9 @@ use sqz_image::Fault;
 use sqz_object::Address;
 use std::alloc::Global;
 
-/// For each region the address at which its live words begin: the base, and behind it the live
-/// words of the regions before. An address may be 2^32. Fails for want of memory alone.
+/// Returns, for each region, the address at which its live words begin: `base` plus the bytes of
+/// the live words of the regions before it. `sums` are the live words of each region. An address
+/// may be 2^32. Fails only if out of memory.
 pub fn bases(alloc: Global, base: Address, sums: &[u32]) -> Result<Vec<u64>, Fault>
     requires { base + 4 * sum sums.now ≤ 2 ^ 32 }
     ensures bases { IfOk result (λ bases. AreBases base sums.now bases.items) }

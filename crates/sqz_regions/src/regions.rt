@@ -16,7 +16,7 @@ use std::marker::Model;
 pub struct Regions<'a> {
     heap: &'a Heap,
     cut: &'a Cut,
-    /// For each region the number of objects in it and in those before.
+    /// For each region, the number of objects in it and in the regions before it.
     ends: Vec<u32>,
 }
 
@@ -32,8 +32,8 @@ impl<'a> Model for Regions<'a> {
 }
 
 impl<'a> Regions<'a> {
-    /// The regions of the heap under this cut. Fails only if out of memory. Linear in objects plus
-    /// regions.
+    /// Returns the regions of the heap under this cut. Takes time linear in the number of objects
+    /// plus regions. Fails only if out of memory.
     pub fn of(alloc: Global, heap: &'a Heap, cut: &'a Cut) -> Result<Self, Fault>
         ensures regions { IfOk result (λ regions.
             regions ≡ record { cut = cut.now; memory = heap.now }) }
@@ -49,14 +49,14 @@ impl<'a> Regions<'a> {
         Ok(Regions { heap, cut, ends })
     }
 
-    /// The heap that is cut.
+    /// Returns the heap that is cut.
     pub fn heap(&self) -> &'a Heap
         ensures { result.now ≡ self.now.memory }
     {
         self.heap
     }
 
-    /// The number of regions. Each object is in one of them.
+    /// Returns the number of regions. Each object is in one of them.
     pub fn count(&self) -> u32
         ensures count { result ≡ region_count self.now.cut self.now.memory }
         ensures all { objects_before self.now.cut self.now.memory result
@@ -65,8 +65,8 @@ impl<'a> Regions<'a> {
         self.cut.count(self.heap)
     }
 
-    /// The object's region: the number of cut points that are not above its chunk's first word.
-    /// Takes constant time for a cut by `every`, and a binary search for one by `at`.
+    /// Returns the object's region: the number of cut points that are not above its chunk's first
+    /// word. Takes constant time for a cut by `every`, and a binary search for one by `at`.
     pub fn region(&self, object: ObjectIndex) -> u32
         requires { object < object_count self.now.memory }
         ensures region { result ≡ region_at self.now.cut self.now.memory object }
@@ -75,8 +75,8 @@ impl<'a> Regions<'a> {
         self.cut.region(self.heap.first(object))
     }
 
-    /// The objects of a region: the index of the first, and the one after the last. For a region
-    /// without objects both are the number of objects in the regions before.
+    /// Returns the objects of a region: the index of the first, and the one after the last. For a
+    /// region without objects both are the number of objects in the regions before.
     pub fn objects(&self, region: u32) -> (ObjectIndex, ObjectIndex)
         requires { region < region_count self.now.cut self.now.memory }
         ensures first { result.0 ≡ objects_before self.now.cut self.now.memory region }
@@ -91,8 +91,8 @@ impl<'a> Regions<'a> {
         (self.before(region), self.before(region + 1))
     }
 
-    /// The number of objects in the regions before this one, or in all if it is the one after the
-    /// last.
+    /// Returns the number of objects in the regions before this one, or in all if it is the one
+    /// after the last.
     fn before(&self, region: usize) -> u32
         requires { region ≤ region_count self.now.cut self.now.memory }
         ensures { result ≡ objects_before self.now.cut self.now.memory region }
@@ -105,8 +105,8 @@ impl<'a> Regions<'a> {
     }
 }
 
-/// The number of objects in this region and in those before, if the number in those before is
-/// known.
+/// Returns the number of objects in this region and in those before it. `known` is the number in
+/// those before it.
 fn end_of(heap: &Heap, cut: &Cut, region: u32, known: u32) -> u32
     requires { known ≡ objects_before cut.now heap.now region }
     ensures { result ≡ objects_before cut.now heap.now (region + 1) }

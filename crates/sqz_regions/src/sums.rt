@@ -1,4 +1,4 @@
-//! How many live words each region has.
+//! The number of live words of each region.
 
 ghost use Rattle.std.specs.Prelude.{◌≡◌, ◌+◌, ◌*◌, ◌^◌, ◌<◌, ◌≤◌, length, IfOk, IfErr};
 ghost use Rattle.std.specs.List.{concat, sum};
@@ -14,7 +14,7 @@ use sqz_object::ObjectIndex;
 use sqz_trace::Marks;
 use std::alloc::Global;
 
-/// The sum of the lengths of the chunks of the marked ones among the objects `from..to`, in words.
+/// Returns the total length in words of the chunks of the marked objects among `from..to`.
 fn live_words_between(heap: &Heap, marks: &Marks, from: ObjectIndex, to: ObjectIndex) -> u32
     requires ordered { from ≤ to }
     requires inside { to ≤ object_count heap.now }
@@ -32,9 +32,9 @@ fn live_words_between(heap: &Heap, marks: &Marks, from: ObjectIndex, to: ObjectI
     words
 }
 
-/// For each region the sum of the lengths of its marked objects' chunks, in words. Behind the base
-/// there is room below 2^32 for all of them, which `bases` asks for. Fails for want of memory
-/// alone.
+/// Returns, for each region, the total length of its marked objects' chunks in words. From the
+/// heap's base on, all these words fit below 2^32, as `bases` requires. Fails only if out of
+/// memory.
 pub fn live_words(
     alloc: Global,
     heap: &Heap,

@@ -1,6 +1,6 @@
--- The new address of what a word names, by a list of places.
--- Serves `mover::Mover::piece_of`, `mover::Mover::push_strong`, `mover::Mover::push_weak`, `piece_sizes::piece_size`
--- and `SizeLemmas`.
+-- The new address of a word's target, by a list of new addresses.
+-- Serves `mover::Mover::piece_of`, `mover::Mover::push_strong`, `mover::Mover::push_weak`,
+-- `piece_sizes::piece_size` and `SizeLemmas`.
 use Rattle.std.proofs.Common.{◌≡◌, ℕ, ◌<◌, Bool, true, false, cond, List, [], ◌∷◌, ◌+◌, ◌++◌, map, length, get_or, take}
 use Rattle.std.proofs.Common.{Option, Some, None, is_some, slice_index_or, refl, sym, ap, ◌∙◌, append_assoc}
 use Rattle.std.proofs.lemmas.List.{map_push, take_more}

@@ -1,5 +1,7 @@
--- The live objects in their new places: each is an object of the compacted memory, and is found at its place.
--- Serves `CopiedLemmas` and `WordLemmas`; `CorrespondenceLemmas` and `FixedPointLemmas` of `sqz_tool`.
+-- The live objects at their new addresses: each is an object of the compacted memory, and is found
+-- at its address.
+-- Serves `CopiedLemmas` and `WordLemmas`; `CorrespondenceLemmas` and `FixedPointLemmas` of
+-- `sqz_tool`.
 use Rattle.std.proofs.Common.{◌≡◌, ℕ, ◌+◌, ◌*◌, ◌%◌, ◌<◌, Bool, true, false, List, [], ◌∷◌, length, map, take, cond}
 use Rattle.std.proofs.Common.{slice_index_or, Some, refl, ap, subst, ◌∙◌, arith}
 use Rattle.std.specs.List.{concat, AllByRecursion}

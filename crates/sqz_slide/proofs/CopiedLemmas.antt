@@ -1,4 +1,5 @@
--- The compacted memory is a copy of the live objects: its slots name the copies of what the objects' slots named.
+-- The compacted memory is a copy of the live objects: its slots point to the copies of the
+-- original slots' targets.
 -- Serves `CorrespondenceLemmas` and `FixedPointLemmas` of `sqz_tool`.
 use Rattle.std.proofs.Common.{◌≡◌, ℕ, ◌%◌, Bool, true, false, cond, eqb, List, [], length, Option, Some, None, refl}
 use Rattle.std.proofs.Common.{sym, ap, subst, ◌∙◌}

@@ -1,5 +1,6 @@
 -- What an object's header becomes as it moves.
--- Serves `mover::Mover::push_header`, `moved_words::moved_word`, `LengthLemmas`, `MovedLemmas` and `MovedShapeLemmas`.
+-- Serves `mover::Mover::push_header`, `moved_words::moved_word`, `LengthLemmas`, `MovedLemmas` and
+-- `MovedShapeLemmas`.
 use Rattle.std.proofs.Common.{◌≡◌, ℕ, zero, suc, ◌+◌, ◌<◌, ◌≤◌, Bool, false, List, [], ◌∷◌, length, slice_index, get_or}
 use Rattle.std.proofs.Common.{refl, sym, ap, subst, ◌∙◌, arith}
 use Rattle.std.proofs.lemmas.List.{get_or_append_left}

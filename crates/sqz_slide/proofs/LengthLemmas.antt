@@ -1,6 +1,7 @@
--- An object keeps its length when it moves, so that the live objects have as many words after as before.
--- Serves `CompactedLemmas`, `MovedShapeLemmas` and `WordLemmas`; `CompactionLemmas`, `CorrespondenceLemmas` and
--- `FixedPointLemmas` of `sqz_tool`; `stages::print_moving` of `sqz_stage_times`.
+-- An object keeps its length when it moves, so that the live objects have as many words after as
+-- before.
+-- Serves `CompactedLemmas`, `MovedShapeLemmas` and `WordLemmas`; `CompactionLemmas`,
+-- `CorrespondenceLemmas` and `FixedPointLemmas` of `sqz_tool`.
 use Rattle.std.proofs.Common.{◌≡◌, ℕ, ◌+◌, ◌<◌, Bool, true, false, List, [], ◌∷◌, map, length, take, drop, refl, arith}
 use Rattle.std.specs.List.{concat, AllByRecursion}
 use Rattle.std.proofs.lemmas.List.{length-append, length-map, length-drop, length-take}
@@ -28,7 +29,7 @@ All-marked P (true ∷ marks) (x ∷ xs) h = (h.0, All-marked P marks xs h.1)
 All-marked P (false ∷ marks) (x ∷ xs) h = All-marked P marks xs h.1
 
 module _ (memory : Memory) (weak : Weak) (marks : List Bool) where
-  -- there are as many fields behind the strong ones
+  -- there are as many fields after the strong ones
   length-moved_others : (test : Bool) (others : List ℕ) → length (moved_others memory weak marks test others) ≡ length others
   length-moved_others true others = length-map others (moved_weak memory weak marks)
   length-moved_others false others = refl

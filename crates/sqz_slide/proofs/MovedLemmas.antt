@@ -1,4 +1,5 @@
--- The words of an object after the move: those of its fields. And the words of all live objects up to one.
+-- The words of an object after the move: those of its fields. And the words of all live objects up
+-- to one.
 -- Serves `mover::Mover::piece_of`, `moved_words::moved_word` and `PieceLemmas`.
 use Rattle.std.proofs.Common.{◌≡◌, ℕ, ◌+◌, ◌-◌, ◌<◌, ◌≤◌, Bool, true, false, List, [], ◌++◌, map, length, get_or, take}
 use Rattle.std.proofs.Common.{drop, slice_index, refl, ap, sym, ◌∙◌, arith}
@@ -37,13 +38,13 @@ module _ (memory : Memory) (weak : Weak) (marks : List Bool) where
         length-map strong_fields (moved_field memory marks)
         ∙ length-take-le (strong memory weak chunk) (fields chunk) (strong_inside memory weak chunk)
 
-    -- a field is the word behind the base header's that far
+    -- a field is the word that far after the base header
     field_word : (k : ℕ) → before chunk < k → slice_index (fields chunk) (k - (before chunk + 1)) ≡ slice_index chunk k
     field_word k lt =
         get_or-drop (before chunk + 1) chunk (k - (before chunk + 1)) 0
         ∙ ap (λ (n : ℕ). get_or chunk n 0) (omega arith)
 
-    -- the same of a field behind the strong ones
+    -- the same of a field after the strong ones
     other_word : (k : ℕ) → before chunk + strong memory weak chunk < k
         → get_or other_fields (k - (before chunk + 1) - strong memory weak chunk) 0 ≡ slice_index chunk k
     other_word k lt =
@@ -51,7 +52,7 @@ module _ (memory : Memory) (weak : Weak) (marks : List Bool) where
         ∙ ap (λ (n : ℕ). get_or (fields chunk) n 0) (omega arith)
         ∙ field_word k (omega arith)
 
-    -- behind the header stand the fields
+    -- the fields follow the header
     moved-field_word : (k : ℕ) → before chunk < length chunk → before chunk < k
         → get_or (moved memory weak marks chunk) k 0 ≡ get_or (moved_fields memory weak marks chunk) (k - (before chunk + 1)) 0
     moved-field_word k headed lt =
@@ -59,7 +60,7 @@ module _ (memory : Memory) (weak : Weak) (marks : List Bool) where
         get_or-append_right (moved_header memory marks (chunk_kind chunk) chunk) (moved_fields memory weak marks chunk)
         (before chunk + 1) k 0 size (omega arith)
 
-    -- and behind the strong ones the others, by whether the object has weak slots
+    -- and the other fields follow the strong ones, by whether the object has weak slots
     moved-others_word : (k : ℕ) (test : Bool) → is_weak weak chunk ≡ test → before chunk < length chunk
         → before chunk + strong memory weak chunk < k
         → get_or (moved memory weak marks chunk) k 0
@@ -71,7 +72,7 @@ module _ (memory : Memory) (weak : Weak) (marks : List Bool) where
         length-moved_strong (omega arith)
         ∙ ap (λ test. get_or (moved_others memory weak marks test other_fields) (k - (before chunk + 1) - strong memory weak chunk) 0) is
 
-    -- a word behind the header, by what is read of the object
+    -- a word after the header, by what is read of the object
     module _ (words : List ℕ) (same : words ≡ chunk) (header : Chunk) (described : header ≡ description chunk)
         (headed : header.before < header.length) (count : ℕ) (strong_is : count ≡ strong memory weak chunk)
         (k : ℕ) (lt : header.before < k) where

@@ -1,4 +1,5 @@
--- An object after the move: it has the shape that it had, is a chunk again, and its slots hold new addresses.
+-- An object after the move: it has the shape that it had, is a chunk again, and its slots hold new
+-- addresses.
 -- Serves `CompactedLemmas`, `CopiedLemmas` and `WordLemmas`; `FixedPointLemmas` of `sqz_tool`.
 use Rattle.std.proofs.Common.{◌≡◌, ◌⊎◌, ℕ, zero, suc, ◌+◌, ◌-◌, ◌*◌, ◌%◌, ◌^◌, ◌<◌, ◌≤◌, Bool, true, false, cond, ltb}
 use Rattle.std.proofs.Common.{List, [], ◌∷◌, ◌++◌, map, length, get_or, take, drop, slice_index, Option, Some, None}
@@ -87,7 +88,7 @@ AreWords-take (suc count) [] below k = omega arith
 AreWords-take (suc count) (word ∷ words) below zero = below zero
 AreWords-take (suc count) (word ∷ words) below (suc k) = AreWords-take count words (λ k. below (suc k)) k
 
--- and those behind them
+-- and those after them
 AreWords-drop : (count : ℕ) (words : List ℕ) → AreWords words → AreWords (drop count words)
 AreWords-drop count words below k = rw (get_or-drop count words k 0) (below (count + k))
 
@@ -260,7 +261,7 @@ module _ (memory : Memory) (weak : Weak) (marks : List Bool) (aligned : memory.b
     abbrev new_others : List ℕ
     new_others = moved_others memory weak marks (is_weak weak chunk) other_fields
 
-    -- the fields behind the strong ones are alike
+    -- the fields after the strong ones are alike
     alike-moved_others : (test : Bool) (others : List ℕ) (k : ℕ)
         → IsAlike (slice_index others k) (slice_index (moved_others memory weak marks test others) k)
     alike-moved_others true others k = alike-map (moved_weak memory weak marks) alike-moved_weak others k

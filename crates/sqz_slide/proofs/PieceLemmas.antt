@@ -1,5 +1,6 @@
 -- The pieces of regions, one region after the other.
--- Serves `mover::Mover::piece_of`, `shared_regions::SharedRegions::pieces_of_worker`, `sliding::concat_shares` and `sliding::slide`.
+-- Serves `mover::Mover::piece_of`, `shared_regions::SharedRegions::pieces_of_worker`,
+-- `sliding::concat_shares` and `sliding::slide`.
 use Rattle.std.proofs.Common.{◌≡◌, ℕ, zero, suc, ◌+◌, ◌-◌, ◌≤◌, Bool, eqb, List, [], ◌∷◌, ◌++◌, map, filter, length}
 use Rattle.std.proofs.Common.{take, slice_index_or, sym, ap, subst, refl, ◌∙◌, arith, add-one, inl, inr}
 use Rattle.std.specs.List.{concat}
@@ -54,7 +55,7 @@ module _ (regions : Regioning) (weak : Weak) (marks : List Bool) where
   pub no_piece_yet : (from : ℕ) → ArePiecesOf regions weak marks from from []
   no_piece_yet from = record { sized = omega arith; each = λ piece lt. absurd (omega arith) }
 
-  -- pieces, and those of the regions behind them
+  -- pieces, and those of the regions after them
   pub pieces_joined : (from middle to : ℕ) (front back : List (List ℕ)) → ArePiecesOf regions weak marks from middle front
       → ArePiecesOf regions weak marks middle to back → ArePiecesOf regions weak marks from to (front ++ back)
   pieces_joined from middle to front back f b =

@@ -1,5 +1,5 @@
--- A memory of objects alone, all of which are marked, is its own compaction: each object has its place already, and no word
--- changes.
+-- A memory that has only objects, all of them marked, is its own compaction: each object is at its
+-- new address already, and no word changes.
 -- Serves `FixedPointLemmas` of `sqz_tool`.
 use Rattle.std.proofs.Common.{◌≡◌, ℕ, zero, suc, ◌+◌, ◌*◌, ◌/◌, ◌%◌, ◌<◌, Bool, true, false, cond, eqb, List, [], ◌∷◌, ◌++◌}
 use Rattle.std.proofs.Common.{map, length, take, drop, Option, Some, None, refl, sym, ap, ◌∙◌, arith}
@@ -47,7 +47,7 @@ map-unchanged f same [] = refl
 map-unchanged f same (x ∷ xs) =
     ap (λ (y : ℕ). y ∷ map f xs) (same x) ∙ ap (λ (ys : List ℕ). x ∷ ys) (map-unchanged f same xs)
 
--- ---- objects alone
+-- ---- only objects
 
 -- each chunk is an object
 abbrev AreObjects : List (List ℕ) → Type 0
@@ -189,7 +189,7 @@ module _ (memory : Memory) (weak : Weak) (chunks : AllByRecursion IsChunk memory
   moved_header-settled Short (base ∷ rest) h = refl
   moved_header-settled _ _ h = absurd h
 
-  -- no field behind the strong ones changes
+  -- no field after the strong ones changes
   moved_others-settled : (test : Bool) (others : List ℕ) → moved_others memory weak (all_marked memory) test others ≡ others
   moved_others-settled true others = map-unchanged (moved_weak memory weak (all_marked memory)) moved_weak-settled others
   moved_others-settled false others = refl

@@ -10,7 +10,7 @@ module _ (regions workers : ℕ) (some : 0 < workers) where
   pub first_region-none : first_region regions workers 0 ≡ 0
   first_region-none = let le : 0 * regions / workers ≤ 0 = div-le_of_le-mul workers (omega arith) in omega (arith, le)
 
-  -- behind the last worker's regions there is none
+  -- after the last worker's regions there is none
   pub first_region-all : first_region regions workers workers ≡ regions
   first_region-all = mul-div_cancel_left regions some
 
@@ -23,6 +23,6 @@ module _ (regions workers : ℕ) (some : 0 < workers) where
       ↔ (worker * regions / workers * workers ≤ next * regions) = le-div_iff_mul-le some in
       both.1 (rw (mul_comm (worker * regions / workers) workers) (omega (arith, below, more)))
 
-  -- no worker has a region behind the last
+  -- no worker has a region after the last
   pub first_region-le : (worker : ℕ) → worker ≤ workers → first_region regions workers worker ≤ regions
   first_region-le worker le = omega (arith, first_region-rises worker workers le, first_region-all)

@@ -1,4 +1,4 @@
--- The live words between two objects, of which some are not live.
+-- The live words between two objects, some of which are dead.
 -- Serves `piece_sizes::piece_size`.
 use Rattle.std.proofs.Common.{◌≡◌, ℕ, zero, suc, ◌+◌, ◌-◌, ◌<◌, ◌≤◌, Bool, true, false, List, Option, None, is_some}
 use Rattle.std.proofs.Common.{slice_index_or, refl, ap, ◌∙◌, arith}
@@ -34,7 +34,7 @@ module _ (memory : Memory) (marks : List Bool) where
       let whole : to ≡ from + (to - from) = omega arith in
       rw whole (rises_on from (to - from) (omega arith))
 
-  -- objects of which none is marked add no words
+  -- objects without a mark add no words
   dead_on : (from more : ℕ) → from + more ≤ object_count memory
       → ((index : ℕ) → from ≤ index → index < from + more → is_marked marks index ≡ false)
       → live_words_below memory marks (from + more) ≡ live_words_below memory marks from

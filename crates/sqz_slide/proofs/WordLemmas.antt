@@ -1,4 +1,4 @@
--- The words of the compacted memory are words of 32 bits.
+-- The words of the compacted memory are 32-bit words.
 -- Serves `FixedPointLemmas` of `sqz_tool`.
 use Rattle.std.proofs.Common.{◌≡◌, ℕ, zero, suc, ◌+◌, ◌*◌, ◌%◌, ◌^◌, ◌<◌, ◌≤◌, Bool, List, [], ◌∷◌, ◌++◌, length, map, take, drop}
 use Rattle.std.proofs.Common.{slice_index, subst, arith, inl, inr}

@@ -1,4 +1,4 @@
-//! The live objects in their new places, moved by workers that share the regions.
+//! The live objects at their new addresses, moved by workers that share the regions.
 #![tactic(auto)]
 
 mod moved_words;

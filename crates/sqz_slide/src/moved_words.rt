@@ -1,4 +1,4 @@
-//! One word of an object in its new place.
+//! One word of an object after the move.
 
 ghost use Rattle.std.specs.Prelude.{◌≡◌, ◌<◌, Bool, List, length, slice_index};
 ghost use Rattle.sqz_image.specs.Objects.{object_count, chunk_words};
@@ -12,10 +12,10 @@ use sqz_object::{Kind, ObjectIndex};
 use sqz_regions::Forward;
 use sqz_trace::{Weak, is_weak, strong_fields};
 
-/// Word `k` of the object's chunk after the move, header words counted; the program moves whole
-/// objects. A traced field that points to a live object becomes that object's new address, a class
-/// word too but for its low two bits; a weak field that points to a dead object becomes nil's new
-/// address; each other word stays.
+/// Returns word `k` of the object's chunk after the move, counting header words; a run moves whole
+/// objects. A traced field that points to a live object becomes that object's new address. So does
+/// a class word, which keeps its low two bits. A weak field that points to a dead object becomes
+/// nil's new address. Every other word stays.
 pub fn moved_word(heap: &Heap, weak: Weak, forward: &Forward, object: ObjectIndex, k: u32) -> u32
     requires object { object < object_count heap.now }
     requires word { k < length (chunk_words heap.now object) }
@@ -45,7 +45,7 @@ pub fn moved_word(heap: &Heap, weak: Weak, forward: &Forward, object: ObjectInde
     }
 }
 
-/// Whether word `k` of a chunk of this kind is its class word.
+/// Returns whether word `k` of a chunk of this kind is its class word.
 fn is_class_word(kind: Kind, k: u32) -> bool
     ensures { result ≡ is_class_word kind k }
 {

@@ -1,4 +1,4 @@
-//! Objects in their new places.
+//! Objects after the move.
 
 ghost use Rattle.std.specs.Prelude.{◌≡◌, ◌+◌, ◌^◌, ◌<◌, ◌≤◌, Bool, List, ◌++◌, map, length, IfOk};
 ghost use Rattle.sqz_object.specs.Chunk.{chunk_kind};
@@ -17,8 +17,8 @@ use sqz_regions::{Forward, Regions};
 use sqz_trace::{Weak, is_weak, named_by, nil, strong_fields};
 use std::alloc::{AllocError, Global};
 
-/// What objects are moved by: their heap, what becomes of weak slots, and the new address of each
-/// live object.
+/// What the move needs: the heap, the policy on weak slots, and the new address of each live
+/// object.
 #[derive(Drop)]
 pub(crate) struct Mover<'a> {
     pub heap: &'a Heap,
@@ -28,8 +28,8 @@ pub(crate) struct Mover<'a> {
 }
 
 impl Mover<'_> {
-    /// The word of a slot after the move: the new address of the object that it points to, or the
-    /// word as it is if it points to none, or to one that is dead.
+    /// Returns the word of a slot after the move: the new address of the object that it points to,
+    /// or the word unchanged if it points to no object or to a dead one.
     pub(crate) fn moved_field(&self, word: u32) -> u32
         ensures moved { (marks : List Bool)
             → ArePlacesOf self.now.heap.now marks self.now.forward.now
@@ -45,7 +45,7 @@ impl Mover<'_> {
         }
     }
 
-    /// A class word after the move: its low two bits stay.
+    /// Returns a class word after the move: its low two bits stay.
     pub(crate) fn moved_class(&self, word: u32) -> u32
         ensures { (marks : List Bool)
             → ArePlacesOf self.now.heap.now marks self.now.forward.now
@@ -55,7 +55,7 @@ impl Mover<'_> {
         self.moved_field(word - header_type) + header_type
     }
 
-    /// The new address of nil, if nil is live.
+    /// Returns the new address of nil, if nil is live.
     pub(crate) fn nil_place(&self) -> Option<Address>
         ensures { (marks : List Bool)
             → ArePlacesOf self.now.heap.now marks self.now.forward.now
@@ -64,9 +64,9 @@ impl Mover<'_> {
         self.forward.place(nil(self.heap, self.weak)?)
     }
 
-    /// The word of a weak slot after the move, if this is the new address of nil: the new address
-    /// of the object that the slot points to, or nil's if that object is dead, or the word as it is
-    /// if it points to none.
+    /// Returns the word of a weak slot after the move: the new address of the object that it
+    /// points to, or `nil` if that object is dead, or the word unchanged if it points to no
+    /// object. `nil` is the new address of nil.
     pub(crate) fn moved_weak(&self, word: u32, nil: Option<Address>) -> u32
         ensures { (weak : Weak) (marks : List Bool)
             → ArePlacesOf self.now.heap.now marks self.now.forward.now
@@ -79,8 +79,8 @@ impl Mover<'_> {
         self.forward.place(named).or(nil).unwrap_or(word)
     }
 
-    /// The words of the region's live objects after the move, in their order. Room is made for all
-    /// of them at once.
+    /// Returns the words of the region's live objects after the move, in order. Room for all of
+    /// them is allocated at once.
     pub(crate) fn piece_of(
         &self,
         alloc: Global,
@@ -105,7 +105,7 @@ impl Mover<'_> {
         Ok(words)
     }
 
-    /// Adds the words of an object after its move.
+    /// Appends the words of an object after the move.
     fn push_moved(&self, object: &Object<'_>, words: &mut Vec<u32>) -> Result<(), AllocError>
         ensures { IfOk result (λ _. (marks : List Bool)
             → ArePlacesOf self.now.heap.now marks self.now.forward.now
@@ -124,7 +124,7 @@ impl Mover<'_> {
         Ok(())
     }
 
-    /// Adds the header words of an object after its move.
+    /// Appends the header words of an object after the move.
     fn push_header(&self, object: &Object<'_>, words: &mut Vec<u32>) -> Result<(), AllocError>
         ensures { IfOk result (λ _. (marks : List Bool)
             → ArePlacesOf self.now.heap.now marks self.now.forward.now
@@ -146,7 +146,7 @@ impl Mover<'_> {
         Ok(())
     }
 
-    /// Adds strong fields after the move.
+    /// Appends strong fields after the move.
     fn push_strong(&self, fields: &Words<'_>, words: &mut Vec<u32>) -> Result<(), AllocError>
         ensures { IfOk result (λ _. (marks : List Bool)
             → ArePlacesOf self.now.heap.now marks self.now.forward.now
@@ -159,7 +159,7 @@ impl Mover<'_> {
         Ok(())
     }
 
-    /// Adds weak fields after the move, if this is the new address of nil.
+    /// Appends weak fields after the move. `nil` is the new address of nil.
     fn push_weak(
         &self,
         fields: &Words<'_>,
@@ -179,7 +179,7 @@ impl Mover<'_> {
     }
 }
 
-/// Adds fields that are no slots, as they are.
+/// Appends fields that are not slots, unchanged.
 fn push_untraced(fields: &Words<'_>, words: &mut Vec<u32>) -> Result<(), AllocError>
     ensures { IfOk result (λ _. words.new.items ≡ words.old.items ++ fields.now) }
 {

@@ -1,4 +1,4 @@
-//! How many words a piece has.
+//! The number of words of a piece.
 
 ghost use Rattle.std.specs.Prelude.{◌≡◌, ℕ, ◌+◌, ◌-◌, ◌*◌, ◌^◌, ◌<◌, ◌≤◌, Bool, true, List, None};
 ghost use Rattle.std.specs.Prelude.{is_some, length};
@@ -12,8 +12,9 @@ use sqz_image::Heap;
 use sqz_object::ObjectIndex;
 use sqz_regions::Forward;
 
-/// How many words the live objects among `from..to` have together: from where the first of them
-/// begins to where the last ends, in the new memory. Of the objects between it reads no header.
+/// Returns the total number of words of the live objects among `from..to`: from where the first of
+/// them begins to where the last ends in the compacted memory. It reads no header of the objects
+/// between these two.
 pub(crate) fn piece_size(heap: &Heap, forward: &Forward, from: ObjectIndex, to: ObjectIndex) -> u64
     requires ordered { from ≤ to }
     requires inside { to ≤ object_count heap.now }
@@ -33,7 +34,7 @@ pub(crate) fn piece_size(heap: &Heap, forward: &Forward, from: ObjectIndex, to: 
     (last + 4 * length).saturating_sub(begin) / 4
 }
 
-/// The address of the first word of the object's chunk in the new memory.
+/// Returns the address of the first word of the object's chunk in the compacted memory.
 fn begin_of(heap: &Heap, forward: &Forward, object: ObjectIndex) -> u64
     requires object { object < object_count heap.now }
     requires one_each { length forward.now ≡ object_count heap.now }
@@ -47,7 +48,7 @@ fn begin_of(heap: &Heap, forward: &Forward, object: ObjectIndex) -> u64
     u64::from(place).saturating_sub(4 * u64::from(heap.chunk(object).before))
 }
 
-/// The first object among `from..to` that has a place; `to` where none has.
+/// Returns the first object among `from..to` that has a new address, or `to` if none has.
 fn first_live(forward: &Forward, from: ObjectIndex, to: ObjectIndex) -> ObjectIndex
     requires ordered { from ≤ to }
     requires inside { to ≤ length forward.now }
@@ -65,7 +66,8 @@ fn first_live(forward: &Forward, from: ObjectIndex, to: ObjectIndex) -> ObjectIn
     to
 }
 
-/// The object behind the last among `from..to` that has a place; `from` where none has.
+/// Returns the object after the last one among `from..to` that has a new address, or `from` if
+/// none has.
 fn end_of_live(forward: &Forward, from: ObjectIndex, to: ObjectIndex) -> ObjectIndex
     requires ordered { from ≤ to }
     requires inside { to ≤ length forward.now }

@@ -4,8 +4,8 @@ ghost use Rattle.std.specs.Prelude.{◌≡◌, map};
 
 use std::marker::Model;
 
-/// The words of the live objects in their new places: a piece for each region, in their order.
-/// Contracts see the list of the pieces.
+/// The words of the live objects after the move: one piece per region, in order. Contracts see the
+/// list of the pieces.
 #[derive(Drop)]
 pub struct Pieces {
     pieces: Vec<Vec<u32>>,
@@ -20,14 +20,14 @@ impl Model for Pieces {
 }
 
 impl Pieces {
-    /// These pieces.
+    /// Wraps these pieces.
     pub(crate) fn new(pieces: Vec<Vec<u32>>) -> Pieces
         ensures { result ≡ map (λ piece. piece.items) pieces.items }
     {
         Pieces { pieces }
     }
 
-    /// The pieces. That of a region without live objects is empty.
+    /// Returns the pieces. The piece of a region without live objects is empty.
     pub fn as_slice(&self) -> &[Vec<u32>]
         ensures { map (λ piece. piece.items) result.now ≡ self.now }
     {

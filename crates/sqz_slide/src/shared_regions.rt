@@ -1,4 +1,4 @@
-//! The regions that workers share out as they move objects.
+//! The regions that workers share as they move objects.
 
 ghost use Rattle.std.specs.Prelude.{◌≡◌, ◌<◌, ◌≤◌, Bool, List, map, IfOk};
 ghost use Rattle.sqz_regions.specs.Bases.{ArePlacesOf};
@@ -22,8 +22,8 @@ pub(crate) struct SharedRegions<'a, 'g, G> {
 }
 
 impl<G: Gate> SharedRegions<'_, '_, G> {
-    /// The pieces of the worker with this number. It passes the gate before it takes any memory,
-    /// and then before each region but its first.
+    /// Returns the pieces of the worker with this number. The worker passes the gate before it
+    /// allocates memory, and then before each region except its first.
     pub(crate) fn pieces_of_worker(
         &self,
         alloc: Global,
@@ -51,7 +51,7 @@ impl<G: Gate> SharedRegions<'_, '_, G> {
     }
 }
 
-/// The first region of a worker, of this many regions.
+/// Returns the first region of a worker. `regions` is the number of regions.
 fn first_region(worker: u32, workers: Workers, regions: u32) -> u32
     requires { worker ≤ workers }
     ensures { result ≡ first_region regions workers worker }

@@ -23,10 +23,10 @@ use std::alloc::{AllocError, Global};
 use std::thread;
 use std::thread::Threads;
 
-/// The live objects of each region in their new places, moved by this many workers, each in a
-/// thread of its own if one can be started. Of `R` regions and `n` workers, worker `w` has those
-/// from `w * R / n` up to `(w + 1) * R / n`, and passes the gate before each. Fails only if out of
-/// memory.
+/// Moves the live objects of each region to their new addresses, and returns the pieces. Each
+/// worker runs in a thread of its own if one can be started. With `R` regions and `n` workers,
+/// worker `w` has the regions from `w * R / n` up to `(w + 1) * R / n`, and passes the gate before
+/// each. Fails only if out of memory.
 pub fn slide<'a, R: Threads + Sync, G: Gate>(
     rt: &R,
     alloc: Global,
@@ -75,7 +75,8 @@ pub fn slide<'a, R: Threads + Sync, G: Gate>(
     Ok(Pieces::new(concat_shares(alloc, regions.count(), shares)?))
 }
 
-/// The pieces of all workers, in the order of these. Room is made for this many pieces at once.
+/// Returns the pieces of all workers, in the order of the workers. Room for `count` pieces is
+/// allocated at once.
 fn concat_shares(
     alloc: Global,
     count: u32,

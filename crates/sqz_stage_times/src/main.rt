@@ -1,6 +1,6 @@
 //! The program `sqz_stage_times`: takes the command line of `sqzcompact`, and prints how many
-//! milliseconds each stage of three such runs takes, each with a census. It is for those who work
-//! on the product.
+//! milliseconds each stage of three such runs takes, each with a census. It is for the developers
+//! of the product.
 #![tactic(auto)]
 
 mod stage_printer;
@@ -22,18 +22,18 @@ use std::thread::Threads;
 use std::time::Clock;
 use std::{env, io};
 
-/// How often the image is compacted.
+/// The number of runs.
 const RUNS: u32 = 3;
 
-/// The names of the stages, in their order.
+/// The names of the stages, in order.
 const STAGES: &[&str] = &[
     "read", "index", "cut", "mark", "check", "place", "slide", "census", "write",
 ];
 
-/// The exit if the command line is wrong, or there is no memory to read it.
+/// The exit code if the command line is wrong, or if out of memory while it is read.
 const BAD_ARGUMENTS: u8 = 2;
 
-/// The plan that a command line asks for, with a census.
+/// Returns the plan that a command line asks for, with a census.
 fn plan_of(arguments: &Arguments<'_>) -> Result<Plan> {
     let weak = if arguments.clear_weak {
         Weak::Clear
@@ -48,8 +48,8 @@ fn plan_of(arguments: &Arguments<'_>) -> Result<Plan> {
     })
 }
 
-/// Compacts the image of a command line, and prints how long each stage takes. The census is
-/// dropped.
+/// Compacts the image of a command line, and prints how long each stage takes. The text of the
+/// census is dropped.
 fn print_run<R: Files + Threads + Sync + Clock + Print>(
     rt: &R,
     alloc: Global,

@@ -10,19 +10,19 @@ pub(crate) struct StagePrinter<'a, R> {
     rt: &'a R,
     /// When the stage began.
     began: Instant,
-    /// Whether all could be printed so far.
+    /// The first error of printing, if there was one.
     printed: io::Result<()>,
 }
 
 impl<'a, R: Clock + Print> StagePrinter<'a, R> {
-    /// A printer for a run whose first stage begins now.
+    /// Returns a printer for a run whose first stage begins now.
     pub(crate) fn start(rt: &'a R) -> io::Result<Self> {
         let began = Instant::now(rt)?;
         let printed = Ok(());
         Ok(StagePrinter { rt, began, printed })
     }
 
-    /// Prints how long the stage took that ends now. The next one begins.
+    /// Prints how long the stage that ends now took, and begins the next one.
     fn lap(&mut self) -> io::Result<()> {
         let tenths = self.began.elapsed(self.rt)?.as_micros() / 100;
         print!(self.rt; "{:>7}.{}", tenths / 10, tenths % 10)?;
@@ -30,7 +30,7 @@ impl<'a, R: Clock + Print> StagePrinter<'a, R> {
         Ok(())
     }
 
-    /// The first error of printing, if there was one.
+    /// Returns the first error of printing, if there was one.
     pub(crate) fn finish(self) -> io::Result<()> {
         self.printed
     }

@@ -1,4 +1,4 @@
--- What is written of an image, and the numbers of it.
+-- What is written of an image, and its numbers.
 -- Serves `compaction::moved`, `CorrespondenceLemmas` and `FixedPointLemmas`.
 use Rattle.std.proofs.Common.{◌≡◌, ℕ, ◌*◌, ◌^◌, ◌<◌, Bool, true, List, [], ◌++◌, length, slice_index_or, Option, Some}
 use Rattle.std.proofs.Common.{None, refl, sym, ap, subst, ◌∙◌}

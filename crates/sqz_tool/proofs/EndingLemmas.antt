@@ -1,5 +1,5 @@
--- From what a run answered to how the program ends.
--- Serves `command::program`.
+-- From what a run returned to how the program ends.
+-- Serves `entry_point::program`.
 use Rattle.std.proofs.Common.{◌≡◌, ◌≢◌, ℕ, ◌<◌, ◌⊎◌, Bool, List, Result, Ok, Err, arith, inl, inr}
 use Rattle.std.proofs.lemmas.Bool.Decides.{nat_tests}
 use Rattle.std.specs.Prelude.{IfOk, IfErr, MatchResult}

@@ -1,5 +1,5 @@
 -- A compacted image is a fixed point of compaction.
--- Serves `laws::compacts_once` and `RunLemmas`.
+-- Serves `laws::compacts_once`, `laws::keeps_objects` and `RunLemmas`.
 use Rattle.std.proofs.Common.{◌≡◌, ℕ, ◌+◌, ◌*◌, ◌^◌, ◌<◌, ◌≤◌, Bool, true, false, cond, List, [], length, slice_index, Some, None}
 use Rattle.std.proofs.Common.{refl, sym, ap, ◌∙◌, arith, is_some}
 use Rattle.std.specs.List.{concat, AllByRecursion}

@@ -1,4 +1,4 @@
--- A file has one compaction at most, one refusal at most, and not both.
+-- A file has at most one compaction, is rejected with at most one fault, and not both.
 -- Serves `laws::one_answer` and `laws::one_refusal`.
 use Rattle.std.proofs.Common.{◌≡◌, ℕ, List, Bool, true, false, Some, None, sym, ap, subst, ◌∙◌, inl, inr, is_some}
 use Rattle.std.proofs.lemmas.Option.{none-some, same_Some}

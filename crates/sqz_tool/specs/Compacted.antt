@@ -1,5 +1,5 @@
--- The compacted image: the bytes before the header as they were, the header with two words renewed, and the live objects
--- in their new places.
+-- The compacted image: the bytes before the header unchanged, the header with two words renewed,
+-- and the live objects at their new addresses.
 use Rattle.std.specs.Prelude.{ℕ, ◌*◌, Bool, List}
 use Rattle.sqz_image.specs.Objects.{Memory, SavedImage, find}
 use Rattle.sqz_image.specs.File.{renewed}
@@ -11,7 +11,7 @@ use Rattle.sqz_slide.specs.Moved.{new_address, moved_objects}
 abbrev pub new_special : Memory → List Bool → ℕ
 new_special memory marks = new_address memory marks memory.special (find memory memory.special)
 
--- the live objects in their new places, from the same base on, and no free chunks
+-- the live objects at their new addresses, from the same base on, and no free chunks
 abbrev pub compacted_memory : Memory → Weak → List Bool → Memory
 compacted_memory memory weak marks =
     record {
@@ -26,7 +26,7 @@ abbrev pub compacted_header : SavedImage → List Bool → List ℕ
 compacted_header image marks =
     renewed image.header (4 * live_words image.memory marks) (new_special image.memory marks)
 
--- the image that is left of an image, with marks that are reachability
+-- the compaction of an image, for the marks of its reachable objects
 abbrev pub compacted : SavedImage → Weak → List Bool → SavedImage
 compacted image weak marks =
     record {

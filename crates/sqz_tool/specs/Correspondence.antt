@@ -1,5 +1,5 @@
--- The objects of a compacted memory: the marked objects of the memory that it was made of, in their order, each moved to its place, with
--- the same edges.
+-- The objects of a compacted memory: the marked objects of the original memory, in order, each
+-- moved to its new address, with the same edges.
 use Rattle.std.specs.Prelude.{◌≡◌, ◌↔◌, ℕ, ◌<◌, Bool, true, List, length, take, Some, option_map}
 use Rattle.sqz_image.specs.declared.slot.Slot.{Slot}
 use Rattle.sqz_image.specs.Objects.{Memory, objects, object_count, chunk_words, address_of, find}
@@ -10,11 +10,13 @@ use Rattle.sqz_trace.specs.Live.{marked, live}
 use Rattle.sqz_regions.specs.Places.{place}
 use Rattle.sqz_slide.specs.Moved.{moved}
 
--- how many marked objects are below an index: the index, after the move, of the object with that index
+-- the number of marked objects below an index: the index, after the move, of the object with that
+-- index
 abbrev pub new_index : Memory → List Bool → ℕ → ℕ
 new_index memory marks index = length (marked (take index marks) (take index (objects memory)))
 
--- an object, after the move: at its place, with its words after the move, of which each strong slot names the object that it named
+-- an object after the move: it is at its new address, with its words after the move, and each
+-- strong slot points to the same object as before
 pub record IsMovedObject (memory : Memory) (weak : Weak) (marks : List Bool) (after : Memory) (index : ℕ) : Type 0 where
   pub inside : new_index memory marks index < object_count after
   pub words : chunk_words after (new_index memory marks index) ≡ moved memory weak marks (chunk_words memory index)
@@ -35,7 +37,8 @@ pub record HasOldEdge (memory : Memory) (weak : Weak) (marks : List Bool) (from 
   pub edge : HasEdge memory weak from to
   pub same : new_index memory marks to ≡ next
 
--- the objects after the move are the marked ones, in their order, with the same special objects array and the same edges
+-- the objects after the move are the marked ones, in order, with the same special objects array
+-- and the same edges
 pub record HasMovedObjects (memory : Memory) (weak : Weak) (marks : List Bool) (after : Memory) : Type 0 where
   pub count : object_count after ≡ length (live memory marks)
   pub each : (index : ℕ) → is_marked marks index ≡ true → IsMovedObject memory weak marks after index

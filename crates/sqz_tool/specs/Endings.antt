@@ -1,4 +1,5 @@
--- How the program ends, by the words of its command line: its exit, and what standard output and standard error took.
+-- How the program ends, by the words of its command line: its exit code, and what standard output
+-- and standard error took.
 use Rattle.std.specs.Prelude.{◌≡◌, ◌≢◌, ◌⊎◌, ◌↔◌, ℕ, Bool, true, List, [], Some, codes}
 use Rattle.clap.specs.Words.{Text, fault_of, first_of, matches_of}
 use Rattle.sqz_image.specs.declared.fault.Fault.{Fault}
@@ -11,11 +12,12 @@ use Rattle.sqz_tool.specs.FileRuns.{Views, CompactsFiles, RefusesFiles}
 use Rattle.sqz_cli.specs.Lines.{PrintsFault}
 use Rattle.sqz_tool.specs.Plans.{weak_of, AsksToClear, AsksForCensus}
 
--- the words were taken
+-- the words are accepted
 abbrev pub AreTaken : List Text → Type 0
 AreTaken words = fault_of command_line words ≡ []
 
--- the words ask for this of a run: the path of OUT, whether weak slots are cleared, and whether there is a census
+-- the words ask for this of a run: the path of OUT, whether weak slots are cleared, and whether
+-- there is a census
 pub record AsksFor (words : List Text) (path : Text) (clear census : Bool) : Type 0 where
   pub out : first_of (codes "OUT") (matches_of command_line words) ≡ Some path
   pub clears : (clear ≡ true) ↔ AsksToClear (matches_of command_line words)
@@ -30,7 +32,7 @@ pub record EndsWhole {F S : Type 0} (views : Views F S) (words : List Text) (out
   pub summary : Summary
   pub compacts : CompactsFiles views path (weak_of clear) census out new_out summary
 
--- a run over some file, to OUT, as the words ask for it, was refused
+-- a run over some file, to OUT, as the words ask for it, failed
 pub record EndsRefused {F S : Type 0} (views : Views F S) (words : List Text) (out new_out : SinkState) (fault : Fault) : Type 0 where
   pub path : Text
   pub clear : Bool
@@ -38,8 +40,9 @@ pub record EndsRefused {F S : Type 0} (views : Views F S) (words : List Text) (o
   pub asked : AsksFor words path clear census
   pub refuses : RefusesFiles views path (weak_of clear) census out new_out fault
 
--- the faults that may stop the program before a run: the words ask for no plan, memory is refused while they are read, or IN
--- is not opened; no contract of the files tells when that last is so
+-- the faults that may stop the program before a run: the words ask for no valid plan, memory runs
+-- out while they are parsed, or IN cannot be opened; no contract of the files says when the last
+-- is so
 abbrev pub MayStopEarly : Fault → Type 0
 MayStopEarly BadWorkers = Unit {0}
 MayStopEarly BadCut = Unit {0}
@@ -47,8 +50,8 @@ MayStopEarly OutOfMemory = Unit {0}
 MayStopEarly ReadFailed = Unit {0}
 MayStopEarly _ = ⊥
 
--- a fault stopped the program, which printed its line. Standard output is as it was unless a write failed. The fault is that
--- of a run, or one that may stop the program before
+-- a fault stopped the program, which printed its line. Standard output is unchanged unless a write
+-- failed. The fault is that of a run, or one that may stop the program before a run
 pub record EndsFaulty {F S : Type 0} (views : Views F S) (words : List Text) (exit : ℕ) (out new_out err new_err : SinkState) : Type 0 where
   pub fault : Fault
   pub exit_is : exit ≡ exit_of fault

@@ -1,4 +1,4 @@
--- Runs from one file to another, of which contracts see no bytes unless the files tell them.
+-- Runs from one file to another. Contracts see no bytes unless the files show them.
 use Rattle.std.specs.Prelude.{◌≡◌, ◌⊎◌, ℕ, Bool, true, List, Option}
 use Rattle.clap.specs.Words.{Text}
 use Rattle.sqz_image.specs.declared.fault.Fault.{Fault}
@@ -9,15 +9,15 @@ use Rattle.sqz_trace.specs.declared.weak.Weak.{Weak}
 use Rattle.sqz_tool.specs.declared.summary.Summary.{Summary}
 use Rattle.sqz_tool.specs.Headline.{Compacts, Refuses, Sinks, sinks}
 
--- how files are seen: an open one, of type F, by the bytes that it has left, where it tells them, and the sink of one that is to be
--- written, of type S, by its state and the path of that file
+-- how files are seen: an open file, of type F, by the bytes that it has left, if contracts see
+-- them; and the sink of an output file, of type S, by its state and the path of that file
 pub record Views (F S : Type 0) : Type 0 where
   pub left : F → Option (List ℕ)
   pub state : S → SinkState
   pub path : S → Text
 
--- something was done over all that some file had left, to the sink of the file with this path, which was not made yet, and to
--- the sink of a census
+-- something was done over all that some file had left, to the sink of the output file with this
+-- path, which was not created yet, and to the sink of a census
 pub record RunsFiles {F S : Type 0} (views : Views F S) (path : Text) (old new : SinkState)
     (Does : SourceState → SourceState → Sinks → Sinks → Type 0) : Type 0 where
   pub file : F
@@ -33,17 +33,17 @@ abbrev pub CompactsFiles : {F S : Type 0} → Views F S → Text → Weak → Bo
 CompactsFiles views path weak census old new summary =
     RunsFiles views path old new (λ from to before after. Compacts true weak census from to before after summary)
 
--- or a run that was refused
+-- it was a run that failed
 abbrev pub RefusesFiles : {F S : Type 0} → Views F S → Text → Weak → Bool → SinkState → SinkState → Fault → Type 0
 RefusesFiles views path weak census old new fault =
     RunsFiles views path old new (λ from to before after. Refuses true weak census from to before after fault)
 
--- the image was not opened, so that nothing was done
+-- the image was not opened, so nothing was done
 pub record IsUnopened (old new : SinkState) (fault : Fault) : Type 0 where
   pub named : fault ≡ ReadFailed
   pub untouched : new ≡ old
 
--- what was done where there is a plan and yet no image was written
+-- what was done if the plan is valid but the run failed
 abbrev pub StopsFiles : {F S : Type 0} → Views F S → Text → Weak → Bool → SinkState → SinkState → Fault → Type 0
 StopsFiles views path weak census old new fault =
     IsUnopened old new fault ⊎ RefusesFiles views path weak census old new fault

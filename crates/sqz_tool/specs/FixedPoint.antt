@@ -6,8 +6,8 @@ use Rattle.sqz_trace.specs.Graph.{is_marked}
 use Rattle.sqz_tool.specs.Compacted.{compacted}
 use Rattle.sqz_tool.specs.Verdict.{IsAccepted}
 
--- the image's file holds exactly this image and is accepted, all the image's objects are reachable, and compacting it
--- gives the same file
+-- the image's file holds exactly this image and is accepted, all the image's objects are
+-- reachable, and compacting it gives the same file
 pub record IsFixedPoint (weak : Weak) (image : SavedImage) : Type 0 where
   pub marks : List Bool
   pub accepted : IsAccepted weak (file_bytes image) image marks

@@ -1,4 +1,4 @@
--- What a run does: it writes exactly the compaction of what it read, or says why not.
+-- What a run does: it writes exactly the compaction of what it read, or returns why it did not.
 use Rattle.std.specs.Prelude.{◌≡◌, ◌⊎◌, ℕ, ◌*◌, ◌^◌, ◌<◌, Bool, true, false, List, length, Option, Some, None}
 use Rattle.std.specs.List.{concat}
 use Rattle.std.specs.Io.KnownBytes.{Consumes}
@@ -42,8 +42,8 @@ IsReportIfAsked true memory weak marks (Some text) = IsReport memory weak marks 
 IsReportIfAsked false memory weak marks None = Unit {0}
 IsReportIfAsked _ memory weak marks _ = ⊥
 
--- the address and the pieces are those of the image's compaction, these are the numbers, and this is the text of its
--- census
+-- the address and the pieces are those of the image's compaction, these are the numbers, and this
+-- is the text of its census
 pub record IsCompaction (weak : Weak) (census : Bool) (image : SavedImage) (special : ℕ) (pieces : List (List ℕ)) (summary : Summary)
     (text : Option (List ℕ)) : Type 0 where
   pub marks : List Bool
@@ -67,7 +67,7 @@ pub record HasDefectIn (weak : Weak) (image : SavedImage) (fault : Fault) : Type
   pub reachable : IsReachability image.memory weak marks
   pub defect : first_defect image.memory weak marks ≡ Some fault
 
--- what is seen of the two sinks of a run: that of the image, and that of its census
+-- what contracts see of the two sinks of a run: that of the image, and that of its census
 pub record Sinks : Type 0 where
   pub image : SinkState
   pub census : SinkState
@@ -75,14 +75,14 @@ pub record Sinks : Type 0 where
 abbrev pub sinks : SinkState → SinkState → Sinks
 sinks image census = record { image = image; census = census }
 
--- the sink of the census took its text and nothing else, or nothing where no census is asked for
+-- the sink of the census took its text and nothing else, or nothing if no census is asked for
 abbrev pub Reports : Weak → Bool → Memory → List Bool → SinkState → SinkState → Type 0
 Reports weak true memory marks old new = (text : List ℕ) × IsReport memory weak marks text × WritesWhole old new text
 Reports weak false memory marks old new = new ≡ old
 
--- the source gave a file that is accepted, the sink of the image took its compaction and nothing else, and these are
--- the numbers; the written file holds exactly the compacted image, which is accepted, has no unreachable object, and is
--- its own compaction
+-- the source gave a file that is accepted, the sink of the image took its compaction and nothing
+-- else, and these are the numbers; the written file holds exactly the compacted image, which is
+-- accepted, has no unreachable objects, and is its own compaction
 pub record Compacts (gives_all : Bool) (weak : Weak) (census : Bool) (from to : SourceState) (old new : Sinks)
     (summary : Summary) : Type 0 where
   pub file : List ℕ
@@ -95,40 +95,43 @@ pub record Compacts (gives_all : Bool) (weak : Weak) (census : Bool) (from to : 
   pub counted : summary ≡ summary_of image marks
   pub fixed_point : IsFixedPoint weak (compacted image weak marks)
 
--- the source gave a file that is refused for this reason, and the sinks are as they were
+-- the source gave a file that is rejected with this fault, and the sinks are unchanged
 pub record RefusesFile (gives_all : Bool) (weak : Weak) (fault : Fault) (from to : SourceState) (old new : Sinks) : Type 0 where
   pub file : List ℕ
   pub read : ReadsWhole gives_all from to file
   pub refused : IsRefused weak file fault
   pub untouched : new ≡ old
 
--- memory was refused while the source was read, which has not failed and was not yet at its end, or once it had
--- given a file with a sound header; bytes from the front of what was left may be gone, and the sinks are as they were
+-- memory ran out while the source was read, which had not failed or reached its end, or after it
+-- gave a file with a sound header; bytes from the front of what was left may be lost, and the
+-- sinks are unchanged
 pub record IsOutOfMemory (gives_all : Bool) (from to : SourceState) (old new : Sinks) : Type 0 where
   pub front : List ℕ
   pub taken : Consumes from.left to.left front
   pub cause : IsUnfinished from to ⊎ (ReadsWhole gives_all from to front × (file_fault front ≡ None))
   pub untouched : new ≡ old
 
--- the source stopped before the end, and the sinks are as they were
+-- the source stopped before the end, and the sinks are unchanged
 pub record StopsReading (from to : SourceState) (old new : Sinks) : Type 0 where
   pub stops : ReadStops from to ReadFailed
   pub untouched : new ≡ old
 
--- the sink of the image took a front of what was to be written before it stopped, and that of the census nothing
+-- the sink of the image took a prefix of what was to be written before it stopped, and that of the
+-- census nothing
 pub record StopsAtImage (bytes : List ℕ) (old new : Sinks) : Type 0 where
   pub stops : WriteStops old.image new.image bytes WriteFailed
   pub untouched : new.census ≡ old.census
 
--- the sink of the image took all, and that of the census a front of its text before it stopped
+-- the sink of the image took everything, and that of the census a prefix of its text before it
+-- stopped
 pub record StopsAtCensus (weak : Weak) (memory : Memory) (marks : List Bool) (bytes : List ℕ) (old new : Sinks) : Type 0 where
   pub written : WritesWhole old.image new.image bytes
   pub text : List ℕ
   pub report : IsReport memory weak marks text
   pub stops : WriteStops old.census new.census text WriteFailed
 
--- the source gave a file that is accepted, and its compaction, or the census where one is asked for, was not wholly
--- written
+-- the source gave a file that is accepted, and its compaction, or the census if one is asked for,
+-- was not written completely
 pub record StopsWriting (gives_all : Bool) (weak : Weak) (census : Bool) (from to : SourceState) (old new : Sinks) : Type 0 where
   pub file : List ℕ
   pub read : ReadsWhole gives_all from to file
@@ -138,7 +141,7 @@ pub record StopsWriting (gives_all : Bool) (weak : Weak) (census : Bool) (from t
   pub stops : StopsAtImage (file_bytes (compacted image weak marks)) old new
       ⊎ ((census ≡ true) × StopsAtCensus weak image.memory marks (file_bytes (compacted image weak marks)) old new)
 
--- what was done where the run was refused, by the refusal: all others are the first that applies to the file
+-- what a failed run did, by its fault; every other fault is the first that applies to the file
 abbrev pub Refuses : Bool → Weak → Bool → SourceState → SourceState → Sinks → Sinks → Fault → Type 0
 Refuses gives_all weak census from to old new OutOfMemory = IsOutOfMemory gives_all from to old new
 Refuses gives_all weak census from to old new ReadFailed = StopsReading from to old new

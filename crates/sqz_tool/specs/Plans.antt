@@ -1,28 +1,28 @@
--- Which numbers a plan takes, and what the words of a command line ask for.
+-- Which numbers are valid in a plan, and what the words of a command line ask for.
 use Rattle.std.specs.Prelude.{◌≡◌, ℕ, ◌^◌, ◌≤◌, Bool, true, false, List, Option, Some, None, codes}
 use Rattle.std.specs.Str.Parse.{digits_value, without_leading_plus}
 use Rattle.clap.specs.Words.{Row, Text, one_of}
 use Rattle.sqz_trace.specs.declared.weak.Weak.{Weak}
 use Rattle.sqz_trace.specs.declared.weak.Weak.TheVariants.{Keep, Clear}
 
--- how many workers there may be
+-- the valid numbers of workers
 abbrev pub IsWorkers : ℕ → Type 0
 IsWorkers number = (1 ≤ number) × (number ≤ 64)
 
--- how many words a region may have
+-- the valid numbers of words of a region
 abbrev pub IsRegion : ℕ → Type 0
 IsRegion words = (1 ≤ words) × (words ≤ 2 ^ 30)
 
--- the number in a text of decimal digits, perhaps behind a plus
+-- the number in a text of decimal digits, perhaps after a plus sign
 abbrev pub number_in : Option Text → ℕ
 number_in (Some text) = digits_value 10 (without_leading_plus text)
 number_in None = 0
 
--- the words ask for workers and regions that there may be
+-- the words ask for a valid number of workers and a valid size of a region
 abbrev pub AsksForPlan : List Row → Type 0
 AsksForPlan rows = IsWorkers (number_in (one_of (codes "workers") rows)) × IsRegion (number_in (one_of (codes "region-words") rows))
 
--- what becomes of weak slots, where they are to be cleared and else
+-- the policy on weak slots, by whether they are to be cleared
 abbrev pub weak_of : Bool → Weak
 weak_of true = Clear
 weak_of false = Keep

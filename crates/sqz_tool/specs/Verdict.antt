@@ -1,4 +1,4 @@
--- Whether a file is accepted, and why it is refused.
+-- Whether a file is accepted, and why it is rejected.
 use Rattle.std.specs.Prelude.{◌≡◌, Bool, true, false, List, ℕ, Some, None, ◌⊎◌}
 use Rattle.sqz_image.specs.declared.fault.Fault.{Fault}
 use Rattle.sqz_image.specs.declared.fault.Fault.TheVariants.{NoNil}
@@ -8,15 +8,15 @@ use Rattle.sqz_trace.specs.declared.weak.Weak.{Weak}
 use Rattle.sqz_trace.specs.Reachability.{IsReachability}
 use Rattle.sqz_trace.specs.Defects.{first_defect, lacks_nil}
 
--- the file holds this image, which has the nil that weak slots want, its reachable objects are the marked ones, and none of them has
--- a defect
+-- the file holds this image, which has the nil that weak slots need, its reachable objects are the
+-- marked ones, and none of them has a defect
 pub record IsAccepted (weak : Weak) (file : List ℕ) (image : SavedImage) (marks : List Bool) : Type 0 where
   pub holds : Holds file image
   pub has_nil : lacks_nil image.memory weak ≡ false
   pub reachable : IsReachability image.memory weak marks
   pub sound : first_defect image.memory weak marks ≡ None
 
--- the file holds an image, in which there is no nil for weak slots
+-- the file holds an image that has no nil for weak slots
 pub record LacksNil (weak : Weak) (file : List ℕ) (fault : Fault) : Type 0 where
   pub image : SavedImage
   pub holds : Holds file image
@@ -32,6 +32,6 @@ pub record HasDefect (weak : Weak) (file : List ℕ) (fault : Fault) : Type 0 wh
   pub reachable : IsReachability image.memory weak marks
   pub defect : first_defect image.memory weak marks ≡ Some fault
 
--- the refusal of the file: the first that applies
+-- the fault with which the file is rejected: the first that applies
 abbrev pub IsRefused : Weak → List ℕ → Fault → Type 0
 IsRefused weak file fault = IsUnreadable file fault ⊎ LacksNil weak file fault ⊎ HasDefect weak file fault

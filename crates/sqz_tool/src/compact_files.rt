@@ -1,4 +1,4 @@
-//! A run from one file to another, and its census to a sink.
+//! A run from one file to another, with its census to a sink.
 
 ghost use Rattle.std.specs.Prelude.{◌≡◌, ◌≢◌, ◌⊎◌, ◌↔◌, false, IfOk, IfErr};
 ghost use Rattle.sqz_image.specs.declared.fault.Fault.TheVariants.{WriteFailed, BadWorkers, BadCut};
@@ -15,14 +15,14 @@ use std::alloc::Global;
 use std::rt::Files;
 use std::thread::Threads;
 
-/// Compacts the image in one file into another, by the plan that a command line asks for, with
-/// workers that pass a gate. Where it asks for a census, the text goes to `out`, which else takes
+/// Compacts the image in one file into another, by the plan that a command line asks for. The
+/// workers pass `gate`. If a census is asked for, its text goes to `out`; otherwise `out` takes
 /// nothing.
 ///
-/// Fails with `BadWorkers` or `BadCut` where there is no such plan, else as `run` does, with
-/// `ReadFailed` also where the image cannot be opened, and with `WriteFailed` also where the other
-/// file cannot be made. Unless it fails with `WriteFailed`, that file and `out` are then as they
-/// were.
+/// Fails with `BadWorkers` or `BadCut` if the plan is not valid. Otherwise fails as `run` does;
+/// also with `ReadFailed` if the image cannot be opened, and with `WriteFailed` if the output file
+/// cannot be created. After any failure but `WriteFailed`, the output file and `out` are
+/// unchanged.
 pub fn compact<'a, T: Files + Threads + Sync, C: Sink, G: Gate>(
     rt: &'a T,
     alloc: Global,

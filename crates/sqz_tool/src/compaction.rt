@@ -1,4 +1,4 @@
-//! What is written of an image: its live objects in their new places.
+//! What is written of an image: its live objects at their new addresses.
 
 ghost use Rattle.std.specs.Prelude.{◌≡◌, ◌⊎◌, ◌+◌, ◌*◌, ◌^◌, ◌<◌, ◌≤◌, true, false, length, sum};
 ghost use Rattle.std.specs.Prelude.{None, option_map, IfOk, IfErr};
@@ -27,21 +27,21 @@ use sqz_workers::{Gate, Marked, mark};
 use std::alloc::Global;
 use std::thread::Threads;
 
-/// The data of a compacted image, and what its header says of them.
+/// The data of a compacted image, and what its header states about them.
 #[derive(Drop)]
 pub(crate) struct Compaction {
     /// The new address of the special objects array.
     pub special: Address,
-    /// The words of the live objects, in their order.
+    /// The words of the live objects, in order.
     pub pieces: Pieces,
     pub summary: Summary,
     /// The text of the census, if the plan asks for one.
     pub census: Option<Vec<u8>>,
 }
 
-/// The compaction of an image. Fails with `NoNil` if weak slots are to be cleared and there is no
-/// nil, else with the defect of the lowest reachable object that has one; otherwise only by running
-/// out of memory.
+/// Returns the compaction of an image. Fails with `NoNil` if weak slots are to be cleared and
+/// there is no nil, else with the defect of the lowest reachable object that has one. Otherwise
+/// fails only if out of memory.
 pub(crate) fn compaction_of<T: Threads + Sync, G: Gate, O: StageObserver>(
     session: &mut Session<'_, T, G, O>,
     plan: &Plan,
@@ -64,8 +64,8 @@ pub(crate) fn compaction_of<T: Threads + Sync, G: Gate, O: StageObserver>(
     moved(session, plan, image, &regions, &marked)
 }
 
-/// What marking gives. Fails with the defect of the lowest reachable object that has one; otherwise
-/// only by running out of memory.
+/// Returns the result of marking. Fails with the defect of the lowest reachable object that has
+/// one. Otherwise fails only if out of memory.
 fn sound_marks<T: Threads + Sync, G: Gate, O: StageObserver>(
     session: &mut Session<'_, T, G, O>,
     plan: &Plan,
@@ -105,7 +105,7 @@ fn sound_marks<T: Threads + Sync, G: Gate, O: StageObserver>(
     Ok(marked)
 }
 
-/// The compaction of an image of which this is what marking gives. Fails only by running out of
+/// Returns the compaction of an image; `marked` is the result of marking it. Fails only if out of
 /// memory.
 fn moved<T: Threads + Sync, G: Gate, O: StageObserver>(
     session: &mut Session<'_, T, G, O>,
@@ -160,7 +160,7 @@ fn moved<T: Threads + Sync, G: Gate, O: StageObserver>(
     })
 }
 
-/// The places of the marked objects. Refused for want of memory alone.
+/// Returns the new addresses of the marked objects. Fails only if out of memory.
 fn places_of(
     rt: &(impl Threads + Sync),
     alloc: Global,
@@ -179,7 +179,7 @@ fn places_of(
     Forward::build(rt, alloc, heap, regions, &marked.marks, &bases)
 }
 
-/// The text of the census, if the plan asks for one. Fails only by running out of memory.
+/// Returns the text of the census, if the plan asks for one. Fails only if out of memory.
 fn census_text<T: Threads + Sync, G: Gate, O: StageObserver>(
     session: &mut Session<'_, T, G, O>,
     plan: &Plan,
@@ -204,7 +204,7 @@ fn census_text<T: Threads + Sync, G: Gate, O: StageObserver>(
     Ok(Some(text))
 }
 
-/// The sum of numbers.
+/// Returns the sum of the numbers.
 fn total(numbers: &[u32]) -> u32
     requires { sum numbers.now < 2 ^ 32 }
     ensures { result ≡ sum numbers.now }

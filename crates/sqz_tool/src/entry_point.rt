@@ -19,16 +19,16 @@ use std::alloc::Global;
 use std::rt::Files;
 use std::thread::Threads;
 
-/// Does all that the command line asks for, and answers what the program is to end with: 0 where
-/// the image was written, 1 where the image is at fault, 2 where the words are, 3 where a file
-/// could not be read or written, and 4 where memory was refused. The first word is the program's
-/// name; `out` and `err` stand for standard output and standard error.
+/// Does what the command line asks for, and returns the exit code: 0 if the image was written or
+/// the help was printed, 1 if the image is at fault, 2 if the command line is, 3 if a file could
+/// not be read or written, and 4 if out of memory. The first word is the program's name; `out` and
+/// `err` stand for standard output and standard error.
 ///
-/// The words are read first, then the number of workers is looked at and then that of a region's
-/// words, and then the image is read. A file is made, or emptied, only when the first bytes of the
-/// answer are there. The census is printed on `out` once the image is written. A fault is printed
-/// as one line on `err`, and the help on `out`. Where `err` fails, or `out` at the help, the answer
-/// is the same.
+/// The words are parsed first, then the number of workers and the size of a region are checked,
+/// and then the image is read. The output file is created, or truncated, only when the first bytes
+/// of the compacted image are there. The census is printed on `out` after the image is written. A
+/// fault is printed as one line on `err`, and the help on `out`. If `err` fails, or `out` while
+/// the help is printed, the exit code is the same.
 pub fn program<T: Files + Threads + Sync, C: Sink, E: Sink>(
     rt: &T,
     alloc: Global,
@@ -71,8 +71,7 @@ pub fn program<T: Files + Threads + Sync, C: Sink, E: Sink>(
     }
 }
 
-/// Prints the line of the fault that stopped a run, if one did, and answers what the program is to
-/// end with.
+/// Prints the line of the fault that stopped a run, if one did, and returns the exit code.
 fn finish<E: Sink>(outcome: Result<Summary, Fault>, err: &mut E) -> u8
     ensures exit { MatchResult outcome (λ _. result ≡ 0) (λ fault. result ≡ exit_of fault) }
     ensures line { IfErr outcome (λ fault. PrintsFault (E.state err.old) (E.state err.new) fault) }

@@ -1,4 +1,4 @@
-//! Laws about the definitions, each the contract of a function that does nothing.
+//! Laws of the definitions. Each is the contract of a function that does nothing.
 
 ghost use Rattle.std.specs.Prelude.{◌≡◌, ℕ, List, Bool};
 ghost use Rattle.sqz_image.specs.declared.fault.Fault.{Fault};
@@ -13,14 +13,15 @@ ghost use Rattle.sqz_tool.specs.FixedPoint.{IsFixedPoint};
 
 pub use sqz_compact_args::laws::worked_options;
 
-/// A file is accepted with one image and one set of live objects at most, so it has one compaction.
+/// A file is accepted with at most one image and one set of live objects, so it has at most one
+/// compaction.
 pub fn one_answer()
     ensures { (weak : Weak) (file : List ℕ) (one other : SavedImage) (marks flags : List Bool)
         → IsAccepted weak file one marks → IsAccepted weak file other flags → (one ≡ other)
         × (marks ≡ flags) }
 {}
 
-/// A file has one refusal at most, and none where it is accepted.
+/// A file is rejected with at most one fault, and with none if it is accepted.
 pub fn one_refusal()
     ensures one { (weak : Weak) (file : List ℕ) (one other : Fault) → IsRefused weak file one
         → IsRefused weak file other → one ≡ other }
@@ -29,15 +30,15 @@ pub fn one_refusal()
 {}
 
 /// The compaction of an accepted file holds exactly the compacted image, is accepted, and has no
-/// unreachable object; compacting it again gives the same bytes.
+/// unreachable objects. Compaction is idempotent: compacting it again gives the same bytes.
 pub fn compacts_once()
     ensures { (weak : Weak) (file : List ℕ) (image : SavedImage) (marks : List Bool) → AreBytes file
         → IsAccepted weak file image marks → IsFixedPoint weak (compacted image weak marks) }
 {}
 
 /// The bytes of a compaction hold exactly the compacted image. Its objects are the live objects of
-/// the image, in their order: each at its place (its new address), with its words after the move,
-/// and with the same edges.
+/// the image, in order: each at its place (its new address), with its words after the move, and
+/// with the same edges.
 pub fn keeps_objects()
     ensures held { (weak : Weak) (file : List ℕ) (image : SavedImage) (marks : List Bool)
         → AreBytes file

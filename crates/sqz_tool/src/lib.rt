@@ -1,4 +1,4 @@
-//! Compacts an image: reads it, finds its reachable objects, and writes them slid together; and the
+//! Compacts an image: reads it, finds its reachable objects, and writes them without gaps; and the
 //! program that does so with files.
 #![tactic(auto)]
 

@@ -1,4 +1,4 @@
-//! Who is told that a stage of a run has ended.
+//! An observer of the stages of a run.
 
 /// A stage of a run. They come in this order; a census is made only if the plan asks for one.
 #[derive(Clone, Copy, Debug, PartialEq, Eq)]
@@ -9,11 +9,11 @@ pub enum Stage {
     Index,
     /// The data are cut into regions.
     Cut,
-    /// The reachable objects are marked, and the live words of each region counted.
+    /// The reachable objects are marked, and the live words of each region are counted.
     Mark,
     /// The marked objects are searched for a defect.
     Check,
-    /// Each live object has its place.
+    /// Each live object has its new address.
     Place,
     /// The live objects are moved.
     Slide,
@@ -23,7 +23,7 @@ pub enum Stage {
     Write,
 }
 
-/// Is told that stages of a run have ended. A run does the same for every observer.
+/// Is called when a stage of a run has ended. A run does the same for every observer.
 pub trait StageObserver {
     /// A stage has ended.
     fn finished(&mut self, _stage: Stage) {}

@@ -1,4 +1,4 @@
-//! What a command line names, made ready for a run.
+//! What a command line refers to, opened for a run.
 
 ghost use Rattle.std.specs.Prelude.{◌≡◌, ◌⊎◌, true, IfOk, IfErr};
 ghost use Rattle.sqz_image.specs.declared.fault.Fault.TheVariants.{ReadFailed, BadWorkers, BadCut};
@@ -21,8 +21,8 @@ use std::io::Read;
 use std::rt::Files;
 use std::thread::Threads;
 
-/// The plan of a command line, the image that it names, and the file that is to be written. Nothing
-/// but `run` reads the one and writes the other.
+/// The plan of a command line, the image that it refers to, and the output file. Only `run` reads
+/// the image and writes the file.
 #[derive(Drop)]
 pub(crate) struct Opened<'a, T: Files> {
     plan: Plan,
@@ -31,11 +31,11 @@ pub(crate) struct Opened<'a, T: Files> {
 }
 
 impl<'a, T: Files> Opened<'a, T> {
-    /// Opens the image. Nothing is done yet to the file that is to be written.
+    /// Opens the image. Does nothing to the output file yet.
     ///
-    /// Refused with `BadWorkers` unless the workers are from 1 to 64, else with `BadCut` unless the
-    /// words of a region are from 1 to 2^30, else with `ReadFailed` where the image cannot be
-    /// opened.
+    /// Fails with `BadWorkers` unless the number of workers is from 1 to 64, else with `BadCut`
+    /// unless the words of a region are from 1 to 2^30, else with `ReadFailed` if the image cannot
+    /// be opened.
     pub(crate) fn of(rt: &'a T, arguments: &Arguments<'a>) -> Result<Self, Fault>
         ensures workers { IfOk result (λ opened. opened.plan.workers ≡ arguments.now.workers) }
         ensures cut { IfOk result (λ opened. opened.plan.cut ≡ Every arguments.now.region_words) }
@@ -67,8 +67,8 @@ impl<'a, T: Files> Opened<'a, T> {
 }
 
 impl<'a, T: Files + Threads + Sync> Opened<'a, T> {
-    /// A run by the plan, over all that the image's file has left, to the file that is to be
-    /// written, and with its census to `out`. Fails as the free function `run` does.
+    /// Runs the plan over all that the image's file has left, to the output file, with the census
+    /// to `out`. Fails as the free function `run` does.
     pub(crate) fn run<C: Sink, G: Gate>(
         &mut self,
         rt: &T,

@@ -11,23 +11,25 @@ use sqz_marks::Workers;
 use sqz_regions::Cut;
 use sqz_trace::Weak;
 
-/// How a run does its work, what becomes of weak slots, and whether it takes a census. The image
-/// that is written is the same for every plan with this policy on weak slots, and so is the census.
+/// How a run does its work: its workers and regions, the policy on weak slots, and whether it
+/// makes a census. The image that is written, and the census, depend only on the policy on weak
+/// slots.
 #[derive(Drop)]
 pub struct Plan {
-    /// How many workers share the work.
+    /// The workers that share the work.
     pub workers: Workers,
     /// Where the data words are cut into regions.
     pub cut: Cut,
-    /// What becomes of weak slots.
+    /// The policy on weak slots.
     pub weak: Weak,
-    /// Whether the census is wanted.
+    /// Whether a census is made.
     pub census: bool,
 }
 
 impl Plan {
-    /// The plan that a command line asks for. Refused with `BadWorkers` unless the workers are from
-    /// 1 to 64, else with `BadCut` unless the words of a region are from 1 to 2^30.
+    /// Returns the plan that a command line asks for. Fails with `BadWorkers` unless the number of
+    /// workers is from 1 to 64, else with `BadCut` unless the words of a region are from 1 to
+    /// 2^30.
     pub(crate) fn of(arguments: &Arguments<'_>) -> Result<Plan, Fault>
         ensures weak { IfOk result (λ plan. plan.weak ≡ weak_of arguments.now.clear_weak) }
         ensures census { IfOk result (λ plan. plan.census ≡ arguments.now.census) }

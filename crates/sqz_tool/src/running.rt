@@ -1,4 +1,5 @@
-//! A run: an image from a source, compacted, to a sink, and its census to another.
+//! A run: reads an image from a source, and writes its compaction to a sink and its census to
+//! another.
 
 ghost use Rattle.std.specs.Prelude.{◌≡◌, ◌⊎◌, ◌<◌, ◌^◌, length, IfOk, IfErr, IsSomeAnd, OnOk};
 ghost use Rattle.std.specs.Prelude.{MatchOption};
@@ -19,16 +20,17 @@ use std::alloc::Global;
 use std::thread::Threads;
 
 /// Reads all of the source, finds the objects of the image that are reachable from its special
-/// objects array, and writes the image with these alone, slid together in their order. Where the
-/// plan asks for a census, its text then goes to the sink `report`, which else takes nothing.
+/// objects array, and writes the image with only these, without gaps and in order. If the plan
+/// asks for a census, its text then goes to the sink `report`; otherwise `report` takes nothing.
 ///
-/// Refused with `OutOfMemory`, or with `ReadFailed` where the source failed or did not end; else
-/// exactly with the first fault that applies to the file: those of its header, then that of its
-/// first chunk that cannot be read, then `BadSpecialObjects`, then, where the plan clears weak
-/// slots, `NoNil`, then the defect of its lowest reachable object that has one. The sinks are then
-/// as they were. Refused with `WriteFailed` where one of them failed or took too little at a time:
-/// a front of the answer, perhaps all of it, then went out, and where it is all a front of the
-/// census.
+/// Fails with `OutOfMemory`, or with `ReadFailed` if the source fails or does not end. Otherwise
+/// fails exactly with the first fault that applies to the file: those of its header, then that of
+/// its first chunk that cannot be read, then `BadSpecialObjects`, then `NoNil` if the plan clears
+/// weak slots, then the defect of its lowest reachable object that has one. After these failures
+/// the sinks are unchanged.
+///
+/// Fails with `WriteFailed` if a sink fails or needs too many writes. The image's sink has then
+/// taken a prefix of the image; if that is all of it, `report` has taken a prefix of the census.
 pub fn run<T: Threads + Sync, R: Source, W: Sink, C: Sink, G: Gate>(
     rt: &T,
     alloc: Global,
@@ -57,7 +59,7 @@ pub fn run<T: Threads + Sync, R: Source, W: Sink, C: Sink, G: Gate>(
     run_observed(&mut session, plan, source, sink, report)
 }
 
-/// As `run`, and tells an observer of each stage when it has ended.
+/// As `run`, and calls an observer after each stage.
 pub fn run_observed<T: Threads + Sync, G: Gate, O: StageObserver, R: Source, W: Sink, C: Sink>(
     session: &mut Session<'_, T, G, O>,
     plan: &Plan,
@@ -85,8 +87,8 @@ pub fn run_observed<T: Threads + Sync, G: Gate, O: StageObserver, R: Source, W: 
     Ok(compaction.summary)
 }
 
-/// Writes the compaction of an image, and after it the text of its census, if there is one. Fails
-/// only with `WriteFailed`.
+/// Writes the compaction of an image, and then the text of its census, if there is one. Fails only
+/// with `WriteFailed`.
 fn write_compaction<W: Sink, C: Sink>(
     image: &Image,
     compaction: &Compaction,

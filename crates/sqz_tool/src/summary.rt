@@ -1,6 +1,6 @@
 //! What a run did, in numbers.
 
-/// How many objects were read and kept, and how many bytes the data had before and after.
+/// The number of objects read and kept, and the bytes of data before and after.
 #[derive(Clone, Copy, Debug, PartialEq, Eq)]
 pub struct Summary {
     /// Objects that were read.

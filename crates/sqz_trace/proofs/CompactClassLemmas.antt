@@ -27,7 +27,8 @@ module _ (memory : Memory) (weak : Weak) where
       λ class test. cond test (unless_above (length (fields chunk)) (fixed_by memory class)) (traced chunk) in
       ap (by_test one) not ∙ sym (ap (by_test other) not)
 
-  -- what the class word alone tells is all, but for a weak object whose class is that of its compact index
+  -- the class word gives all strong fields, except in a weak object whose class is that of its
+  -- compact index
   strong_by_word-strong : (chunk : List ℕ)
       → (chunk_kind chunk ≡ Short → is_weak weak chunk ≡ true → class_by memory weak chunk Short ≡ None)
       → strong_by_word memory weak chunk ≡ strong memory weak chunk

@@ -1,5 +1,5 @@
--- The edges of a copy: each strong slot of a copied object names the copy of what the object's slot names, so each edge of a copy is
--- that of an edge.
+-- The edges of a copy: each strong slot of a copied object points to the copy of the original
+-- slot's target, so the edges of the copy are those of the original.
 -- Serves `CorrespondenceLemmas` of `sqz_tool`.
 use Rattle.std.proofs.Common.{◌≡◌, ℕ, Bool, true, false, List, Option, Some, None, refl, sym, ap, ◌∙◌}
 use Rattle.std.specs.Prelude.{option_map}

@@ -1,6 +1,7 @@
--- The marked objects of one memory, copied to another: all copies are reachable, none has a defect, and nil is there.
+-- The marked objects of one memory, copied to another: all copies are reachable, none has a
+-- defect, and nil is among them.
 -- Serves `CopiedEdgeLemmas`; `CompactedLemmas`, `CopiedLemmas` and `SettledLemmas` of `sqz_slide`;
--- `CorrespondenceLemmas` and `SettledLemmas` of `sqz_tool`.
+-- `CorrespondenceLemmas` and `FixedPointLemmas` of `sqz_tool`.
 use Rattle.std.proofs.Common.{◌≡◌, ℕ, zero, suc, ◌<◌, ◌≤◌, Bool, true, false, ◌&&◌, cond, eqb, ltb, leb, List, [], ◌∷◌, map}
 use Rattle.std.proofs.Common.{length, slice_index, Option, Some, None, refl, sym, ap, subst, ◌∙◌, arith, inl, inr}
 use Rattle.std.specs.Prelude.{replicate, is_none, option_map, option_and_then}
@@ -199,7 +200,7 @@ module _ (memory copy : Memory) (weak : Weak) (marks : List Bool) (new : ℕ →
       by_found None e = (is.unnamed i slot m e).0
       by_found (Some t) e = is.named i t slot m e (marked t e)
 
-  -- the same of the class word and the first fields, so many of those that are traced
+  -- the same of the class word and the first `count` fields, all of them traced
   named_among-copy : (i count : ℕ) (slot : Slot) → IsMarked i → count ≤ traced (words i)
       → AreMarked (named_among memory count (words i) slot)
       → named_among copy count (copied i) slot ≡ option_map new (named_among memory count (words i) slot)

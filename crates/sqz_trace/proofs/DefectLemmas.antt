@@ -33,7 +33,7 @@ module _ (memory : Memory) (chunk : List ℕ) where
       let all : traced chunk - 0 ≡ traced chunk = omega arith in
       ap (λ (count : ℕ). first_bad memory chunk (field_slots 0 count)) all
 
-  -- behind the last field there is none
+  -- after the last field there is none
   pub bad_from-end : (index : ℕ) → traced chunk ≤ index → bad_from index ≡ None
   unfolding bad_from
   bad_from-end index le =

@@ -1,4 +1,4 @@
--- How much is left to do where marking is brought to its end.
+-- How much is left to mark while a marking is finished.
 -- Serves `finishing::finish`.
 use Rattle.std.proofs.Common.{◌≡◌, ℕ, zero, suc, ◌+◌, ◌-◌, ◌*◌, ◌<◌, List, [], ◌∷◌, length, refl, sym, ap, ◌∙◌, arith, inl, inr}
 use Rattle.std.proofs.Math.Nat.{add-mul}

@@ -1,6 +1,6 @@
--- Shades that change as an object is looked at.
--- Serves `finishing::blacken`, `finishing::grey_target`, `greying::grey_white_target`, `turns::blacken_listed` and
--- `TurnLemmas`.
+-- Shades that change while an object is scanned.
+-- Serves `finishing::blacken`, `finishing::grey_target`, `greying::grey_white_target`,
+-- `turns::blacken_listed` and `TurnLemmas`.
 use Rattle.std.proofs.Common.{◌≡◌, ◌⊎◌, ℕ, ◌<◌, true, List, [], ◌∷◌, ◌++◌, length, set, min, Some}
 use Rattle.std.proofs.Common.{refl, sym, ap, subst, ◌∙◌, arith, inl, inr}
 use Rattle.std.proofs.lemmas.Bool.{cases_order, cases_lt}

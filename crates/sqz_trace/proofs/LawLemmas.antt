@@ -1,6 +1,8 @@
--- The law of shades: it holds at first, it is kept, and where no object is grey it shows that marking is done.
--- Serves `finishing::finish` and `shades::first_shades`; `laws::core`, `EventLemmas` and `RunLemmas` of `sqz_marks`;
--- `marking::Marking::turn` and `RestLemmas` of `sqz_workers`.
+-- The law of shades: it holds at first, each step keeps it, and if no object is grey, it shows
+-- that marking is complete.
+-- Serves `finishing::finish` and `shades::first_shades`; `laws::core`, `EventLemmas` and
+-- `RunLemmas` of `sqz_marks`; `locked_marking::LockedMarking::turn` and `RemainingLemmas` of
+-- `sqz_workers`.
 use Rattle.std.proofs.Common.{◌≡◌, ◌≢◌, ℕ, zero, suc, ◌<◌, ◌≤◌, Bool, true, false, List, [], ◌∷◌, length, set}
 use Rattle.std.proofs.Common.{refl, sym, ap, subst, ◌∙◌, arith, inl, inr}
 use Rattle.std.specs.Prelude.{replicate}
@@ -17,7 +19,7 @@ use Rattle.sqz_trace.proofs.ShadeLemmas.{white-grey, white-black, grey-black, ma
 use Rattle.sqz_trace.proofs.MarkingLemmas.{IsMarking, IsMarking-start}
 
 module _ (graph : Graph) where
-  -- it holds where the start alone is grey, and all else white
+  -- it holds if the start is grey, and every other object white
   pub AreLawful-first : graph.start < graph.count → AreLawful graph (set (replicate graph.count White) graph.start Grey)
   AreLawful-first inside =
       let marking = subst (λ (marks : List Bool). IsMarking graph marks (graph.start ∷ [])) (sym first) (IsMarking-start graph inside) in

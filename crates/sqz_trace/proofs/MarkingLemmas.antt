@@ -1,6 +1,7 @@
--- Marking with a worklist: what holds between two steps of it, and what that shows at its end.
--- Serves `finishing::finish`, `marking::mark_target`, `marking::mark_targets`, `marking::mark_plain` and `LawLemmas`;
--- `table::MarkTable::close` of `sqz_marks`; `marking::Marking::turn` and `stealing::mark` of `sqz_workers`.
+-- Marking with a worklist: what holds between two of its steps, and what that shows at the end.
+-- Serves `finishing::finish`, `marking::mark_plain`, `marking::mark_target`,
+-- `marking::mark_targets` and `LawLemmas`; `table::MarkTable::close` of `sqz_marks`;
+-- `locked_marking::LockedMarking::turn` of `sqz_workers`.
 use Rattle.std.proofs.Common.{◌≡◌, ℕ, zero, suc, ◌+◌, ◌<◌, ◌⊎◌, Bool, true, false, List, [], ◌∷◌, ◌++◌, length, set}
 use Rattle.std.proofs.Common.{Some, take, drop, refl, sym, ap, subst, ◌∙◌, arith, inl, inr}
 use Rattle.std.specs.Prelude.{replicate, Contains}
@@ -182,7 +183,7 @@ pub record IsMarking (graph : Graph) (marks : List Bool) (worklist : List ℕ) :
       → Contains worklist index ⊎ ((next : ℕ) → graph.Edge index next → is_marked marks next ≡ true)
 
 module _ (graph : Graph) (lt : graph.start < graph.count) where
-  -- the start alone is marked
+  -- only the start is marked
   abbrev first_marks : List Bool
   first_marks = set (replicate graph.count false) graph.start true
 
@@ -197,7 +198,7 @@ module _ (graph : Graph) (lt : graph.start < graph.count) where
         | inr before ↦ absurd (none_marked graph.count index before)
       ]
 
-  -- at first the start alone is marked, and on the worklist
+  -- at first only the start is marked, and on the worklist
   pub IsMarking-start : IsMarking graph first_marks (graph.start ∷ [])
   IsMarking-start =
       record {

@@ -1,7 +1,8 @@
--- Marks that have the start of a graph, that go along each edge, and of which each has a path, are the reachable ones.
--- Serves `CopyLemmas`, `LawLemmas` and `MarkingLemmas`; `EventLemmas` of `sqz_marks`; `RestLemmas` of `sqz_workers`;
--- `CopiedLemmas` of `sqz_slide`; `GroupLemmas` of `sqz_census`; `Uniqueness` of `sqz_tool`; `TracingTest` of
--- `sqz_examples`.
+-- Marks that include the start of a graph, are closed under its edges, and have a path to each
+-- marked object, are the reachable objects.
+-- Serves `CopyLemmas`, `LawLemmas` and `MarkingLemmas`; `EventLemmas` of `sqz_marks`;
+-- `RemainingLemmas` of `sqz_workers`; `CopiedLemmas` of `sqz_slide`; `GroupLemmas` of
+-- `sqz_census`; `Uniqueness` of `sqz_tool`; `TracingTest` of `sqz_examples`.
 use Rattle.std.proofs.Common.{◌≡◌, ℕ, Bool, true, false, List, [], ◌∷◌, ◌++◌, length, refl, sym, subst, ◌∙◌}
 use Rattle.std.proofs.lemmas.List.{ext_get_or}
 use Rattle.std.proofs.lemmas.Option.{same_Some}

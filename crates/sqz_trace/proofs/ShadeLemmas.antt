@@ -1,7 +1,7 @@
--- Shades and the marks that they are.
--- Serves `finishing::finish`, `marking::mark_named`, `marking::mark_plain`, `GreyingLemmas`, `LawLemmas` and
--- `TurnLemmas`; `EventLemmas`, `KeptLemmas`, `RunLemmas`, `StepLemmas` and `WonLemmas` of `sqz_marks`;
--- `rest::mark_from` and `RestLemmas` of `sqz_workers`.
+-- Shades and the marks that they stand for.
+-- Serves `finishing::finish`, `marking::mark_plain`, `marking::mark_target`, `GreyingLemmas`,
+-- `LawLemmas` and `TurnLemmas`; `EventLemmas`, `KeptLemmas`, `RunLemmas`, `StepLemmas` and
+-- `WonLemmas` of `sqz_marks`; `scanning::scan_if_grey` and `RemainingLemmas` of `sqz_workers`.
 use Rattle.std.proofs.Common.{◌≡◌, ◌⊎◌, ℕ, zero, suc, List, true, false, [], ◌∷◌, length, refl, sym, ap, ◌∙◌, inl, inr}
 use Rattle.std.specs.Prelude.{replicate}
 use Rattle.std.proofs.lemmas.List.{length-map}
@@ -10,7 +10,7 @@ use Rattle.sqz_trace.specs.declared.shades.Shade.TheVariants.{White, Grey, Black
 use Rattle.sqz_trace.specs.Graph.{is_marked}
 use Rattle.sqz_trace.specs.Shades.{shade_at, has_mark, marks_of}
 
--- the mark of an object is told by its shade
+-- the mark of an object is that of its shade
 pub is_marked-shade : (shades : List Shade) (index : ℕ) → is_marked (marks_of shades) index ≡ has_mark (shade_at shades index)
 is_marked-shade [] index = refl
 is_marked-shade (shade ∷ shades) zero = refl

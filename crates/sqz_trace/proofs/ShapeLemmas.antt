@@ -1,4 +1,5 @@
--- The shape of an object: what its headers say, how many fields it has, and which of them hold which integers.
+-- The shape of an object: what its headers say, how many fields it has, and which of them hold
+-- which SmallIntegers.
 -- Serves `CopyLemmas`; `CopiedLemmas` and `MovedShapeLemmas` of `sqz_slide`.
 use Rattle.std.proofs.Common.{◌≡◌, ◌⊎◌, ℕ, ◌+◌, ◌%◌, Bool, true, false, ◌&&◌, cond, eqb}
 use Rattle.std.proofs.Common.{List, [], ◌∷◌, length, slice_index}

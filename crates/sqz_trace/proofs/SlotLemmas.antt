@@ -1,5 +1,5 @@
 -- The slots of an object: how many of its fields they are, and one after another.
--- Serves `defects::bad_field`, `DefectLemmas` and `StrongLemmas`; `MovedShapeLemmas` of `sqz_slide`.
+-- Serves `DefectLemmas`, `StrongLemmas` and `TargetLemmas`; `MovedShapeLemmas` of `sqz_slide`.
 use Rattle.std.proofs.Common.{◌≡◌, ℕ, suc, ◌+◌, ◌-◌, ◌<◌, ◌≤◌, Bool, cond, List, ◌∷◌}
 use Rattle.std.proofs.Common.{length, slice_index, Option, Some, None, ap, ◌∙◌, arith}
 use Rattle.std.proofs.lemmas.Bool.{lt-ltb}

@@ -1,4 +1,4 @@
--- An object without a defect: what that says of its parts, and of all marked objects.
+-- An object without a defect: what that says about its parts, and about all marked objects.
 -- Serves `CopyLemmas`; `CopiedLemmas` of `sqz_slide`.
 use Rattle.std.proofs.Common.{◌≡◌, ℕ, zero, suc, ◌+◌, ◌<◌, ◌≤◌, Bool, true, false, cond, List, [], ◌∷◌, ◌++◌, map, length}
 use Rattle.std.proofs.Common.{Option, Some, None, refl, ap, subst, arith, inl, inr}
@@ -92,7 +92,7 @@ module _ (memory : Memory) (chunk : List ℕ) where
 
 -- ---- an object
 
--- where four tests and what is behind them find no fault, each does not
+-- if four tests and those after them find no fault, each of them finds none
 no_fault-parts : (one two three four : Bool) (f g h i : Fault) (rest : Option Fault)
     → cond one (Some f) (cond two (Some g) (cond three (Some h) (cond four (Some i) rest))) ≡ None
     → (one ≡ false) × (two ≡ false) × (three ≡ false) × (four ≡ false) × (rest ≡ None)

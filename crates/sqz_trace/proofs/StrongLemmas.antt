@@ -1,5 +1,6 @@
--- The strong fields of an object, by its class word alone and by its class.
--- Serves `classes::compact_class`, `CopyLemmas` and `CompactClassLemmas`; `MovedLemmas` and `MovedShapeLemmas` of `sqz_slide`; `GroupLemmas` of `sqz_census`.
+-- The strong fields of an object, by its class word only and by its class.
+-- Serves `classes::compact_class`, `CopyLemmas` and `CompactClassLemmas`; `MovedLemmas` and
+-- `MovedShapeLemmas` of `sqz_slide`; `GroupLemmas` of `sqz_census`.
 use Rattle.std.proofs.Common.{◌≡◌, ℕ, suc, ◌≤◌, Bool, true, false, cond, List, length, Option, Some, None, refl, ap, subst}
 use Rattle.std.proofs.Common.{sym, ◌∙◌, arith, inl, inr}
 use Rattle.std.proofs.lemmas.Bool.{cases_lt, lt-ltb, le-ltb}
@@ -36,7 +37,7 @@ module _ (memory : Memory) (weak : Weak) where
       by_test true other = omega arith
       by_test false other = omega arith
 
-  -- a field that is strong by the class word alone is strong
+  -- a field that is strong by the class word is strong
   strong_by_word-le : (chunk : List ℕ) → strong_by_word memory weak chunk ≤ strong memory weak chunk
   strong_by_word-le chunk = by_kind (chunk_kind chunk) refl
     where

@@ -1,7 +1,9 @@
 -- The slots of an object, one after the other, and the objects that they point to.
--- Serves `edge_slots::StrongSlots::next`, `marking::mark_targets`, `GreyingLemmas` and `StrongLemmas`; `CallLemmas` of
--- `sqz_marks`; `search::Search::follow` and `slots_between::slot_between` of `sqz_paths`; `claiming::mark_slots` of
--- `sqz_workers`; `targets::mark_targets` of `sqz_test_marks`.
+-- Serves `edge_slots::StrongSlots::next`, `finishing::blacken`, `turns::blacken_listed`,
+-- `GreyingLemmas`, `MarkingLemmas` and `StrongLemmas`; `path::path_back`,
+-- `search::Search::find_target`, `::follow` and `slots_between::slot_between` of `sqz_paths`;
+-- `CallLemmas` of `sqz_marks`; `scanning::scan_object` and `GainLemmas` of `sqz_workers`;
+-- `targets::mark_targets` and `InOrderLemmas` of `sqz_test_marks`.
 use Rattle.std.proofs.Common.{◌≡◌, ◌⊎◌, ℕ, zero, suc, ◌+◌, ◌-◌, ◌<◌, ◌≤◌, cond, List, [], ◌∷◌, ◌++◌}
 use Rattle.std.proofs.Common.{slice_index, ltb, Option, Some, None, refl, sym, ap, subst, ◌∙◌, arith, inl, inr}
 use Rattle.std.specs.Prelude.{option_and_then, Contains}
@@ -60,7 +62,7 @@ slots_from-class_word strong =
     let all : strong ≡ strong - 0 = omega arith in
     ap (λ (count : ℕ). ClassWord ∷ field_slots 0 count) all
 
--- so many slots of fields have each of these fields
+-- the slots of `count` fields have each of these fields
 field_slots-has : (first count k : ℕ) → k < count → Contains (field_slots first count) (Field (first + k))
 field_slots-has first zero k lt = absurd (omega arith)
 field_slots-has first (suc count) zero lt =

@@ -13,15 +13,16 @@ abbrev pub array_by_targets : Memory → Weak → Option ℕ
 array_by_targets memory weak =
     option_and_then (λ special. strong_target memory weak special (Field 28)) (find memory memory.special)
 
--- the class with a compact index: the target of field `index - 1` of the array of compact classes; index 0
--- stands for no class
+-- the class with a compact index: the target of field `index - 1` of the array of compact classes;
+-- index 0 stands for no class
 abbrev pub class_by_targets : Memory → Weak → ℕ → Option ℕ
 class_by_targets memory weak zero = None
 class_by_targets memory weak (suc field) =
     option_and_then (λ array. strong_target memory weak array (Field field)) (array_by_targets memory weak)
 
--- the look-up of a compact index needs its own result: one of the two arrays is a weak object with a header
--- of one word, so only the class that its own compact index stands for tells which of its fields are strong
+-- the lookup of a compact index would need its own result: one of the two arrays is a weak object
+-- with a header of one word, so only the class that its own compact index stands for says which of
+-- its fields are strong
 pub record IsCircular (memory : Memory) (weak : Weak) : Type 0 where
   pub array : ℕ
   pub is_one : (find memory memory.special ≡ Some array) ⊎ (array_by_targets memory weak ≡ Some array)

@@ -1,4 +1,4 @@
--- What is wrong with an object, or with an object memory: the refusals 11 to 14, 20 and 21.
+-- What is wrong with an object or with an object memory: faults 11 to 14, 20 and 21.
 use Rattle.std.specs.Prelude.{ℕ, ◌==◌, ◌&&◌, nat_lt, Bool, true, false, if◌then◌else◌, List, [], ◌∷◌, length, map}
 use Rattle.std.specs.Prelude.{slice_index, Option, Some, None, is_none}
 use Rattle.sqz_object.specs.declared.value.Value.{Value}
@@ -19,16 +19,16 @@ use Rattle.sqz_trace.specs.Strong.{is_weak, fixed_by, class_of}
 use Rattle.sqz_trace.specs.Edges.{nil}
 use Rattle.sqz_trace.specs.Live.{live}
 
--- a header of one word with compact index 0 names no class
+-- a header of one word with compact index 0 has no class
 abbrev pub lacks_class : List ℕ → Bool
 lacks_class chunk = header_type (slice_index chunk 0) == 3 && compact_index chunk == 0
 
--- an object is bad for which no number of fields is stated, or more than it has
+-- an object is bad if no number of fields is stated, or more than it has
 abbrev pub states_too_many : Option ℕ → ℕ → Bool
 states_too_many None count = true
 states_too_many (Some stated) count = nat_lt count stated
 
--- these fields of an object with a layout are those of a bad method
+-- whether an object with this layout and these fields is a bad method
 abbrev pub is_bad_method_in : Layout → List ℕ → Bool
 is_bad_method_in Method fields = states_too_many (method_fields fields) (length fields)
 is_bad_method_in _ fields = false
@@ -36,7 +36,7 @@ is_bad_method_in _ fields = false
 abbrev pub is_bad_method : List ℕ → Bool
 is_bad_method chunk = is_bad_method_in (layout chunk) (fields chunk)
 
--- these fields of an object with a layout are those of a bad context
+-- whether an object with this layout and these fields is a bad context
 abbrev pub is_bad_context_in : Layout → List ℕ → Bool
 is_bad_context_in Context fields = states_too_many (context_fields fields) (length fields)
 is_bad_context_in _ fields = false
@@ -44,12 +44,12 @@ is_bad_context_in _ fields = false
 abbrev pub is_bad_context : List ℕ → Bool
 is_bad_context chunk = is_bad_context_in (layout chunk) (fields chunk)
 
--- by its class
+-- a weak object is bad if its class states no number of fixed fields, or more than the object has
 abbrev pub is_bad_weak : Memory → Weak → List ℕ → Bool
 is_bad_weak memory weak chunk =
     is_weak weak chunk && states_too_many (fixed_by memory (class_of memory weak chunk)) (length (fields chunk))
 
--- a value that is no integer and names no object
+-- a value that is neither a SmallInteger nor the address of an object
 abbrev pub is_bad_value : Memory → Value → Bool
 is_bad_value memory (Int number) = false
 is_bad_value memory (Pointer address) = is_none (find memory address)
@@ -74,7 +74,7 @@ abbrev pub bad_pointer : ℕ → Option Slot → Option Fault
 bad_pointer address None = None
 bad_pointer address (Some slot) = Some (BadPointer address slot)
 
--- the first thing that is wrong with an object
+-- the first defect of an object
 abbrev pub defect : Memory → Weak → Object → Option Fault
 defect memory weak object =
     let address = address_in memory.base object in
@@ -93,7 +93,7 @@ first_some ((Some x) ∷ others) = Some x
 abbrev pub first_defect : Memory → Weak → List Bool → Option Fault
 first_defect memory weak marks = first_some (map (defect memory weak) (live memory marks))
 
--- where weak slots are cleared, an object memory has to have a nil that they can name
+-- whether weak slots are cleared and there is no nil that they could point to
 abbrev pub lacks_nil : Memory → Weak → Bool
 lacks_nil memory Keep = false
 lacks_nil memory Clear = is_none (nil memory Clear)

@@ -1,4 +1,4 @@
--- What leads from one object to another: its strong slots.
+-- The edges from one object to others: its strong slots.
 use Rattle.std.specs.Prelude.{◌≡◌, ℕ, ◌-◌, ◌<◌, List, ◌∷◌, Contains, Option, Some, option_and_then}
 use Rattle.sqz_image.specs.declared.slot.Slot.{Slot}
 use Rattle.sqz_image.specs.declared.slot.Slot.TheVariants.{ClassWord, Field}
@@ -8,7 +8,8 @@ use Rattle.sqz_trace.specs.Slots.{field_slots}
 use Rattle.sqz_trace.specs.Strong.{strong, strong_by_word}
 use Rattle.sqz_trace.specs.Targets.{named_among}
 
--- the outgoing edges of an object: the memory, the words of the object, and how many of its fields are strong
+-- the outgoing edges of an object: the memory, the words of the object, and the number of its
+-- strong fields
 pub record OutEdges : Type 0 where
   pub memory : Memory
   pub words : List ℕ
@@ -21,7 +22,7 @@ out_edges memory weak index = record {
   strong = strong memory weak (chunk_words memory index);
 }
 
--- the same if the class of the object is what its class word points to
+-- the outgoing edges, taking as the object's class what its class word points to
 abbrev pub edges_by_word : Memory → Weak → ℕ → OutEdges
 edges_by_word memory weak index = record {
   memory = memory;
@@ -29,12 +30,13 @@ edges_by_word memory weak index = record {
   strong = strong_by_word memory weak (chunk_words memory index);
 }
 
--- the slots from this one on: the class word comes first, and then the strong fields in their order
+-- the slots from this one on: the class word comes first, and then the strong fields in order
 abbrev pub slots_from : Slot → ℕ → List Slot
 slots_from ClassWord strong = ClassWord ∷ field_slots 0 strong
 slots_from (Field index) strong = field_slots index (strong - index)
 
--- the strong slots of an object. The class word is one of them even if the header has none: then it points to no object
+-- the strong slots of an object. The class word is one of them even if the header has none: then
+-- it points to no object
 abbrev pub strong_slots : OutEdges → List Slot
 strong_slots edges = slots_from ClassWord edges.strong
 
@@ -42,7 +44,7 @@ strong_slots edges = slots_from ClassWord edges.strong
 abbrev pub edge_target : OutEdges → Slot → Option ℕ
 edge_target edges slot = named_among edges.memory edges.strong edges.words slot
 
--- the same for the object with an index
+-- the object that a strong slot of the object with this index points to
 abbrev pub strong_target : Memory → Weak → ℕ → Slot → Option ℕ
 strong_target memory weak index slot = edge_target (out_edges memory weak index) slot
 
@@ -52,7 +54,7 @@ pub record IsTargetAmong (edges : OutEdges) (slots : List Slot) (index : ℕ) : 
   pub listed : Contains slots slot
   pub names : edge_target edges slot ≡ Some index
 
--- some strong slot of the one object points to the other
+-- a strong slot of object `from` points to object `to`
 pub record HasEdge (memory : Memory) (weak : Weak) (from to : ℕ) : Type 0 where
   pub inside : from < object_count memory
   pub slot : Slot

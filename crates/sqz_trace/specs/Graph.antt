@@ -1,23 +1,25 @@
--- What can be reached in a graph: paths along its edges, and marks on what they lead to.
+-- Reachability in a graph: paths along its edges, and marks on the objects that they lead to.
 use Rattle.std.specs.Prelude.{◌≡◌, ℕ, Bool, true, false, List, [], ◌∷◌, length, slice_index_or}
 
--- numbered objects, so many of them, with an edge from some to others, and the one at which all paths start
+-- a graph of `count` numbered objects, with edges between some of them, and the object at which
+-- all paths start
 pub record Graph : Type 1 where
   pub count : ℕ
   pub start : ℕ
   pub Edge : ℕ → ℕ → Type 0
 
--- the objects of a path behind its first one: each has an edge from the one before, and the last is the goal
+-- the objects of a path after its first one: each has an edge from the one before, and the last is
+-- the goal
 abbrev pub Leads : Graph → ℕ → List ℕ → ℕ → Type 0
 Leads graph from [] goal = from ≡ goal
 Leads graph from (next ∷ path) goal = graph.Edge from next × Leads graph next path goal
 
--- some path from the start leads there
+-- a path from the start leads there
 pub record IsReachable (graph : Graph) (index : ℕ) : Type 0 where
   pub path : List ℕ
   pub leads : Leads graph graph.start path index
 
--- a mark for each object
+-- whether an object is marked, by one mark per object
 abbrev pub is_marked : List Bool → ℕ → Bool
 is_marked marks index = slice_index_or marks index false
 

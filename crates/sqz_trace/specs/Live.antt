@@ -1,4 +1,5 @@
--- The marked ones of a list, in their order. With marks that are reachability: the live objects.
+-- The marked elements of a list, in order. With the marks of the reachable objects: the live
+-- objects.
 use Rattle.std.specs.Prelude.{Bool, true, false, List, [], ◌∷◌}
 use Rattle.sqz_image.specs.Objects.{Memory, Object, objects}
 

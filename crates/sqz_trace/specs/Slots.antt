@@ -1,4 +1,4 @@
--- The slots of an object: the words of it that may name other objects.
+-- The slots of an object: its words that may point to other objects.
 use Rattle.std.specs.Prelude.{ℕ, zero, suc, ◌+◌, ◌-◌, ◌/◌, ◌%◌, ◌^◌, nat_lt, min, ℤ, pos, negsuc}
 use Rattle.std.specs.Prelude.{◌==◌, if◌then◌else◌, List, [], ◌∷◌, ◌++◌, length, slice_index}
 use Rattle.std.specs.Prelude.{Option, Some, None, option_map}
@@ -14,38 +14,38 @@ use Rattle.sqz_object.specs.Layout.{layout}
 use Rattle.sqz_image.specs.declared.slot.Slot.{Slot}
 use Rattle.sqz_image.specs.declared.slot.Slot.TheVariants.{ClassWord, Field}
 
--- the stack pointer that a word states: the value of an integer, and 0 for any other word
+-- the stack pointer that a word states: the value of a SmallInteger, and 0 for any other word
 abbrev pub stack_pointer : Value → ℤ
 stack_pointer (Int number) = number
 stack_pointer (Pointer word) = pos 0
 stack_pointer (Odd word) = pos 0
 
--- how many fields stand before the one above the stack's top: six fixed ones and the stack; none
--- where the stack pointer is negative
+-- the number of fields up to the top of the stack: six fixed ones and the stack; None if the stack
+-- pointer is negative
 abbrev pub fields_to_top : ℤ → Option ℕ
 fields_to_top (pos top) = Some (6 + top)
 fields_to_top (negsuc below) = None
 
--- the traced fields that a context states, by its fields; None where it states no number of them
+-- the number of traced fields that a context states, by its fields; None if it states no number
 abbrev pub context_fields : List ℕ → Option ℕ
 context_fields (_ ∷ _ ∷ top ∷ _) = fields_to_top (stack_pointer (value_of top))
 context_fields _ = None
 
--- field 0 of a method is an integer whose word has the number of literals in its bits 10 to 17
+-- field 0 of a method is a SmallInteger whose word has the number of literals in its bits 10 to 17
 abbrev pub literals_of : ℕ → Option ℕ
 literals_of header = if header % 2 == 1 then Some (header / 2 ^ 10 % 2 ^ 8) else None
 
--- the traced fields that a method states, by its fields: the header and the literals
+-- the number of traced fields that a method states, by its fields: the header and the literals
 abbrev pub method_fields : List ℕ → Option ℕ
 method_fields [] = None
 method_fields (header ∷ _) = option_map (λ count. 1 + count) (literals_of header)
 
--- a stated number, but no more than there are; none where no number is stated
+-- the stated number, but no more than there are; 0 if no number is stated
 abbrev pub clip : Option ℕ → ℕ → ℕ
 clip None count = 0
 clip (Some stated) count = min count stated
 
--- how many of these fields of an object with a layout are traced, from field 0 on
+-- the number of these fields that are traced in an object with this layout, from field 0 on
 abbrev pub traced_of : Layout → List ℕ → ℕ
 traced_of Fields fields = length fields
 traced_of Weak fields = length fields
@@ -54,7 +54,7 @@ traced_of Words fields = 0
 traced_of (Bytes unused) fields = 0
 traced_of Method fields = clip (method_fields fields) (length fields)
 
--- how many fields of an object are traced, from field 0 on
+-- the number of traced fields of an object, from field 0 on
 abbrev pub traced : List ℕ → ℕ
 traced chunk = traced_of (layout chunk) (fields chunk)
 
@@ -69,8 +69,8 @@ class_word Two chunk = Some (slice_index chunk 0)
 class_word Free chunk = None
 class_word Short chunk = None
 
--- the word that a slot holds, among the class word of an object and its first fields, so many of them; of the class word
--- it is the address in it. None where there is no such slot
+-- the word that a slot holds, among the class word of an object and its first `count` fields; for
+-- the class word it is the address in it. None if there is no such slot
 abbrev pub word_among : ℕ → List ℕ → Slot → Option ℕ
 word_among count chunk ClassWord = option_map class_address (class_word (chunk_kind chunk) chunk)
 word_among count chunk (Field index) =
@@ -87,7 +87,7 @@ class_slots Two = ClassWord ∷ []
 class_slots Free = []
 class_slots Short = []
 
--- the slots of so many fields, the first of them with this index
+-- the slots of `count` fields, from field `index` on
 abbrev pub field_slots : ℕ → ℕ → List Slot
 field_slots index zero = []
 field_slots index (suc count) = Field index ∷ field_slots (suc index) count

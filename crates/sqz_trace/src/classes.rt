@@ -17,8 +17,8 @@ use sqz_object::{Kind, ObjectIndex, base_of};
 /// The field of the special objects array that points to the array of compact classes.
 const COMPACT_CLASSES: u32 = 28;
 
-/// The class of the object: what its class word points to, or else the class with its compact
-/// index. None if that is no object.
+/// Returns the class of the object: the object that its class word points to, or else the class
+/// with its compact index. None if there is no such object.
 pub fn class_of(heap: &Heap, weak: Weak, object: &Object<'_>) -> Option<ObjectIndex>
     ensures class { result ≡ class_of heap.now weak object.now }
     ensures inside { IfSome result (λ class. class < object_count heap.now) }
@@ -31,8 +31,9 @@ pub fn class_of(heap: &Heap, weak: Weak, object: &Object<'_>) -> Option<ObjectIn
     }
 }
 
-/// The class with a compact index: a strong field of the array of compact classes points to it, and
-/// a strong field of the special objects array to that array.
+/// Returns the class with a compact index: the object that strong field `index - 1` of the array
+/// of compact classes points to. The array is found along a strong field of the special objects
+/// array. None if there is no such object, and for index 0.
 pub fn compact_class(heap: &Heap, weak: Weak, index: u32) -> Option<ObjectIndex>
     ensures class { result ≡ compact_class heap.now weak index }
     ensures inside { IfSome result (λ class. class < object_count heap.now) }
@@ -41,7 +42,7 @@ pub fn compact_class(heap: &Heap, weak: Weak, index: u32) -> Option<ObjectIndex>
     OutEdges::by_class_word(heap, weak, compact_classes(heap, weak)?).target(Slot::Field(field))
 }
 
-/// The array of compact classes.
+/// Returns the array of compact classes, if there is one.
 fn compact_classes(heap: &Heap, weak: Weak) -> Option<ObjectIndex>
     ensures array { result ≡ compact_classes heap.now weak }
     ensures inside { IfSome result (λ array. array < object_count heap.now) }
@@ -49,7 +50,8 @@ fn compact_classes(heap: &Heap, weak: Weak) -> Option<ObjectIndex>
     OutEdges::by_class_word(heap, weak, heap.special()).target(Slot::Field(COMPACT_CLASSES))
 }
 
-/// How many fields of an object are strong if its class is what its class word points to.
+/// Returns the number of strong fields of an object, taking as its class what its class word
+/// points to.
 pub(crate) fn strong_by_word(heap: &Heap, weak: Weak, object: &Object<'_>) -> u32
     ensures strong { result ≡ strong_by_word heap.now weak object.now }
     ensures inside { result ≤ length (fields object.now) }
@@ -61,7 +63,7 @@ pub(crate) fn strong_by_word(heap: &Heap, weak: Weak, object: &Object<'_>) -> u3
     }
 }
 
-/// The object that the class word of an object points to, if its header has one.
+/// Returns the object that the class word of an object points to, if its header has one.
 fn class_named(heap: &Heap, object: &Object<'_>) -> Option<ObjectIndex>
     ensures class { result ≡ named_in heap.now object.now ClassWord }
     ensures inside { IfSome result (λ class. class < object_count heap.now) }

@@ -1,4 +1,4 @@
-//! Contexts: how many of their fields are traced.
+//! The number of traced fields of a context.
 
 ghost use Rattle.std.specs.Prelude.{◌≡◌};
 ghost use Rattle.sqz_trace.specs.Slots.{context_fields};
@@ -11,8 +11,8 @@ const STACK_POINTER: usize = 2;
 /// The number of fields before the stack of a context.
 const FIXED_FIELDS: u32 = 6;
 
-/// The number of traced fields that a context with these fields states: those up to the top of its
-/// stack. None if it has no stack pointer, or a negative one.
+/// Returns the number of traced fields that a context with these fields states: those up to the
+/// top of its stack. None if it has no stack pointer, or a negative one.
 pub(crate) fn context_fields(fields: &Words<'_>) -> Option<u32>
     ensures { result ≡ context_fields fields.now }
 {

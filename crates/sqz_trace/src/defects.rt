@@ -18,9 +18,9 @@ use crate::weak::Weak;
 use sqz_image::{Fault, Heap, Object, Slot};
 use sqz_object::{Kind, Layout, ObjectIndex, Value, base_of, value_of};
 
-/// The first defect of an object: `NoClass`, else `BadMethod` or `BadContext`, else, if weak slots
-/// are cleared, `BadWeak`, else `BadPointer` with its first slot, weak or not, that holds neither a
-/// SmallInteger nor the address of an object. None if it has no defect.
+/// Returns the first defect of an object: `NoClass`, else `BadMethod` or `BadContext`, else, if
+/// weak slots are cleared, `BadWeak`, else `BadPointer` with its first slot, weak or not, that
+/// holds neither a SmallInteger nor the address of an object. None if it has no defect.
 pub fn defect(heap: &Heap, weak: Weak, object: ObjectIndex) -> Option<Fault>
     requires { object < object_count heap.now }
     ensures { result ≡ defect heap.now weak (object_at heap.now object) }
@@ -43,7 +43,7 @@ pub fn defect(heap: &Heap, weak: Weak, object: ObjectIndex) -> Option<Fault>
     Some(Fault::BadPointer { address, slot })
 }
 
-/// Whether the object's header has neither a class word nor a compact class index.
+/// Returns whether the object's header has neither a class word nor a compact class index.
 fn lacks_class(object: &Object<'_>) -> bool
     ensures { result ≡ lacks_class object.now }
 {
@@ -51,7 +51,8 @@ fn lacks_class(object: &Object<'_>) -> bool
     header.kind == Kind::Short && base_of(header.base).compact == 0
 }
 
-/// Whether the object is a method that states no number of traced fields, or more than it has.
+/// Returns whether the object is a method that states no number of traced fields, or more than it
+/// has.
 fn is_bad_method(object: &Object<'_>) -> bool
     ensures { result ≡ is_bad_method object.now }
 {
@@ -60,7 +61,8 @@ fn is_bad_method(object: &Object<'_>) -> bool
         && states_too_many(method_fields(&fields), fields.len() as u32)
 }
 
-/// Whether the object is a context that states no number of traced fields, or more than it has.
+/// Returns whether the object is a context that states no number of traced fields, or more than it
+/// has.
 fn is_bad_context(object: &Object<'_>) -> bool
     ensures { result ≡ is_bad_context object.now }
 {
@@ -69,8 +71,8 @@ fn is_bad_context(object: &Object<'_>) -> bool
         && states_too_many(context_fields(&fields), fields.len() as u32)
 }
 
-/// Whether the object has weak slots that are cleared, and its class states no number of fixed
-/// fields, or more than it has.
+/// Returns whether the object has weak slots that are cleared, and its class states no number of
+/// fixed fields, or more than it has.
 fn is_bad_weak(heap: &Heap, weak: Weak, object: &Object<'_>) -> bool
     ensures { result ≡ is_bad_weak heap.now weak object.now }
 {
@@ -81,7 +83,7 @@ fn is_bad_weak(heap: &Heap, weak: Weak, object: &Object<'_>) -> bool
         )
 }
 
-/// Whether no number is stated, or a number above this count.
+/// Returns whether no number is stated, or a number above this count.
 fn states_too_many(stated: Option<u32>, count: u32) -> bool
     ensures { result ≡ states_too_many stated count }
 {
@@ -91,7 +93,7 @@ fn states_too_many(stated: Option<u32>, count: u32) -> bool
     }
 }
 
-/// Whether a word is neither a SmallInteger nor the address of an object.
+/// Returns whether a word is neither a SmallInteger nor the address of an object.
 fn is_bad_word(heap: &Heap, word: u32) -> bool
     ensures { result ≡ is_bad_value heap.now (value_of word) }
 {
@@ -102,7 +104,7 @@ fn is_bad_word(heap: &Heap, word: u32) -> bool
     }
 }
 
-/// The first slot of the object that holds a bad word.
+/// Returns the first slot of the object that holds a bad word.
 fn bad_slot(heap: &Heap, object: &Object<'_>) -> Option<Slot>
     ensures { result ≡ bad_slot heap.now object.now }
 {
@@ -114,7 +116,7 @@ fn bad_slot(heap: &Heap, object: &Object<'_>) -> Option<Slot>
     bad_field(heap, object)
 }
 
-/// The slot of the first traced field of the object that holds a bad word.
+/// Returns the slot of the first traced field of the object that holds a bad word.
 fn bad_field(heap: &Heap, object: &Object<'_>) -> Option<Slot>
     ensures { result ≡ first_bad heap.now object.now (field_slots 0 (traced object.now)) }
 {
@@ -127,7 +129,7 @@ fn bad_field(heap: &Heap, object: &Object<'_>) -> Option<Slot>
     None
 }
 
-/// Whether weak slots are cleared and there is no nil to clear them to.
+/// Returns whether weak slots are cleared and there is no nil to clear them to.
 pub fn lacks_nil(heap: &Heap, weak: Weak) -> bool
     ensures { result ≡ lacks_nil heap.now weak }
 {

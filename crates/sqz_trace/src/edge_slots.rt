@@ -1,4 +1,4 @@
-//! The strong slots of an object, one after the other.
+//! An iterator over the strong slots of an object.
 
 ghost use Rattle.std.specs.Prelude.{◌≡◌};
 ghost use Rattle.std.specs.Iterator.{YieldsFirst, item_count};
@@ -29,7 +29,7 @@ impl Model for StrongSlots {
 }
 
 impl StrongSlots {
-    /// The slots of an object with this number of strong fields.
+    /// Returns the slots of an object with this number of strong fields.
     pub(crate) fn new(strong: u32) -> Self
         ensures { result ≡ slots_from ClassWord strong }
     {

@@ -1,4 +1,4 @@
-//! Marking that was begun, and is brought to its end without memory.
+//! Finishing a marking without allocating memory.
 
 ghost use Rattle.std.specs.Prelude.{◌≡◌, ℕ, ◌+◌, ◌<◌, ◌≤◌, length, Some};
 ghost use Rattle.sqz_image.specs.Objects.{object_count};
@@ -17,12 +17,13 @@ use sqz_image::laws::heap_bounds;
 use sqz_image::{Heap, Slot};
 use sqz_object::ObjectIndex;
 
-/// The reachable objects of a heap, by shades of which the special objects array is not white, each
-/// object that is not white is reachable, and none that a strong slot of a black one names is
-/// white. It takes no memory.
+/// Finishes a marking, and returns the reachable objects of the heap. The shades must be lawful:
+/// the special objects array is not white, every object that is not white is reachable, and no
+/// strong slot of a black object points to a white one (the tri-colour invariant). It allocates no
+/// memory.
 ///
-/// Where no object is grey it looks at each shade once. Else it goes over the objects from the
-/// lowest grey one on, and back to the lowest that becomes grey on the way.
+/// If no object is grey, it reads each shade once. Otherwise it goes over the objects from the
+/// lowest grey one on, and back to the lowest object that becomes grey on the way.
 pub fn finish(heap: &Heap, weak: Weak, mut shades: Shades) -> Marks
     requires { AreLawfulOf heap.now weak shades.items }
     ensures { IsReachability heap.now weak result }
@@ -37,8 +38,8 @@ pub fn finish(heap: &Heap, weak: Weak, mut shades: Shades) -> Marks
     Marks::new(shades)
 }
 
-/// Makes the white targets of a grey object grey, and it black. Answers the lowest of them, or the
-/// next object where that is lower.
+/// Makes the white targets of a grey object grey, and the object black. Returns the lowest of
+/// these targets or the next object, whichever is lower.
 fn blacken(heap: &Heap, weak: Weak, object: ObjectIndex, shades: &mut [Shade]) -> ObjectIndex
     requires object { object < object_count heap.now }
     requires sized { length shades.old ≡ object_count heap.now }

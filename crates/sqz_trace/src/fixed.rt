@@ -12,19 +12,19 @@ use sqz_object::{BitField, Layout, ObjectIndex};
 /// The field of a class that states the number of fixed fields of its instances.
 const INSTANCE_SHAPE: usize = 2;
 
-/// The bits of that field with the lower bits of one more than the number of fixed fields.
+/// The bits of that word with the lower six bits of one more than the number of fixed fields.
 const LOWER_BITS: BitField = BitField {
     lowest: 2,
     width: 6,
 };
 
-/// The bits of that field with the higher ones.
+/// The bits of that word with the two bits above these.
 const HIGHER_BITS: BitField = BitField {
     lowest: 17,
     width: 2,
 };
 
-/// Whether the object has weak slots that are cleared.
+/// Returns whether the object has weak slots that are cleared.
 pub fn is_weak(weak: Weak, object: &Object<'_>) -> bool
     ensures { result ≡ is_weak weak object.now }
 {
@@ -34,8 +34,8 @@ pub fn is_weak(weak: Weak, object: &Object<'_>) -> bool
     }
 }
 
-/// The number of fixed fields that a class states for its instances. None if there is no class, or
-/// if it states no number.
+/// Returns the number of fixed fields that a class states for its instances. None if there is no
+/// class, or if it states no number.
 pub(crate) fn fixed_by(heap: &Heap, class: Option<ObjectIndex>) -> Option<u32>
     requires { IfSome class (λ class. class < object_count heap.now) }
     ensures { result ≡ fixed_by heap.now class }
@@ -44,8 +44,9 @@ pub(crate) fn fixed_by(heap: &Heap, class: Option<ObjectIndex>) -> Option<u32>
     fixed_in(class.fields().get(INSTANCE_SHAPE)?)
 }
 
-/// The number that the word of a class's field 2 states: a SmallInteger, whose word has one more in
-/// two groups of bits.
+/// Returns the number of fixed fields that the word of a class's field 2 states. The word is a
+/// SmallInteger, and two groups of its bits hold one more than that number. None if it is not a
+/// SmallInteger, or if these bits are all 0.
 fn fixed_in(word: u32) -> Option<u32>
     ensures { result ≡ fixed_in word }
 {
@@ -56,8 +57,8 @@ fn fixed_in(word: u32) -> Option<u32>
     stated.checked_sub(1)
 }
 
-/// The number of fixed fields of a weak object, by its class: the number that the class states, or
-/// 0 if the object has fewer fields.
+/// Returns the number of fixed fields of a weak object, by its class: the number that the class
+/// states, or 0 if it states no number, or more than the object has.
 pub(crate) fn fixed_of(heap: &Heap, class: Option<ObjectIndex>, object: &Object<'_>) -> u32
     requires { IfSome class (λ class. class < object_count heap.now) }
     ensures fixed { result ≡ unless_above (length (fields object.now)) (fixed_by heap.now class) }

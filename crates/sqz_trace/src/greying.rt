@@ -1,4 +1,4 @@
-//! Objects that an edge leads to become grey.
+//! Making white objects grey.
 
 ghost use Rattle.std.specs.Prelude.{◌≡◌, ◌<◌, length, slice_set, IfSome, IfNone, Some};
 ghost use Rattle.sqz_image.specs.Objects.{object_count};
@@ -12,7 +12,8 @@ use crate::shades::Shade;
 use sqz_image::Slot;
 use sqz_object::ObjectIndex;
 
-/// Makes the object that a strong slot points to grey if it is white, and returns it then.
+/// Makes the object that a strong slot points to grey if it is white. Returns the object if it
+/// became grey.
 pub(crate) fn grey_white_target(
     edges: &OutEdges<'_>,
     slot: Slot,

@@ -1,4 +1,4 @@
-//! What the objects of an image name, which of them are reachable, and what is wrong with them.
+//! What the objects of an image point to, which of them are reachable, and which have a defect.
 #![tactic(auto)]
 
 mod classes;

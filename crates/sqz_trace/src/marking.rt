@@ -53,8 +53,8 @@ fn mark_targets(
     Ok(())
 }
 
-/// The reachable objects of a heap: a mark for each. The program marks by workers; this is the
-/// plain form, in one thread. Fails only if it is out of memory.
+/// Returns the reachable objects of a heap: one mark per object. It runs in one thread and needs
+/// no mark table; a run marks with workers instead. Fails only if out of memory.
 pub fn mark_plain(alloc: Global, heap: &Heap, weak: Weak) -> Result<Marks, Fault>
     ensures reachable { IfOk result (λ marks. IsReachability heap.now weak marks) }
     ensures refused { IfErr result (λ fault. fault ≡ OutOfMemory) }

@@ -8,10 +8,10 @@ use crate::shades::{Shade, Shades};
 use sqz_object::ObjectIndex;
 use std::marker::Model;
 
-/// A mark for each object of a heap. Contracts see it as the list of the marks, by index.
+/// One mark per object of a heap. Contracts see the list of the marks, by index.
 #[derive(Drop)]
 pub struct Marks {
-    /// An object is marked where its shade is not white.
+    /// An object is marked if its shade is not white.
     shades: Shades,
     count: u32,
 }
@@ -29,7 +29,7 @@ impl Model for Marks {
 }
 
 impl Marks {
-    /// Marks for the objects that are not white, which are counted.
+    /// Returns the marks of the objects that are not white, and counts them.
     pub(crate) fn new(shades: Shades) -> Marks
         requires { vec_len shades < 2 ^ 32 }
         ensures { result ≡ marks_of shades.items }
@@ -38,7 +38,7 @@ impl Marks {
         Marks { shades, count }
     }
 
-    /// Whether the object is marked.
+    /// Returns whether the object is marked.
     pub fn has(&self, object: ObjectIndex) -> bool
         requires { object < length self.now }
         ensures { result ≡ is_marked self.now object }
@@ -46,7 +46,7 @@ impl Marks {
         has_mark(self.shades[object as usize])
     }
 
-    /// How many objects are marked.
+    /// Returns the number of marked objects.
     pub fn count(&self) -> u32
         ensures { result ≡ count_by (λ mark. mark) self.now }
     {
@@ -54,7 +54,7 @@ impl Marks {
     }
 }
 
-/// Whether an object of this shade is marked.
+/// Returns whether an object of this shade is marked.
 pub(crate) fn has_mark(shade: Shade) -> bool
     ensures { result ≡ has_mark shade }
 {

@@ -1,4 +1,4 @@
-//! Compiled methods: how many of their fields are traced.
+//! The number of traced fields of a compiled method.
 
 ghost use Rattle.std.specs.Prelude.{◌≡◌};
 ghost use Rattle.sqz_trace.specs.Slots.{method_fields};
@@ -11,8 +11,8 @@ const LITERALS: BitField = BitField {
     width: 8,
 };
 
-/// The number of traced fields that a method with these fields states: its header and its literals.
-/// None if it has no header, or one that is no SmallInteger.
+/// Returns the number of traced fields that a method with these fields states: its header and its
+/// literals. None if it has no header, or if the header is not a SmallInteger.
 pub(crate) fn method_fields(fields: &Words<'_>) -> Option<u32>
     ensures { result ≡ method_fields fields.now }
 {

@@ -41,7 +41,7 @@ impl<'a> Model for OutEdges<'a> {
 }
 
 impl<'a> OutEdges<'a> {
-    /// The edges of the object with this index.
+    /// Returns the edges of the object with this index.
     pub fn of(heap: &'a Heap, weak: Weak, index: ObjectIndex) -> Self
         requires { index < object_count heap.now }
         ensures { result ≡ out_edges heap.now weak index }
@@ -55,7 +55,8 @@ impl<'a> OutEdges<'a> {
         }
     }
 
-    /// The edges of the object with this index if its class is what its class word points to.
+    /// Returns the edges of the object with this index, taking as its class what its class word
+    /// points to.
     pub(crate) fn by_class_word(heap: &'a Heap, weak: Weak, index: ObjectIndex) -> Self
         requires { index < object_count heap.now }
         ensures { result ≡ edges_by_word heap.now weak index }
@@ -69,22 +70,22 @@ impl<'a> OutEdges<'a> {
         }
     }
 
-    /// The strong slots: the class word, and then the strong fields in their order.
+    /// Returns the strong slots: the class word, and then the strong fields in order.
     pub fn slots(&self) -> StrongSlots
         ensures { result ≡ strong_slots self.now }
     {
         StrongSlots::new(self.strong)
     }
 
-    /// There are at most 2^30 strong slots. For proofs: it does nothing.
+    /// There are at most 2^30 strong slots. A law of all edges: the call does nothing.
     pub fn slot_bounds(&self)
         ensures { length (strong_slots self.now) ≤ 2 ^ 30 }
     {
         let _fields = self.object.fields(); // fewer than 2^30 words
     }
 
-    /// The object that a strong slot points to. None for a weak slot, and if the object has no such
-    /// slot.
+    /// Returns the object that a strong slot points to. None for a weak slot, and if the object
+    /// has no such slot.
     pub fn target(&self, slot: Slot) -> Option<ObjectIndex>
         ensures target { result ≡ edge_target self.now slot }
         ensures inside { IfSome result (λ found. found < object_count self.now.memory) }
@@ -93,7 +94,8 @@ impl<'a> OutEdges<'a> {
     }
 }
 
-/// Nil: the object that field 0 of the special objects array points to, if that is a strong slot.
+/// Returns nil: the object that field 0 of the special objects array points to, if that is a
+/// strong slot.
 pub fn nil(heap: &Heap, weak: Weak) -> Option<ObjectIndex>
     ensures nil { result ≡ nil heap.now weak }
     ensures inside { IfSome result (λ nil. nil < object_count heap.now) }

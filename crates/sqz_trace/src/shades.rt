@@ -1,4 +1,4 @@
-//! How far the marking of objects has come.
+//! The shades of objects: how far marking has come.
 
 ghost use Rattle.std.specs.Prelude.{◌≡◌, ◌^◌, ◌<◌, length, IfOk, IfErr};
 ghost use Rattle.sqz_image.specs.declared.fault.Fault.TheVariants.{OutOfMemory};
@@ -8,22 +8,22 @@ ghost use Rattle.sqz_trace.specs.Shades.{AreFirst, AreLawfulOf};
 use sqz_image::{Fault, Heap};
 use std::alloc::Global;
 
-/// How far the marking of an object has come.
+/// How far the marking of an object has come: its tri-colour mark.
 #[derive(Clone, Copy, Debug, PartialEq, Eq)]
 pub enum Shade {
-    /// It was not found yet.
+    /// It has not been found yet.
     White,
-    /// It was found to be reachable; what it names is still to be marked.
+    /// It is known to be reachable; its targets are still to be marked.
     Grey,
-    /// It was found, and so was all that it names.
+    /// It is known to be reachable, and its targets are marked.
     Black,
 }
 
-/// A shade for each object of a heap.
+/// One shade per object of a heap, by index.
 pub type Shades = Vec<Shade>;
 
-/// The shades at which marking begins: the special objects array is grey, all else white. Fails for
-/// want of memory alone.
+/// Returns the shades with which marking begins: the special objects array is grey, every other
+/// object white. Fails only if out of memory.
 pub fn first_shades(alloc: Global, heap: &Heap) -> Result<Shades, Fault>
     ensures first { IfOk result (λ shades. AreFirst heap.now shades.items) }
     ensures lawful { IfOk result (λ shades.

@@ -12,7 +12,7 @@ use crate::methods::method_fields;
 use sqz_image::{Heap, Object, Slot};
 use sqz_object::{Address, Kind, Layout, ObjectIndex, Value, value_of};
 
-/// The address in the object's class word, if its header has one.
+/// Returns the address in the object's class word, if its header has one.
 pub fn class_address(object: &Object<'_>) -> Option<Address>
     ensures { result ≡ slot_word object.now ClassWord }
 {
@@ -24,8 +24,8 @@ pub fn class_address(object: &Object<'_>) -> Option<Address>
     Some(word - word % 4)
 }
 
-/// The number of traced fields of the object, from field 0 on: no more than it has, even if a
-/// context or a method states more.
+/// Returns the number of traced fields of the object, from field 0 on: at most the number of its
+/// fields, even if a context or a method states more.
 pub fn traced_fields(object: &Object<'_>) -> u32
     ensures traced { result ≡ traced object.now }
     ensures inside { result ≤ length (fields object.now) }
@@ -40,14 +40,14 @@ pub fn traced_fields(object: &Object<'_>) -> u32
     }
 }
 
-/// A stated number, but at most `count`; 0 if no number is stated.
+/// Returns the stated number, but at most `count`; 0 if no number is stated.
 fn clip(stated: Option<u32>, count: u32) -> u32
     ensures { result ≡ clip stated count }
 {
     stated.map_or(0, |stated| stated.min(count))
 }
 
-/// The object that the word of a slot points to: the one with this address.
+/// Returns the object that the word of a slot points to, if the word is the address of one.
 pub fn named_by(heap: &Heap, word: u32) -> Option<ObjectIndex>
     ensures named { result ≡ named_by heap.now word }
     ensures inside { IfSome result (λ found. found < object_count heap.now) }
@@ -58,8 +58,8 @@ pub fn named_by(heap: &Heap, word: u32) -> Option<ObjectIndex>
     }
 }
 
-/// The object that a slot points to, among the class word of an object and its first `count`
-/// fields. None also if there is no such slot.
+/// Returns the object that a slot points to, among the class word of an object and its first
+/// `count` fields. None also if there is no such slot.
 pub(crate) fn named_among(
     heap: &Heap,
     object: &Object<'_>,
@@ -73,8 +73,8 @@ pub(crate) fn named_among(
     named_by(heap, word_among(object, count, slot)?)
 }
 
-/// The word that a slot holds, among the class word of an object and its first `count` fields. For
-/// the class word it is the address in it.
+/// Returns the word that a slot holds, among the class word of an object and its first `count`
+/// fields. For the class word this is the address in it. None if there is no such slot.
 fn word_among(object: &Object<'_>, count: u32, slot: Slot) -> Option<u32>
     requires { count ≤ length (fields object.now) }
     ensures { result ≡ word_among count object.now slot }
@@ -86,7 +86,8 @@ fn word_among(object: &Object<'_>, count: u32, slot: Slot) -> Option<u32>
     }
 }
 
-/// The object that a traced slot of an object points to; None also if the object has no such slot.
+/// Returns the object that a traced slot of an object points to; None also if the object has no
+/// such slot.
 pub fn target(heap: &Heap, object: ObjectIndex, slot: Slot) -> Option<ObjectIndex>
     requires { object < object_count heap.now }
     ensures named { result ≡ target heap.now object slot }
@@ -96,7 +97,8 @@ pub fn target(heap: &Heap, object: ObjectIndex, slot: Slot) -> Option<ObjectInde
     named_among(heap, &object, traced_fields(&object), slot)
 }
 
-/// The number of traced fields of the object, from field 0 on: no more than it has.
+/// Returns the number of traced fields of the object, from field 0 on: at most the number of its
+/// fields.
 pub fn traced(heap: &Heap, object: ObjectIndex) -> u32
     requires { object < object_count heap.now }
     ensures traced { result ≡ traced (chunk_words heap.now object) }

@@ -1,4 +1,4 @@
-//! The strong slots of an object: those that lead on to others.
+//! The strong slots of an object: those that marking follows.
 
 ghost use Rattle.std.specs.Prelude.{◌≡◌, ◌<◌, ◌≤◌, length};
 ghost use Rattle.sqz_object.specs.Chunk.{fields};
@@ -12,9 +12,9 @@ use crate::weak::Weak;
 use sqz_image::{Heap, Object};
 use sqz_object::ObjectIndex;
 
-/// How many fields of the object are strong, from field 0 on: those that are traced; of an object
-/// whose weak slots are cleared the fixed ones, as its class states them, or none where it states
-/// no number, or more than there are.
+/// Returns the number of strong fields of the object, from field 0 on. These are the traced
+/// fields. For an object whose weak slots are cleared they are the fixed fields, as its class
+/// states them, or none if the class states no number, or more than the object has.
 pub fn strong_fields(heap: &Heap, weak: Weak, object: &Object<'_>) -> u32
     ensures strong { result ≡ strong heap.now weak object.now }
     ensures inside { result ≤ length (fields object.now) }
@@ -26,7 +26,8 @@ pub fn strong_fields(heap: &Heap, weak: Weak, object: &Object<'_>) -> u32
     }
 }
 
-/// How many fields of the object are strong, from field 0 on. They are no more than it has.
+/// Returns the number of strong fields of the object, from field 0 on: at most the number of its
+/// fields.
 pub fn strong(heap: &Heap, weak: Weak, object: ObjectIndex) -> u32
     requires { object < object_count heap.now }
     ensures strong { result ≡ strong heap.now weak (chunk_words heap.now object) }

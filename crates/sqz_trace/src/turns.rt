@@ -1,5 +1,4 @@
-//! Marking by turns: an object at a time, taken from a list of the grey ones that has room for all
-//! that are white.
+//! Marking one object at a time, from a list of grey objects with room for every white one.
 
 ghost use Rattle.std.specs.Prelude.{◌≡◌, ◌+◌, ◌<◌, ◌≤◌, length, Some, vec_capacity};
 ghost use Rattle.sqz_image.specs.Objects.{object_count};
@@ -15,8 +14,8 @@ use crate::weak::Weak;
 use sqz_image::{Heap, Slot};
 use sqz_object::ObjectIndex;
 
-/// Makes the white targets of a grey object grey, adds them to the end of the list, and makes the
-/// object black. Takes no memory: the list has room for all white objects.
+/// Makes the white targets of a grey object grey, appends them to the list, and makes the object
+/// black. It allocates no memory: the list has room for all white objects.
 pub fn blacken_listed(
     heap: &Heap,
     weak: Weak,
@@ -40,8 +39,8 @@ pub fn blacken_listed(
     shades[object as usize] = Shade::Black;
 }
 
-/// Makes the object that a strong slot points to grey if it is white, and adds it to the end of the
-/// list then.
+/// Makes the object that a strong slot points to grey if it is white, and then appends it to the
+/// list.
 fn grey_listed(edges: &OutEdges<'_>, slot: Slot, shades: &mut [Shade], list: &mut Vec<ObjectIndex>)
     requires sized { length shades.old ≡ object_count edges.now.memory }
     requires room { length list.old.items + white_count shades.old ≤ vec_capacity list.old }

@@ -1,10 +1,11 @@
-//! What becomes of weak slots.
+//! The policy on weak slots.
 
-/// What becomes of the weak slots of objects of format 4: those of their fields that are not fixed.
+/// What happens to the weak slots of an object of format 4: its fields that are not fixed.
 #[derive(Clone, Copy, Debug, PartialEq, Eq)]
 pub enum Weak {
-    /// They are as all slots: what they name is kept.
+    /// They are like other slots: they keep their targets alive.
     Keep,
-    /// They keep nothing: where no other slots lead to what they name, they name nil.
+    /// They keep nothing alive: a weak slot whose target no path of strong slots reaches is
+    /// changed to point to nil.
     Clear,
 }

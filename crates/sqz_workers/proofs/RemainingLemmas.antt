@@ -1,5 +1,6 @@
--- A pass that sweeps over the objects again while it finds a grey one comes to an end, and leaves none grey. Serves the functions of
--- `remaining`, `scanning::scan_if_grey`, `stealing::mark` and `marked::Marked::of_closed`.
+-- A pass that repeats its sweep over the objects while it finds a grey one comes to an end, and
+-- leaves none grey. Serves the functions of `remaining`, `scanning::scan_if_grey`,
+-- `stealing::mark` and `marked::Marked::of_closed`.
 use Rattle.std.proofs.Common.{◌≡◌, ◌≢◌, ℕ, zero, suc, ◌<◌, ◌≤◌, if◌then◌else◌, cond, eqb, ltb, Bool, List, length}
 use Rattle.std.proofs.Common.{sum, refl, sym, ap, subst, ◌∙◌, arith, inl, inr, eq-eqb, ne_eqb}
 use Rattle.std.proofs.lemmas.Bool.{cases_eq, cases_lt, lt-ltb}

@@ -1,5 +1,5 @@
--- What a pass gains if its shares are worked on apart. Serves `shared_work::SharedWork::run_team` and
--- `shared_work::SharedWork::run_halves`.
+-- What a pass gains if its shares are worked on separately. Serves
+-- `shared_work::SharedWork::run_team` and `shared_work::SharedWork::run_halves`.
 use Rattle.std.proofs.Common.{◌≡◌, ℕ, ◌+◌, ◌≤◌, List, [], ◌∷◌, ◌++◌, length, set, sum, sym, subst, ◌∙◌, ap, arith}
 use Rattle.std.proofs.lemmas.List.{length-append}
 use Rattle.std.proofs.lemmas.List.Sums.{sum_by-append}

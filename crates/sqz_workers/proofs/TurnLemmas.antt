@@ -1,4 +1,5 @@
--- How many objects are white when marking begins; and the law of shades under one name of the object memory and another.
+-- The number of white objects when marking begins; and the law of shades under one name of the
+-- object memory and another.
 -- Serves `locked_marking::LockedMarking::new` and `locked_marking::LockedMarking::turn`.
 use Rattle.std.proofs.Common.{◌≡◌, ℕ, zero, suc, ◌+◌, ◌<◌, List, set, refl, subst, arith}
 use Rattle.std.specs.Prelude.{replicate}

@@ -1,11 +1,11 @@
--- Workers that mark at one time.
+-- Workers that mark at the same time.
 use Rattle.std.specs.Prelude.{◌≡◌, ◌+◌, ◌≤◌, length, sum}
 use Rattle.sqz_marks.specs.Table.{SharedMarks, IsPassOf}
 use Rattle.sqz_workers.specs.declared.team.Team.{Team}
 use Rattle.sqz_workers.specs.Gains.{HasGained}
 
--- a team has at least one worker; its pass is of this table, each share of the pass has a deque and a
--- place for a number, and the workers' numbers are below 64
+-- a team has at least one worker; its pass belongs to this table, each share of the pass has a
+-- deque and an entry for a number, and the workers' numbers are below 64
 pub record IsTeamOf (marks : SharedMarks) (team : Team) : Type 0 where
   pub of : IsPassOf marks team.pass.now
   pub shares : team.pass.now.view.weight ≡ length team.won.now
@@ -13,7 +13,7 @@ pub record IsTeamOf (marks : SharedMarks) (team : Team) : Type 0 where
   pub some : 1 ≤ length team.won.now
   pub numbers : team.first + length team.won.now ≤ 64
 
--- the same team: its pass has gained as many objects as its numbers say
+-- the same team: its pass has gained as many objects as its numbers add up to
 pub record HasMarked (old new : Team) : Type 0 where
   pub gained : HasGained old.pass.now new.pass.now (sum new.won.now)
   pub sized : length new.won.now ≡ length old.won.now

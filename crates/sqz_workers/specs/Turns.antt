@@ -8,17 +8,18 @@ use Rattle.sqz_trace.specs.Edges.{HasEdge}
 use Rattle.sqz_trace.specs.Shades.{shade_at, AreFirst}
 use Rattle.sqz_trace.specs.Greying.{Blackens, IsListed}
 
--- what lies under the lock: a shade for each object, and a list of objects
+-- what is under the lock: one shade per object, and a list of objects
 pub record Progress : Type 0 where
   pub shades : List Shade
   pub list : List ℕ
 
--- the special objects array is grey and alone in the list, and all else white
+-- the special objects array is grey and the only object in the list, and every other object is
+-- white
 pub record IsBegun (memory : Memory) (progress : Progress) : Type 0 where
   pub first : AreFirst memory progress.shades
   pub alone : progress.list ≡ first.start ∷ []
 
--- the object is grey: it becomes black, and its white targets grey, which join the list
+-- the object is grey: it becomes black, and its white targets become grey and join the list
 pub record IsLookedAt (memory : Memory) (weak : Weak) (object : ℕ) (old new : List Shade) (list longer : List ℕ) : Type 0 where
   pub grey : shade_at old object ≡ Grey
   pub blackened : Blackens (HasEdge memory weak object) object old new
@@ -30,7 +31,7 @@ pub record IsPassedOver (object : ℕ) (old new : List Shade) (list longer : Lis
   pub shades : new ≡ old
   pub list_is : longer ≡ list
 
--- an object is taken from the end of the list, and looked at if it is grey
+-- an object is taken from the end of the list, and scanned if it is grey
 pub record IsTaken (memory : Memory) (weak : Weak) (old new : Progress) : Type 0 where
   pub object : ℕ
   pub rest : List ℕ

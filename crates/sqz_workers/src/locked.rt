@@ -16,11 +16,11 @@ use std::sync::{Mutex, Wait};
 use std::thread;
 use std::thread::Threads;
 
-/// Marks the reachable objects of a heap with `workers` workers, each in a thread of its own if one
-/// can be started. In a turn a worker passes the gate, takes the lock, takes one object from a
+/// Marks the reachable objects of a heap with `workers` workers, each in a thread of its own if
+/// one can be started. In a turn a worker passes the gate, takes the lock, takes one object from a
 /// list, and marks what that object points to. It leaves after 64 turns in a row that found the
 /// list empty, or after four turns for each object and 4096 more. It may wait for the lock. Fails
-/// only if it is out of memory.
+/// only if out of memory.
 pub fn mark_locked<R: Threads + Wait + Sync, G: Gate>(
     rt: &R,
     alloc: Global,
@@ -35,7 +35,7 @@ pub fn mark_locked<R: Threads + Wait + Sync, G: Gate>(
     LockedWork { rt, heap, gate }.run_workers::<Brand>(alloc, weak, workers)
 }
 
-/// What all workers share as they mark under a lock, besides what lies under it.
+/// What all workers share as they mark under a lock, besides the value under the lock.
 #[derive(Drop)]
 struct LockedWork<'a, R, G> {
     rt: &'a R,

@@ -1,4 +1,4 @@
-//! What workers that mark under a lock share there.
+//! What workers that mark under a lock share.
 
 ghost use Rattle.std.specs.Prelude.{◌≡◌, [], IfOk, IfErr};
 ghost use Rattle.sqz_object.specs.declared.order.Order.TheVariants.{Little};
@@ -15,8 +15,8 @@ use sqz_trace::{Marks, Shade, Shades, Weak, blacken_listed, finish, first_shades
 use std::alloc::Global;
 use std::marker::{Brand, Model, PhantomData};
 
-/// The object memory that is marked, and the policy on weak slots. A type stands for them, since a
-/// lock says no more of what lies under it than its type.
+/// The object memory that is marked, and the policy on weak slots. A type stands for them, since
+/// contracts know the value under a lock only by its type.
 pub trait MarkedMemory {
     ghost memory: { Memory };
 
@@ -60,8 +60,8 @@ impl<'a, M: MarkedMemory> Model for LockedMarking<'a, M> {
 }
 
 impl<'a, M: MarkedMemory> LockedMarking<'a, M> {
-    /// The marking at its beginning: the special objects array is grey and alone in the list. Fails
-    /// only if it is out of memory.
+    /// Returns the marking at its beginning: the special objects array is grey and the only object
+    /// in the list. Fails only if out of memory.
     pub fn new(alloc: Global, heap: &'a Heap, weak: Weak) -> Result<Self, Fault>
         requires heap { heap.now ≡ M.memory }
         requires weak { weak ≡ M.weak }
@@ -100,7 +100,7 @@ impl<'a, M: MarkedMemory> LockedMarking<'a, M> {
         true
     }
 
-    /// The reachable objects: what is still grey is marked to its end.
+    /// Finishes the marking of what is still grey, and returns the reachable objects.
     pub fn finish(self) -> Marks
         ensures { IsReachability M.memory M.weak result }
     {

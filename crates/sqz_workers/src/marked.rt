@@ -1,4 +1,4 @@
-//! What marking gives.
+//! The result of marking.
 
 ghost use Rattle.std.specs.Prelude.{◌≡◌, ◌+◌, ◌≤◌, sum, count_by, IfOk};
 ghost use Rattle.sqz_trace.specs.Reachability.{IsReachability};
@@ -10,21 +10,23 @@ use sqz_marks::Closed;
 use sqz_trace::{Marks, Weak, finish};
 use std::alloc::{AllocError, Global};
 
-/// What marking gives.
+/// The result of marking.
 #[derive(Drop)]
 pub struct Marked {
     /// The reachable objects.
     pub marks: Marks,
-    /// For each region the sum of the lengths of its marked objects' chunks, in words.
+    /// For each region, the total length of its marked objects' chunks in words.
     pub live_words: Vec<u32>,
-    /// How many objects each worker won.
+    /// The number of objects that each worker won.
     pub claims: Vec<u32>,
-    /// How many objects were won outside of the workers' turns, the special objects array included.
+    /// The number of objects won outside of the workers' turns, including the special objects
+    /// array.
     pub finished: u32,
 }
 
 impl Marked {
-    /// What marking gives, from the closed table and the number of objects that each worker won.
+    /// Returns the result of marking, from the closed table and the number of objects that each
+    /// worker won.
     pub(crate) fn of_closed(
         alloc: Global,
         heap: &Heap,
@@ -41,8 +43,8 @@ impl Marked {
         ensures all { IfOk result (λ marked.
             sum won.now + marked.finished ≡ count_by (λ mark. mark) marked.marks) }
     {
-        // No object is grey any more. `finish` is called for its contract: of shades that obey the
-        // law it gives the reachable objects. Here that takes one look at each shade.
+        // No object is grey any more. `finish` is called for its contract: from lawful shades it
+        // returns the reachable objects. Here it reads each shade once.
         let marks = finish(heap, weak, closed.shades);
         let (claims, finished) = worker_counts(alloc, won, marks.count())?;
         Ok(Marked {
@@ -54,7 +56,8 @@ impl Marked {
     }
 }
 
-/// How many objects each worker won, and how many of all marked objects no worker won.
+/// Returns the number of objects that each worker won, and the number of marked objects that no
+/// worker won.
 fn worker_counts(alloc: Global, won: &[u64], marked: u32) -> Result<(Vec<u32>, u32), AllocError>
     requires { sum won.now ≤ marked }
     ensures claims { IfOk result (λ counts. counts.0.items ≡ won.now) }

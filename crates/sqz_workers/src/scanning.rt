@@ -13,8 +13,8 @@ use sqz_marks::{Claim, MarkTable, Pass};
 use sqz_object::ObjectIndex;
 use sqz_trace::{OutEdges, Shade};
 
-/// Scans an object if it is grey. Returns how many objects were won, or None if it is not grey or
-/// the heap has no object with this index.
+/// Scans an object if it is grey. Returns the number of objects that were won, or None if it is
+/// not grey or the heap has no object with this index.
 pub(crate) fn scan_if_grey<L: Worklist>(
     table: &MarkTable<'_>,
     pass: &mut Pass,
@@ -40,8 +40,8 @@ pub(crate) fn scan_if_grey<L: Worklist>(
 }
 
 /// Scans a grey object: claims what each of its strong slots points to, counts the objects that
-/// were won and puts them into the worklist, and makes the object black. Returns how many objects
-/// were won.
+/// were won and puts them into the worklist, and makes the object black. Returns the number of
+/// objects that were won.
 fn scan_object<L: Worklist>(
     table: &MarkTable<'_>,
     pass: &mut Pass,
@@ -67,7 +67,7 @@ fn scan_object<L: Worklist>(
 }
 
 /// Claims what a strong slot points to; if it was won, counts it and puts it into the worklist.
-/// Returns how many objects were won.
+/// Returns the number of objects that were won: 0 or 1.
 fn claim_slot<L: Worklist>(
     table: &MarkTable<'_>,
     pass: &mut Pass,

@@ -114,7 +114,8 @@ impl<R, G: Gate> SharedWork<'_, '_, R, G> {
         won
     }
 
-    /// An index from the worker's own deque, or else from the first of the others that gives one.
+    /// Returns an index from the worker's own deque, or else from the first of the others that
+    /// gives one.
     fn next_object(&self, deque: &mut Worker<ObjectIndex>, worker: u32) -> Option<ObjectIndex> {
         match deque.pop() {
             Some(object) => Some(object),
@@ -122,7 +123,7 @@ impl<R, G: Gate> SharedWork<'_, '_, R, G> {
         }
     }
 
-    /// An index from the first of the other workers' deques that gives one.
+    /// Returns an index from the first of the other workers' deques that gives one.
     fn steal(&self, worker: u32) -> Option<ObjectIndex> {
         for (other, stealer) in self.stealers.iter().enumerate() {
             if other != worker as usize {

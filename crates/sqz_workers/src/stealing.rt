@@ -20,11 +20,11 @@ use sqz_trace::Weak;
 use std::alloc::{AllocError, Global};
 use std::thread::Threads;
 
-/// Marks the reachable objects of a heap with `workers` workers, each in a thread of its own if one
-/// can be started. In a turn a worker passes the gate, takes an object from its own deque or else
-/// from another's, and claims what that object points to. It leaves after 64 turns in a row that
-/// found no object, or after four turns for each object and 4096 more; the caller's thread marks
-/// what is grey then. No worker waits for another. Fails only if it is out of memory.
+/// Marks the reachable objects of a heap with `workers` workers, each in a thread of its own if
+/// one can be started. In a turn a worker passes the gate, takes an object from its own deque or
+/// else from another's, and claims what that object points to. It leaves after 64 turns in a row
+/// that found no object, or after four turns for each object and 4096 more; the caller's thread
+/// marks what is grey then. No worker waits for another. Fails only if out of memory.
 pub fn mark<R: Threads + Sync, G: Gate>(
     rt: &R,
     alloc: Global,
@@ -75,7 +75,7 @@ pub fn mark<R: Threads + Sync, G: Gate>(
     Ok(Marked::of_closed(alloc, heap, weak, closed, won)?)
 }
 
-/// A deque for each worker, and what steals from it, in their order.
+/// Returns a deque for each worker, and a stealer for each deque, in the order of the workers.
 fn deques_of(
     alloc: Global,
     count: usize,

@@ -1,10 +1,10 @@
-//! Workers that mark at one time.
+//! Workers that mark at the same time.
 
 use crossbeam_deque::Worker;
 use sqz_marks::Pass;
 use sqz_object::ObjectIndex;
 
-/// Workers with consecutive numbers. Each has a share of the pass, a deque, and a place for the
+/// Workers with consecutive numbers. Each has a share of the pass, a deque, and an entry for the
 /// number of objects that it wins.
 #[derive(Drop)]
 pub(crate) struct Team<'a> {
@@ -14,6 +14,6 @@ pub(crate) struct Team<'a> {
     pub pass: &'a mut Pass,
     /// Each worker's deque.
     pub deques: &'a mut [Worker<ObjectIndex>],
-    /// How many objects each worker wins.
+    /// The number of objects that each worker wins.
     pub won: &'a mut [u64],
 }

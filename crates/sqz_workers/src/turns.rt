@@ -1,4 +1,4 @@
-//! How many turns a worker takes, in either way of marking.
+//! The number of turns that a worker takes, in either way of marking.
 
 ghost use Rattle.std.specs.Prelude.{◌≡◌, ◌↔◌, ◌+◌, ◌*◌, ◌^◌, ◌<◌, ◌≤◌, if◌then◌else◌};
 ghost use Rattle.std.specs.Prelude.{IsSome, IsNone, IfSome};
@@ -22,7 +22,8 @@ pub(crate) struct Turns {
 }
 
 impl Turns {
-    /// Before the first turn. There may be four for each object of the heap and 4096 more.
+    /// Returns the state before the first turn. A worker may take four turns for each object of
+    /// the heap and 4096 more.
     pub fn new(heap: &Heap) -> Self
         ensures first { result.turn ≡ 0 }
         ensures most { result.most ≡ 4 * object_count heap.now + 4096 }
@@ -53,7 +54,7 @@ impl Turns {
         Some(turn)
     }
 
-    /// Takes note whether the turn that began last found an object.
+    /// Records whether the turn that began last found an object.
     pub fn note(&mut self, found: bool)
         requires { self.old.empty < MOST_EMPTY_TURNS }
         ensures { self.new ≡ record self.old { empty = if found then 0 else self.old.empty + 1 } }

@@ -7,8 +7,8 @@ use sqz_object::ObjectIndex;
 
 /// Takes objects that became grey. It drops what it has no room for: such an object stays grey.
 pub(crate) trait Worklist {
-    /// For how many objects it has room, and never for more; 0 for a list that makes room as it
-    /// needs it.
+    /// The number of objects that it has room for, which it never exceeds; 0 for a list that grows
+    /// as needed.
     ghost room: { Self → ℕ };
 
     /// Puts an object in, if there is room.
@@ -25,7 +25,7 @@ impl Worklist for Worker<ObjectIndex> {
     }
 }
 
-/// A list that keeps within the room that was made for it, and so allocates nothing.
+/// A list that stays within its capacity, and so allocates nothing.
 impl Worklist for Vec<ObjectIndex> {
     ghost room = { vec_capacity };
 

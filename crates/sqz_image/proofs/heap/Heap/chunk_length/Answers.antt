@@ -20,7 +20,7 @@ next c =
     next_read (listed_is c.self.view_is c.self.invariant) c.args.object c.index.result.now c.requires (read c)
     (c.if-is_followed.ensures.0 refl)
 
--- so many words behind where it begins, by its start, the next object begins
+-- the next object begins where this one ends, by its start and its length
 next_first : (c : Then-is_followed) → (object_in (objects c.args.self.now) (c.args.object + 1)).first
     ≡ first_of c.index.result.now + length (object_in (objects c.args.self.now) c.args.object).chunk
 next_first c =
