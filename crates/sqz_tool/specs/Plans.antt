@@ -1,9 +1,7 @@
 -- Which numbers a plan takes, and what the words of a command line ask for.
-use Rattle.std.specs.Prelude.{◌≡◌, ℕ, ◌^◌, ◌≤◌, Bool, true, false, List, Option, Some, None, codes}
+use Rattle.std.specs.Prelude.{◌≡◌, ℕ, ◌^◌, ◌≤◌, List, Option, Some, None, codes}
 use Rattle.std.specs.Str.Parse.{digits_value, without_leading_plus}
 use Rattle.clap.specs.Words.{Row, Text, one_of}
-use Rattle.sqz_trace.specs.declared.weak.Weak.{Weak}
-use Rattle.sqz_trace.specs.declared.weak.Weak.TheVariants.{Keep, Clear}
 
 -- how many workers there may be
 abbrev pub IsWorkers : ℕ → Type 0
@@ -21,11 +19,6 @@ number_in None = 0
 -- the words ask for workers and regions that there may be
 abbrev pub AsksForPlan : List Row → Type 0
 AsksForPlan rows = IsWorkers (number_in (one_of (codes "workers") rows)) × IsRegion (number_in (one_of (codes "region-words") rows))
-
--- what becomes of weak slots, where they are to be cleared and else
-abbrev pub weak_of : Bool → Weak
-weak_of true = Clear
-weak_of false = Keep
 
 -- the words ask for weak slots to be cleared
 abbrev pub AsksToClear : List Row → Type 0
