@@ -13,8 +13,8 @@ pub(crate) fn has_bytes(object: &Object<'_>) -> bool {
     matches!(object.layout(), Layout::Bytes { .. })
 }
 
-/// The number of an object's bytes, and the first of them, as a census prints those of names. None
-/// unless its fields are bytes.
+/// The number of an object's bytes, and the first of them as text, as class names are printed.
+/// Returns `None` if its fields are not bytes.
 pub(crate) fn text_of(
     alloc: Global,
     order: Order,
@@ -31,7 +31,7 @@ pub(crate) fn text_of(
     Ok(Some(shown_text(alloc, count, &bytes, rest)?))
 }
 
-/// A number of bytes, some bytes as they are shown, and what stands behind them.
+/// A number of bytes, the first of them as text, and what follows them.
 fn shown_text(
     alloc: Global,
     count: usize,
@@ -46,7 +46,7 @@ fn shown_text(
     Ok(text)
 }
 
-/// The first bytes that spell words, so many of them.
+/// The first `count` bytes of words, in the byte order of their file.
 fn first_bytes(
     alloc: Global,
     order: Order,

@@ -1,15 +1,15 @@
-//! What a file holds, what an object in it is and why it is there, and which objects a class has:
-//! facts about an image, as text.
+//! Reports on an image, as text: what its file holds, what an object in it is and what keeps it,
+//! and which live objects a class has.
 #![tactic(auto)]
 
 mod byte_text;
-mod classes;
-mod facts;
 mod files;
 mod free_chunks;
+mod inspector;
 mod members;
 mod objects;
 mod paths;
+mod report;
 mod slots;
 
 pub use files::file_text;

@@ -4,11 +4,11 @@ ghost use Rattle.std.specs.Prelude.{◌<◌};
 ghost use Rattle.sqz_image.specs.Objects.{object_count};
 
 use crate::byte_text::has_bytes;
-use crate::classes::name_of_class;
-use crate::facts::Facts;
-use sqz_image::{Heap, Object};
-use sqz_object::{Value, value_of};
-use sqz_trace::{Weak, class_address, named_by, strong_fields, traced_fields};
+use crate::inspector::Inspector;
+use crate::report::Report;
+use sqz_image::Object;
+use sqz_object::{ObjectIndex, Value, value_of};
+use sqz_trace::{class_address, named_by, strong_fields, traced_fields};
 use std::alloc::{AllocError, Global};
 
 /// How many fields that are not traced are printed at most.
@@ -17,50 +17,47 @@ const MOST_UNTRACED: usize = 16;
 /// Adds a line for the class word of an object, if it has one, and for each of its fields, unless
 /// they are bytes.
 pub(crate) fn add_slots(
-    alloc: Global,
-    facts: &mut Facts,
-    heap: &Heap,
-    weak: Weak,
+    inspector: &Inspector<'_>,
+    report: &mut Report,
     object: &Object<'_>,
 ) -> Result<(), AllocError> {
     if let Some(word) = class_address(object) {
-        facts.add_text("class word", &held_text(alloc, heap, weak, "", word)?)?;
+        report.add_text("class word", &held_text(inspector, "", word)?)?;
     }
     if has_bytes(object) {
         return Ok(());
     }
-    add_fields(alloc, facts, heap, weak, object)
+    add_fields(inspector, report, object)
 }
 
-/// Adds a line for each field of an object. Of fields that are not traced the first are shown.
+/// Adds a line for each traced field of an object, and for the first of those that are not traced.
 fn add_fields(
-    alloc: Global,
-    facts: &mut Facts,
-    heap: &Heap,
-    weak: Weak,
+    inspector: &Inspector<'_>,
+    report: &mut Report,
     object: &Object<'_>,
 ) -> Result<(), AllocError> {
-    let strong = strong_fields(heap, weak, object) as usize;
+    let alloc = inspector.alloc;
+    let strong = strong_fields(inspector.heap, inspector.weak, object) as usize;
     let traced = traced_fields(object) as usize;
     let shown = traced.saturating_add(MOST_UNTRACED);
     for (index, word) in object.fields().iter().enumerate().take(shown) {
         let text = if index < traced {
-            let slot = if index < strong { "" } else { "weak " };
-            held_text(alloc, heap, weak, slot, word)?
+            let strength = if index < strong { "" } else { "weak " };
+            held_text(inspector, strength, word)?
         } else {
             untraced_text(alloc, word)?
         };
-        add_field(alloc, facts, index, &text)?;
+        add_field(alloc, report, index, &text)?;
     }
-    add_rest(facts, object.fields().len().saturating_sub(shown))
+    add_rest(report, object.fields().len().saturating_sub(shown))
 }
 
 /// Adds how many untraced fields are not shown, if there are any.
-fn add_rest(facts: &mut Facts, rest: usize) -> Result<(), AllocError> {
+fn add_rest(report: &mut Report, rest: usize) -> Result<(), AllocError> {
     if rest == 0 {
         return Ok(());
     }
-    facts.add("untraced", format_args!("{rest} fields more"))
+    report.add("untraced", format_args!("{rest} fields more"))
 }
 
 /// What a field holds that is not traced.
@@ -71,44 +68,37 @@ fn untraced_text(alloc: Global, word: u32) -> Result<Vec<u8>, AllocError> {
 /// Adds the line of a field.
 fn add_field(
     alloc: Global,
-    facts: &mut Facts,
+    report: &mut Report,
     index: usize,
     text: &[u8],
 ) -> Result<(), AllocError> {
     let name = format!(in alloc; "field {index}")?;
-    facts.add_text(name.as_str(), text)
+    report.add_text(name.as_str(), text)
 }
 
-/// What a slot holds, behind what is to be said of the slot: an integer, an object with its class,
-/// or a bad word.
-fn held_text(
-    alloc: Global,
-    heap: &Heap,
-    weak: Weak,
-    slot: &str,
-    word: u32,
-) -> Result<Vec<u8>, AllocError> {
+/// What a slot holds, after its strength: an integer, an object with its class, or a bad word.
+fn held_text(inspector: &Inspector<'_>, strength: &str, word: u32) -> Result<Vec<u8>, AllocError> {
+    let alloc = inspector.alloc;
     if let Value::Int(number) = value_of(word) {
-        return Ok(format!(in alloc; "{slot}{number}")?.into_bytes());
+        return Ok(format!(in alloc; "{strength}{number}")?.into_bytes());
     }
-    match named_by(heap, word) {
-        Some(named) => pointer_text(alloc, heap, weak, slot, named),
-        None => Ok(format!(in alloc; "{slot}bad word {word:08x}")?.into_bytes()),
+    match named_by(inspector.heap, word) {
+        Some(object) => pointer_text(inspector, strength, object),
+        None => Ok(format!(in alloc; "{strength}bad word {word:08x}")?.into_bytes()),
     }
 }
 
-/// The address of an object and its class, behind what is to be said of the slot that names it.
+/// The address of an object and the name of its class, after the strength of a slot that points to
+/// it.
 fn pointer_text(
-    alloc: Global,
-    heap: &Heap,
-    weak: Weak,
-    slot: &str,
-    named: u32,
+    inspector: &Inspector<'_>,
+    strength: &str,
+    object: ObjectIndex,
 ) -> Result<Vec<u8>, AllocError>
-    requires { named < object_count heap.now }
+    requires { object < object_count inspector.now.heap.now }
 {
-    let address = heap.address(named);
-    let mut text = format!(in alloc; "{slot}{address:08x} ")?.into_bytes();
-    text.extend_from_slice(&name_of_class(alloc, heap, weak, named)?)?;
+    let mut text = Vec::new(inspector.alloc);
+    text.extend_from_slice(strength.as_bytes())?;
+    text.extend_from_slice(&inspector.label_of(object)?)?;
     Ok(text)
 }

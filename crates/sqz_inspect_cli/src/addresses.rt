@@ -3,7 +3,7 @@
 /// How many digits an address has.
 const DIGITS: usize = 8;
 
-/// The address that a word spells, with digits in either case. None where it is no address.
+/// The address that a word spells, with digits in either case. Returns `None` if it spells none.
 pub(crate) fn address_in(word: &str) -> Option<u32> {
     if word.len() != DIGITS || !word.bytes().all(|digit| digit.is_ascii_hexdigit()) {
         return None;

@@ -14,7 +14,7 @@ use std::fs::File;
 use std::rt::Files;
 use std::thread::Threads;
 
-/// The answer to what a command line asks, whole.
+/// The whole answer to what a command line asks.
 pub(crate) fn answer_to<T: Files + Threads + Sync>(
     rt: &T,
     alloc: Global,
@@ -45,7 +45,7 @@ fn about_file<T: Files + Threads + Sync>(
     file_text(rt, alloc, &image, weak)
 }
 
-/// What the object with an address is, and why it is there.
+/// What the object with an address is, and what keeps it.
 fn about_object<T: Files>(
     rt: &T,
     alloc: Global,

@@ -4,12 +4,12 @@ use clap::{Arg, ArgAction, Command, Error, value_parser};
 use sqz_trace::Weak;
 use std::alloc::{AllocError, Global};
 
-/// What is asked about an image. Addresses are as the words of the command line spell them.
+/// What is asked about an image. An address is the word of the command line that spells it.
 #[derive(Clone, Copy)]
 pub(crate) enum Question<'a> {
     /// What the file holds.
     File,
-    /// What the object with an address is, and why it is there.
+    /// What the object with an address is, and what keeps it.
     Object(&'a str),
     /// Which live objects the class with an address has.
     Class(&'a str),
@@ -27,7 +27,7 @@ pub(crate) struct Arguments<'a> {
 
 /// Reads the words of a command line, of which the first is the program's name.
 ///
-/// Fails with what is to be printed: the help, where it was asked for, or what is wrong.
+/// Fails with the text to print: the help if it was asked for, or what is wrong with the words.
 pub(crate) fn read_arguments<'a>(
     alloc: Global,
     words: &'a [String],
@@ -38,12 +38,8 @@ pub(crate) fn read_arguments<'a>(
         (None, Some(object)) => Question::Object(object),
         (None, None) => Question::File,
     };
-    let weak = if matches.get_flag("clear-weak") {
-        Weak::Clear
-    } else {
-        Weak::Keep
-    };
-    // words without the path of the image are refused before
+    let weak = Weak::clear_if(matches.get_flag("clear-weak"));
+    // words without the path of the image were rejected above
     let input = matches.get_str("IN").unwrap_or("");
     Ok(Arguments {
         input,
@@ -62,7 +58,7 @@ fn command<'a>(alloc: Global) -> Result<Command<'a>, AllocError> {
         .arg(clear_weak(alloc))
 }
 
-/// The path of the image, which has to be there.
+/// The path of the image, which is required.
 fn input<'a>(alloc: Global) -> Arg<'a> {
     Arg::new(alloc, "IN")
         .help("The image to look into")
@@ -77,7 +73,7 @@ fn object<'a>(alloc: Global) -> Arg<'a> {
         .action(ArgAction::Set)
 }
 
-/// The option for a class, which goes without an object.
+/// The option for a class, which excludes the address of an object.
 fn class<'a>(alloc: Global) -> Result<Arg<'a>, AllocError> {
     Arg::new(alloc, "class")
         .long("class")
@@ -87,7 +83,7 @@ fn class<'a>(alloc: Global) -> Result<Arg<'a>, AllocError> {
         .conflicts_with("ADDRESS")
 }
 
-/// The option to let go of what weak slots name.
+/// The option to clear weak slots.
 fn clear_weak<'a>(alloc: Global) -> Arg<'a> {
     Arg::new(alloc, "clear-weak")
         .long("clear-weak")

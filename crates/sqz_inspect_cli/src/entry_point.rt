@@ -16,11 +16,10 @@ use std::thread::Threads;
 /// The length in bytes of the line for an address that no object has.
 const NO_OBJECT: usize = 22;
 
-/// Answers the question that a command line asks about an image, and answers what the program is to
-/// end with: 0 where the answer was printed, 1 where the image is at fault or has no object at the
-/// address, 2 where the words are, 3 where a file could not be read or the answer not printed, and
-/// 4 where memory was refused. The first word is the program's name; `out` and `err` stand for
-/// standard output and standard error.
+/// Answers the question that a command line asks about an image, and returns the exit: 0 if the
+/// answer was printed, 1 if the image is at fault or has no object at the address, 2 if the words
+/// are wrong, 3 if a file could not be read or the answer not printed, and 4 if out of memory. The
+/// first word is the program's name; `out` and `err` stand for standard output and standard error.
 ///
 /// Nothing is printed on `out` before the whole answer is known. A fault is printed as one line on
 /// `err`.
@@ -45,7 +44,7 @@ pub fn look<T: Files + Threads + Sync, C: Sink, E: Sink>(
     }
 }
 
-/// Prints an answer, and answers what the program is to end with.
+/// Prints an answer, and returns the exit.
 fn print_answer<C: Sink, E: Sink>(answer: &[u8], out: &mut C, err: &mut E) -> u8
     ensures exit { (result ≡ 0) ⊎ (result ≡ 3) }
     ensures whole { result ≡ 0 → WritesWhole (C.state out.old) (C.state out.new) answer.now }
@@ -57,7 +56,7 @@ fn print_answer<C: Sink, E: Sink>(answer: &[u8], out: &mut C, err: &mut E) -> u8
     }
 }
 
-/// Prints why there is no answer, and answers what the program is to end with.
+/// Prints why there is no answer, and returns the exit.
 fn explain_refusal<E: Sink>(refusal: Refusal, err: &mut E) -> u8
     ensures exits { result ≤ 4 }
     ensures refused { 0 < result }

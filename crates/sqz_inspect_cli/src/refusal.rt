@@ -6,9 +6,9 @@ use std::alloc::AllocError;
 /// Why a question has no answer.
 #[derive(Clone, Copy, Debug)]
 pub(crate) enum Refusal {
-    /// The image could not be read, or is none, or memory was refused.
+    /// The image could not be read or is not valid, or memory ran out.
     Faulty(Fault),
-    /// A word of the command line is no address.
+    /// A word of the command line spells no address.
     NoAddress,
     /// No object has this address.
     NoObject(u32),

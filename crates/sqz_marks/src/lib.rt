@@ -30,15 +30,18 @@
 #![tactic(auto)]
 
 mod claim;
+mod closed;
 pub mod laws;
 mod pass;
 mod plays;
+mod sharing;
 mod table;
 mod view;
 mod workers;
 
 pub use claim::Claim;
+pub use closed::Closed;
 pub use pass::Pass;
-pub use table::{Closed, MarkTable};
+pub use table::MarkTable;
 pub use view::View;
 pub use workers::Workers;

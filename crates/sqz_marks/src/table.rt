@@ -6,12 +6,11 @@
 //! `Brand` (in `proofs/`). Only the contract reads the argument with that number, so the body has
 //! `let _ = object;`.
 
-ghost use Rattle.std.specs.Prelude.{◌≡◌, ◌≢◌, ℕ, ◌+◌, ◌*◌, ◌^◌, ◌<◌, ◌≤◌, [], length, map, take};
-ghost use Rattle.std.specs.Prelude.{sum, slice_index, Some, IfOk, IfErr};
-ghost use Rattle.std.specs.Slots.{slots_items, slots_len, IsFull};
+ghost use Rattle.std.specs.Prelude.{◌≡◌, ◌≢◌, ℕ, ◌+◌, ◌*◌, ◌^◌, ◌<◌, ◌≤◌, length};
+ghost use Rattle.std.specs.Prelude.{sum, Some, IfOk, IfErr};
 ghost use Rattle.sqz_image.specs.declared.fault.Fault.TheVariants.{OutOfMemory};
 ghost use Rattle.sqz_image.specs.Objects.{object_count, chunk_words};
-ghost use Rattle.sqz_trace.specs.declared.shades.Shade.TheVariants.{White, Grey, Black};
+ghost use Rattle.sqz_trace.specs.declared.shades.Shade.TheVariants.{White, Black};
 ghost use Rattle.sqz_trace.specs.Edges.{out_edges, edge_target, strong_target, HasEdge};
 ghost use Rattle.sqz_trace.specs.Shades.{marks_of};
 ghost use Rattle.sqz_regions.specs.Bases.{AreSums};
@@ -19,12 +18,13 @@ ghost use Rattle.sqz_regions.specs.Places.{live_words};
 ghost use Rattle.sqz_regions.specs.Regions.{region_at, region_count};
 ghost use Rattle.sqz_marks.specs.declared.claim.Claim.TheVariants.{Won};
 ghost use Rattle.sqz_marks.specs.Core.{times, HasWon, HasSeen, HasBlackened, first_view, looked};
-ghost use Rattle.sqz_marks.specs.Core.{counted, blackened, kept_of, part_of, joined};
+ghost use Rattle.sqz_marks.specs.Core.{counted, blackened};
 ghost use Rattle.sqz_marks.specs.Table.{IsPassOf, knowing, KeepsSeen, IsNewTo, HasCountedAll};
 ghost use Rattle.sqz_marks.specs.Table.{AreEdgesOfSeen, start_of, shade_of, AreClosed};
 ghost use Rattle.sqz_marks.specs.Claims.{IsClaim};
 
 use crate::claim::Claim;
+use crate::closed::{Closed, read_shades, read_sums, shade_of};
 use crate::pass::Pass;
 use crate::plays::{
     Blacken, Claiming, CountedObject, Counting, Joining, Key, Look, MarkingRule, Parting, Share,
@@ -51,7 +51,7 @@ pub struct MarkTable<'a> {
     regions: &'a Regions<'a>,
     weak: Weak,
     workers: Workers,
-    table: Table<(), View, Key<'a>, MarkingRule, Global>,
+    pub(crate) table: Table<(), View, Key<'a>, MarkingRule, Global>,
 }
 
 impl<'a> Model for MarkTable<'a> {
@@ -77,15 +77,6 @@ impl<'a> Model for MarkTable<'a> {
         × (marks.table.shared.table_id.slots ≡ 0)
         × (find marks.regions.now.memory marks.regions.now.memory.special
         ≡ Some (start_of marks.regions.now.memory)) };
-}
-
-/// What is left of a mark table when marking is complete.
-#[derive(Drop)]
-pub struct Closed {
-    /// The shade of each object, as `finish` takes them.
-    pub shades: Shades,
-    /// For each region, the total length of its marked objects' chunks in words.
-    pub live_words: Vec<u32>,
 }
 
 impl<'a> MarkTable<'a> {
@@ -236,62 +227,6 @@ impl<'a> MarkTable<'a> {
             .fetch_max::<Blacken>(&mut pass.seat, object as usize, 2);
     }
 
-    /// Gives part of the pass's weight to a new pass, which knows nothing.
-    pub fn split_off(&self, pass: &mut Pass, weight: u32) -> Pass
-        requires of { IsPassOf self.now pass.old }
-        requires positive { 1 ≤ weight }
-        requires rest { weight < pass.old.view.weight }
-        ensures kept { pass.new ≡ knowing pass.old (kept_of weight pass.old.view) }
-        ensures part { result ≡ knowing pass.old (part_of weight) }
-    {
-        let seat = self.part::<Brand>(&mut pass.seat, weight);
-        pass.weight -= weight;
-        Pass {
-            seat,
-            weight,
-            workers: pass.workers,
-        }
-    }
-
-    /// Splits a pass in two: the first keeps what it knows and the rest of the weight, the second
-    /// has this weight and knows nothing.
-    pub fn split(&self, mut pass: Pass, weight: u32) -> (Pass, Pass)
-        requires of { IsPassOf self.now pass }
-        requires positive { 1 ≤ weight }
-        requires rest { weight < pass.view.weight }
-        ensures kept { result.0 ≡ knowing pass (kept_of weight pass.view) }
-        ensures part { result.1 ≡ knowing pass (part_of weight) }
-    {
-        let part = self.split_off(&mut pass, weight);
-        (pass, part)
-    }
-
-    /// Takes in another pass: what it knows, and its weight.
-    pub fn join_into(&self, pass: &mut Pass, other: Pass)
-        requires of { IsPassOf self.now pass.old }
-        requires other { IsPassOf self.now other }
-        ensures joined { pass.new ≡ knowing pass.old (joined pass.old.view other.view) }
-    {
-        let Pass {
-            seat,
-            weight,
-            workers: _,
-        } = other;
-        self.table.shared.join_seat::<Joining>(&mut pass.seat, seat);
-        self.table.shared.load::<Weigh>(&mut pass.seat, 0);
-        pass.weight += weight;
-    }
-
-    /// Joins two passes into one, which knows what both know and has the weight of both.
-    pub fn join(&self, mut pass: Pass, other: Pass) -> Pass
-        requires of { IsPassOf self.now pass }
-        requires other { IsPassOf self.now other }
-        ensures joined { result ≡ knowing pass (joined pass.view other.view) }
-    {
-        self.join_into(&mut pass, other);
-        pass
-    }
-
     /// Ends the marking. The pass is the share of all workers, and has counted every object that
     /// it won. Returns the shades, and the sums of the regions; from the heap's base on, all these
     /// words fit below 2^32, as `bases` requires. Fails only if out of memory; it then returns the
@@ -361,56 +296,5 @@ impl<'a> MarkTable<'a> {
         self.table
             .shared
             .fetch_add::<Counting<O>>(seat, word, u64::from(words));
-    }
-
-    /// Returns the seat of a new pass with this weight.
-    fn part<W: Share>(&self, seat: &mut Seat<(), View>, weight: u32) -> Seat<(), View>
-        requires of { seat.old.table_id ≡ self.now.table }
-        requires weight { weight ≡ W.weight }
-        requires positive { 1 ≤ weight }
-        requires rest { weight < seat.old.me.0.weight }
-        ensures kept { (seat.new.table_id ≡ seat.old.table_id)
-            × (seat.new.me ≡ (kept_of weight seat.old.me.0, seat.old.me.1)) }
-        ensures part { (result.table_id ≡ seat.old.table_id) × (result.me ≡ (part_of weight, [])) }
-    {
-        let _ = weight;
-        self.table.shared.split_seat::<Parting<W>>(seat)
-    }
-}
-
-/// Returns the shade that a word encodes.
-fn shade_of(word: u64) -> Shade
-    ensures { result ≡ shade_of word }
-{
-    match word {
-        0 => Shade::White,
-        1 => Shade::Grey,
-        _ => Shade::Black,
-    }
-}
-
-/// Stores the shade that each object's word encodes.
-fn read_shades(closed: &atomic_table::Closed<(), Global>, shades: &mut [Shade])
-    requires inside { length shades.old ≤ slots_len closed.now.words }
-    requires full { IsFull closed.now.words }
-    ensures { shades.new ≡ map shade_of (take (length shades.old) (slots_items closed.now.words)) }
-{
-    for object in 0..shades.len() {
-        shades[object] = shade_of(closed.word(object));
-    }
-}
-
-/// Stores the sum that each region's word holds. `first` is the index of the first of these words.
-fn read_sums(closed: &atomic_table::Closed<(), Global>, first: usize, sums: &mut [u32])
-    requires inside { first + length sums.old ≤ slots_len closed.now.words }
-    requires full { IsFull closed.now.words }
-    requires few { (region : ℕ) → region < length sums.old
-        → slice_index (slots_items closed.now.words) (first + region) < 2 ^ 30 }
-    ensures sized { length sums.new ≡ length sums.old }
-    ensures read { (region : ℕ) → region < length sums.old → slice_index sums.new region
-        ≡ slice_index (slots_items closed.now.words) (first + region) }
-{
-    for region in 0..sums.len() {
-        sums[region] = closed.word(first + region) as u32;
     }
 }

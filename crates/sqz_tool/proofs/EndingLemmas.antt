@@ -13,7 +13,7 @@ use Rattle.sqz_tool.specs.Endings.{AsksFor, EndsWhole, EndsRefused, MayStopEarly
 use Rattle.sqz_cli.specs.Exits.{exit_of, exit_of_number}
 use Rattle.sqz_tool.specs.FileRuns.{Views, CompactsFiles, StopsFiles}
 use Rattle.sqz_cli.specs.Lines.{PrintsFault}
-use Rattle.sqz_tool.specs.Plans.{weak_of}
+use Rattle.sqz_trace.specs.WeakSlots.{weak_of}
 
 -- no fault ends the program as done
 exit_of_number-some : (number : ℕ) → 0 < exit_of_number number

@@ -10,7 +10,8 @@ use Rattle.sqz_compact_args.specs.CommandLine.{command_line}
 use Rattle.sqz_cli.specs.Exits.{exit_of}
 use Rattle.sqz_tool.specs.FileRuns.{Views, CompactsFiles, RefusesFiles}
 use Rattle.sqz_cli.specs.Lines.{PrintsFault}
-use Rattle.sqz_tool.specs.Plans.{weak_of, AsksToClear, AsksForCensus}
+use Rattle.sqz_tool.specs.Plans.{AsksToClear, AsksForCensus}
+use Rattle.sqz_trace.specs.WeakSlots.{weak_of}
 
 -- the words are accepted
 abbrev pub AreTaken : List Text → Type 0

@@ -1,9 +1,7 @@
 -- Which numbers are valid in a plan, and what the words of a command line ask for.
-use Rattle.std.specs.Prelude.{◌≡◌, ℕ, ◌^◌, ◌≤◌, Bool, true, false, List, Option, Some, None, codes}
+use Rattle.std.specs.Prelude.{◌≡◌, ℕ, ◌^◌, ◌≤◌, List, Option, Some, None, codes}
 use Rattle.std.specs.Str.Parse.{digits_value, without_leading_plus}
 use Rattle.clap.specs.Words.{Row, Text, one_of}
-use Rattle.sqz_trace.specs.declared.weak.Weak.{Weak}
-use Rattle.sqz_trace.specs.declared.weak.Weak.TheVariants.{Keep, Clear}
 
 -- the valid numbers of workers
 abbrev pub IsWorkers : ℕ → Type 0
@@ -21,11 +19,6 @@ number_in None = 0
 -- the words ask for a valid number of workers and a valid size of a region
 abbrev pub AsksForPlan : List Row → Type 0
 AsksForPlan rows = IsWorkers (number_in (one_of (codes "workers") rows)) × IsRegion (number_in (one_of (codes "region-words") rows))
-
--- the policy on weak slots, by whether they are to be cleared
-abbrev pub weak_of : Bool → Weak
-weak_of true = Clear
-weak_of false = Keep
 
 -- the words ask for weak slots to be cleared
 abbrev pub AsksToClear : List Row → Type 0

@@ -3,7 +3,8 @@
 ghost use Rattle.std.specs.Prelude.{◌≡◌, ◌≢◌, ◌⊎◌, ◌↔◌, false, IfOk, IfErr};
 ghost use Rattle.sqz_image.specs.declared.fault.Fault.TheVariants.{WriteFailed, BadWorkers, BadCut};
 ghost use Rattle.sqz_tool.specs.FileRuns.{CompactsFiles, StopsFiles};
-ghost use Rattle.sqz_tool.specs.Plans.{IsWorkers, IsRegion, weak_of};
+ghost use Rattle.sqz_tool.specs.Plans.{IsWorkers, IsRegion};
+ghost use Rattle.sqz_trace.specs.WeakSlots.{weak_of};
 
 use crate::opened::Opened;
 use crate::summary::Summary;

@@ -6,7 +6,8 @@ ghost use Rattle.sqz_image.specs.Devices.{new_source};
 ghost use Rattle.sqz_regions.specs.Regions.{Every};
 ghost use Rattle.sqz_cli.specs.OutputFiles.{new_output};
 ghost use Rattle.sqz_tool.specs.Headline.{Compacts, Refuses, sinks};
-ghost use Rattle.sqz_tool.specs.Plans.{IsWorkers, IsRegion, weak_of};
+ghost use Rattle.sqz_tool.specs.Plans.{IsWorkers, IsRegion};
+ghost use Rattle.sqz_trace.specs.WeakSlots.{weak_of};
 
 use crate::plan::Plan;
 use crate::running::run;

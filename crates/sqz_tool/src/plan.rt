@@ -3,7 +3,8 @@
 ghost use Rattle.std.specs.Prelude.{◌≡◌, ◌⊎◌, IfOk, IfErr};
 ghost use Rattle.sqz_image.specs.declared.fault.Fault.TheVariants.{BadWorkers, BadCut};
 ghost use Rattle.sqz_regions.specs.Regions.{Every};
-ghost use Rattle.sqz_tool.specs.Plans.{IsWorkers, IsRegion, weak_of};
+ghost use Rattle.sqz_tool.specs.Plans.{IsWorkers, IsRegion};
+ghost use Rattle.sqz_trace.specs.WeakSlots.{weak_of};
 
 use sqz_compact_args::Arguments;
 use sqz_image::Fault;
@@ -45,11 +46,7 @@ impl Plan {
         Ok(Plan {
             workers: Workers::new(arguments.workers)?,
             cut: Cut::every(arguments.region_words)?,
-            weak: if arguments.clear_weak {
-                Weak::Clear
-            } else {
-                Weak::Keep
-            },
+            weak: Weak::clear_if(arguments.clear_weak),
             census: arguments.census,
         })
     }

@@ -11,3 +11,4 @@ pub mod Defects
 pub mod Ranges
 pub mod Shades
 pub mod Greying
+pub mod WeakSlots

@@ -1,19 +1,19 @@
-//! Lines of facts.
+//! A report: lines of text, each with a name and a value.
 
 use std::alloc::{AllocError, Global};
 use std::fmt::Display;
 
-/// Text of lines, each with a name, in 16 places, and a value.
+/// Text of lines. Each has a name, left-aligned in 16 places, and a value.
 #[derive(Drop)]
-pub(crate) struct Facts {
+pub(crate) struct Report {
     alloc: Global,
     text: Vec<u8>,
 }
 
-impl Facts {
-    /// No line.
-    pub(crate) fn new(alloc: Global) -> Facts {
-        Facts {
+impl Report {
+    /// A report without lines.
+    pub(crate) fn new(alloc: Global) -> Report {
+        Report {
             alloc,
             text: Vec::new(alloc),
         }

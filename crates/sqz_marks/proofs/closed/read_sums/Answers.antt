@@ -3,8 +3,8 @@ use Rattle.std.proofs.lemmas.Bool.{cases_eq}
 use Rattle.std.proofs.lemmas.List.{get_or-set_same, get_or-set_other, length-set}
 use Rattle.std.specs.Slots.{slots_items}
 use Rattle.sqz_marks.proofs.StepLemmas.{item_at}
-use Rattle.sqz_marks.proofs.table.read_sums.Goals as goal
-use Rattle.sqz_marks.proofs.table.read_sums.Goals.{After-word}
+use Rattle.sqz_marks.proofs.closed.read_sums.Goals as goal
+use Rattle.sqz_marks.proofs.closed.read_sums.Goals.{After-word}
 
 -- the word that was read is the region's
 word_is : (c : After-word) → get_or (slots_items c.args.closed.now.words) (c.args.first + c.loop-region.region) 0 ≡ c.word.result

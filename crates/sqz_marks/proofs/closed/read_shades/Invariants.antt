@@ -2,7 +2,7 @@ use Rattle.std.proofs.Common.{◌≡◌, ℕ, ◌<◌, length, get_or}
 use Rattle.std.specs.Slots.{slots_items}
 use Rattle.sqz_trace.specs.declared.shades.Shade.TheVariants.{White}
 use Rattle.sqz_marks.specs.Table.{shade_of}
-use Rattle.sqz_marks.proofs.table.read_shades.Given as goal
+use Rattle.sqz_marks.proofs.closed.read_shades.Given as goal
 
 abbrev pub invariant-loop-object : goal.invariant-loop-object
 invariant-loop-object l =

@@ -1,6 +1,6 @@
 use Rattle.std.proofs.Common.{◌≡◌, ℕ, ◌+◌, ◌<◌, length, get_or}
 use Rattle.std.specs.Slots.{slots_items}
-use Rattle.sqz_marks.proofs.table.read_sums.Given as goal
+use Rattle.sqz_marks.proofs.closed.read_sums.Given as goal
 
 abbrev pub invariant-loop-region : goal.invariant-loop-region
 invariant-loop-region l =

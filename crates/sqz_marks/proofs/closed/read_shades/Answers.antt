@@ -6,7 +6,7 @@ use Rattle.std.specs.Slots.{slots_items, slots_counts}
 use Rattle.sqz_trace.specs.declared.shades.Shade.TheVariants.{White}
 use Rattle.sqz_marks.specs.Table.{shade_of}
 use Rattle.sqz_marks.proofs.StepLemmas.{item_at}
-use Rattle.sqz_marks.proofs.table.read_shades.Goals as goal
+use Rattle.sqz_marks.proofs.closed.read_shades.Goals as goal
 
 pub loop-object-preserved : goal.loop-object-preserved
 loop-object-preserved c =
