@@ -35,15 +35,10 @@ const BAD_ARGUMENTS: u8 = 2;
 
 /// Returns the plan that a command line asks for, with a census.
 fn plan_of(arguments: &Arguments<'_>) -> Result<Plan> {
-    let weak = if arguments.clear_weak {
-        Weak::Clear
-    } else {
-        Weak::Keep
-    };
     Ok(Plan {
         workers: Workers::new(arguments.workers)?,
         cut: Cut::every(arguments.region_words)?,
-        weak,
+        weak: Weak::clear_if(arguments.clear_weak),
         census: true,
     })
 }
