@@ -51,7 +51,8 @@ pub(crate) fn read_arguments<'a>(
 /// What the program takes.
 fn command<'a>(alloc: Global) -> Result<Command<'a>, AllocError> {
     Command::new(alloc, "sqzlook")
-        .about("Tells what an image holds, and why an object is in it. Version 1.0.0")
+        .version("1.0.0")
+        .about("Says what an image holds, and why an object is in it")
         .arg(input(alloc))?
         .arg(object(alloc))?
         .arg(class(alloc)?)?

@@ -6,8 +6,8 @@
 //! `Brand` (in `proofs/`). Only the contract reads the argument with that number, so the body has
 //! `let _ = object;`.
 
-ghost use Rattle.std.specs.Prelude.{◌≡◌, ◌≢◌, ℕ, ◌+◌, ◌*◌, ◌^◌, ◌<◌, ◌≤◌, length};
-ghost use Rattle.std.specs.Prelude.{sum, Some, IfOk, IfErr};
+ghost use Rattle.std.specs.Prelude.{◌≡◌, ◌≢◌, ℕ, ◌+◌, ◌*◌, ◌^◌, ◌<◌, ◌≤◌, length, sum, Some};
+ghost use Rattle.std.specs.Prelude.{IfOk, IfErr};
 ghost use Rattle.sqz_image.specs.declared.fault.Fault.TheVariants.{OutOfMemory};
 ghost use Rattle.sqz_image.specs.Objects.{object_count, chunk_words};
 ghost use Rattle.sqz_trace.specs.declared.shades.Shade.TheVariants.{White, Black};
@@ -26,10 +26,7 @@ ghost use Rattle.sqz_marks.specs.Claims.{IsClaim};
 use crate::claim::Claim;
 use crate::closed::{Closed, read_shades, read_sums, shade_of};
 use crate::pass::Pass;
-use crate::plays::{
-    Blacken, Claiming, CountedObject, Counting, Joining, Key, Look, MarkingRule, Parting, Share,
-    Weigh,
-};
+use crate::plays::{Blacken, Claiming, CountedObject, Counting, Key, Look, MarkingRule};
 use crate::view::View;
 use crate::workers::Workers;
 use atomic_table::{Seat, Table};
@@ -37,7 +34,7 @@ use sqz_image::laws::heap_bounds;
 use sqz_image::{Fault, Heap, Slot};
 use sqz_object::ObjectIndex;
 use sqz_regions::Regions;
-use sqz_trace::{OutEdges, Shade, Shades, Weak};
+use sqz_trace::{OutEdges, Shade, Weak};
 use std::alloc::Global;
 use std::marker::{Brand, Model};
 use std::snapshot::Snapshot;
