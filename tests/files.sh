@@ -476,8 +476,14 @@ helps() {
   run --help
   [ "$status" -eq 0 ] && [ ! -s said ] && grep -q '^ *--workers <N> .*\[default: 4\]$' printed \
     && grep -q '^ *--region-words <N> .*\[default: 65536\]$' printed && grep -q '^ *--census ' printed \
-    && grep -q '^ *--clear-weak .*Let go of what only weak references name' printed \
-    && head -n 1 printed | grep -q ' Version [0-9]*\.[0-9]*\.[0-9]*$'
+    && grep -q '^ *--clear-weak .*Let go of what only weak references name' printed
+}
+
+# The version is one line, on standard output.
+tells_its_version() {
+  run --version
+  [ "$status" -eq 0 ] && [ ! -s said ] && grep -q '^sqzcompact [0-9]*\.[0-9]*\.[0-9]*$' printed \
+    && [ "$(wc -l <printed)" -eq 1 ]
 }
 
 if ! "$root/sqzcompact" --help >printed; then
@@ -578,6 +584,7 @@ case_of 'refuses regions of no words' refuses_number "$image" "$cut" --region-wo
 case_of 'refuses regions of more than 2^30 words' refuses_number "$image" "$cut" --region-words 1073741825 --census
 case_of 'takes the largest numbers' compacts "$image" "$answer" --workers 64 --region-words 1073741824
 case_of 'helps' helps
+case_of "tells its version" tells_its_version
 case_of 'compacts from a pipe' compacts_from_pipe "$image" "$answer"
 case_of 'compacts between pipes' compacts_between_pipes "$image" "$answer"
 case_of 'keeps the mode of a file that is there' keeps_mode "$image" "$answer"
