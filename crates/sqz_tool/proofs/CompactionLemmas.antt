@@ -1,5 +1,5 @@
 -- What is written of an image, and its numbers.
--- Serves `compaction::moved`, `CorrespondenceLemmas` and `FixedPointLemmas`.
+-- Serves `compaction::move_live_objects`, `CorrespondenceLemmas` and `FixedPointLemmas`.
 use Rattle.std.proofs.Common.{◌≡◌, ℕ, ◌*◌, ◌^◌, ◌<◌, Bool, true, List, [], ◌++◌, length, slice_index_or, Option, Some}
 use Rattle.std.proofs.Common.{None, refl, sym, ap, subst, ◌∙◌}
 use Rattle.std.specs.List.{concat, AllByRecursion}

@@ -61,7 +61,7 @@ pub(crate) fn compaction_of<T: Threads + Sync, G: Gate, O: StageObserver>(
     let regions = Regions::of(session.alloc, heap, &plan.cut)?;
     session.observer.finished(Stage::Cut);
     let marked = sound_marks(session, plan, image, &regions)?;
-    moved(session, plan, image, &regions, &marked)
+    move_live_objects(session, plan, image, &regions, &marked)
 }
 
 /// Returns the result of marking. Fails with the defect of the lowest reachable object that has
@@ -107,7 +107,7 @@ fn sound_marks<T: Threads + Sync, G: Gate, O: StageObserver>(
 
 /// Returns the compaction of an image; `marked` is the result of marking it. Fails only if out of
 /// memory.
-fn moved<T: Threads + Sync, G: Gate, O: StageObserver>(
+fn move_live_objects<T: Threads + Sync, G: Gate, O: StageObserver>(
     session: &mut Session<'_, T, G, O>,
     plan: &Plan,
     image: &Image,

@@ -4,7 +4,7 @@ use Rattle.sqz_image.specs.Objects.{object_count}
 use Rattle.sqz_regions.proofs.PlaceLemmas.{length-live}
 use Rattle.sqz_regions.proofs.SumLemmas.{live_words-le-words}
 use Rattle.sqz_tool.proofs.CompactionLemmas.{bytes_are, few_words, place_of_special, same_summary}
-use Rattle.sqz_tool.proofs.compaction.moved.Goals as goal
+use Rattle.sqz_tool.proofs.compaction.move_live_objects.Goals as goal
 
 pub unwrap-special-requires : goal.unwrap-special-requires
 unwrap-special-requires g c =
