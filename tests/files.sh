@@ -476,7 +476,7 @@ helps() {
   run --help
   [ "$status" -eq 0 ] && [ ! -s said ] && grep -q '^ *--workers <N> .*\[default: 4\]$' printed \
     && grep -q '^ *--region-words <N> .*\[default: 65536\]$' printed && grep -q '^ *--census ' printed \
-    && grep -q '^ *--clear-weak .*Let go of what only weak references name' printed
+    && grep -q '^ *--clear-weak .*Clear weak references to objects that nothing else keeps' printed
 }
 
 # The version is one line, on standard output.

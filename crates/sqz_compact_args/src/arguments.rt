@@ -70,30 +70,25 @@ fn command<'a>(alloc: Global) -> Result<Command<'a>, AllocError>
 {
     Command::new(alloc, "sqzcompact")
         .version("1.0.0")
-        .about("Writes a Squeak image with its reachable objects alone")
-        .arg(required(alloc, "IN", "The image to read"))?
-        .arg(required(alloc, "OUT", "The image to write"))?
-        .arg(number(
+        .about("Write a Squeak image without its garbage")
+        .arg(required(alloc, "IN", "The image to read; may be /dev/stdin"))?
+        .arg(required(
             alloc,
-            "workers",
-            "4",
-            "How many workers mark and move objects, from 1 to 64",
+            "OUT",
+            "The image to write; may be /dev/stdout or /dev/null",
         ))?
+        .arg(number(alloc, "workers", "4", "Use N workers, from 1 to 64"))?
         .arg(number(
             alloc,
             "region-words",
             "65536",
-            "How many words a region has, up to 2^30; workers that move objects share regions out",
+            "Share regions of N words among the workers, from 1 to 2^30",
         ))?
-        .arg(flag(
-            alloc,
-            "census",
-            "Print how many objects each class has, and how many bytes",
-        ))?
+        .arg(flag(alloc, "census", "Print a class histogram"))?
         .arg(flag(
             alloc,
             "clear-weak",
-            "Let go of what only weak references name",
+            "Clear weak references to objects that nothing else keeps",
         ))
 }
 
