@@ -1,15 +1,15 @@
-//! What images are compacted to. Of others `NIL_ALONE` is left.
+//! What images are compacted to. Most others are compacted to `NIL_ALONE`.
 
-use super::chunks::Chunk::{Array, Classed, Short};
-use super::chunks::NIL;
+use super::chunks::Chunk::{Array, Classed, Fixed};
+use super::chunks::{LEAF, NIL};
 use super::images::{EMPTY, TestImage};
 
 /// What `DEAD_CYCLE` is compacted to.
 pub const DEAD_CYCLE_ANSWER: TestImage = TestImage {
     chunks: &[
         NIL,
-        Short(1, 1, &[0x100C]),
-        Short(1, 1, &[0x1004]),
+        Fixed(&[0x100C]),
+        Fixed(&[0x1004]),
         Array(&[0x1000, 0x1004]),
     ],
     special: 0x1014,
@@ -20,20 +20,30 @@ pub const DEAD_CYCLE_ANSWER: TestImage = TestImage {
 pub const CLASS_EDGE_ANSWER: TestImage = TestImage {
     chunks: &[
         NIL,
-        Short(1, 0, &[1]),
-        Classed(0x1004, 0, 1, &[1]),
+        LEAF,
+        Classed {
+            class: 0x1004,
+            compact: 0,
+            format: 1,
+            fields: &[1],
+        },
         Array(&[0x1000, 0x1010]),
     ],
     special: 0x1018,
     ..EMPTY
 };
 
-/// What is left of `WEAK_FIELDS` where weak slots are cleared. Data word 7 is the weak slot.
+/// What is left of `WEAK_FIELDS` if weak slots are cleared. Data word 7 is the weak slot.
 pub const WEAK_FIELDS_CLEARED: TestImage = TestImage {
     chunks: &[
         NIL,
-        Short(1, 1, &[1, 1, 0x405]),
-        Classed(0x1004, 0, 4, &[0x1000]),
+        Fixed(&[1, 1, 0x405]),
+        Classed {
+            class: 0x1004,
+            compact: 0,
+            format: 4,
+            fields: &[0x1000],
+        },
         Array(&[0x1000, 0x1018]),
     ],
     special: 0x1020,

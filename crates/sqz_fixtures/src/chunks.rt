@@ -5,33 +5,76 @@ ghost use Rattle.sqz_object.specs.Value.{base_of};
 
 use std::alloc::AllocError;
 
-/// A chunk: the parts of its header, and the words behind it. The size that the header states is
-/// counted.
+/// A chunk of a test image: the parts of its header, and the words after it. The size that the
+/// header states is computed from them.
 #[derive(Clone, Copy)]
 pub enum Chunk {
-    /// An object with a header of one word: its compact index, its format and its fields.
-    Short(u32, u32, &'static [u32]),
-    /// An array whose class the compact index 3 names, as most special objects arrays are: its
+    /// An object with a header of one word.
+    Short {
+        /// Its compact index.
+        compact: u32,
+        /// Its format.
+        format: u32,
+        /// The words of its fields.
+        fields: &'static [u32],
+    },
+    /// An object of compact index 1 and format 1, with a header of one word: the words of its
     /// fields.
+    Fixed(&'static [u32]),
+    /// An array of compact index 3 and format 2, as most special objects arrays are: the words of
+    /// its fields.
     Array(&'static [u32]),
-    /// An array of 29 fields, as a special objects array is that names the array of compact
-    /// classes: its first fields, and the last one, which does so. Those between hold the integer
-    /// 0.
-    LongArray(&'static [u32], u32),
-    /// An object with a header of two words: the address of its class, its compact index, its
-    /// format and its fields.
-    Classed(u32, u32, u32, &'static [u32]),
-    /// An object with a header of three words, whose base header states no size: the address of its
-    /// class, its compact index, its format, its first fields and the others.
-    Long(u32, u32, u32, &'static [u32], &'static [u32]),
-    /// A free chunk: the words behind its first.
+    /// An array of 29 fields, as a special objects array is that points to the array of compact
+    /// classes. The fields that are not given hold the integer 0.
+    LongArray {
+        /// The words of its first fields.
+        first: &'static [u32],
+        /// The word of its last field, which points to the array of compact classes.
+        last: u32,
+    },
+    /// An object with a header of two words.
+    Classed {
+        /// The address of its class.
+        class: u32,
+        /// Its compact index.
+        compact: u32,
+        /// Its format.
+        format: u32,
+        /// The words of its fields.
+        fields: &'static [u32],
+    },
+    /// An object with a header of three words, whose base header states no size.
+    Long {
+        /// The address of its class.
+        class: u32,
+        /// Its compact index.
+        compact: u32,
+        /// Its format.
+        format: u32,
+        /// The words of its first fields.
+        first: &'static [u32],
+        /// The words of its other fields.
+        others: &'static [u32],
+    },
+    /// A free chunk: the words after its first.
     Free(&'static [u32]),
     /// Words as they are.
     Words(&'static [u32]),
 }
 
 /// An object without fields, which is nil at the front of an image.
-pub const NIL: Chunk = Chunk::Short(1, 0, &[]);
+pub const NIL: Chunk = Chunk::Short {
+    compact: 1,
+    format: 0,
+    fields: &[],
+};
+
+/// An object with one field, the integer 0: it points to no object.
+pub const LEAF: Chunk = Chunk::Short {
+    compact: 1,
+    format: 0,
+    fields: &[1],
+};
 
 /// A word that is neither an integer nor an address.
 pub const ODD: u32 = 0xFFFF_FFFE;
@@ -48,8 +91,8 @@ const OF_FREE: u32 = 2;
 /// The type of a header's only word.
 const OF_ONE: u32 = 3;
 
-/// The base header that states this, and a hash of 0. Of each part those bits count for which there
-/// is room.
+/// The base header with these parts and a hash of 0. The bits of a part for which there is no room
+/// are dropped.
 fn base_header(kind: u32, compact: u32, format: u32, size: u32) -> u32
     requires { kind < 4 }
     ensures { base_of result ≡ record {
@@ -63,7 +106,7 @@ fn base_header(kind: u32, compact: u32, format: u32, size: u32) -> u32
     kind + size % 64 * 4 + format % 16 * 256 + compact % 32 * 4096
 }
 
-/// How many words there are; of more than 999, which no image of a test has, that many.
+/// The number of words. It is at most 999, which no test image exceeds.
 pub(crate) fn count_of(words: &[u32]) -> u32
     ensures { result < 1000 }
 {
@@ -95,15 +138,31 @@ fn put_long_array(words: &mut Vec<u32>, first: &[u32], last: u32) -> Result<(), 
 /// Puts the words of a chunk at the end of words.
 pub(crate) fn put_chunk(words: &mut Vec<u32>, chunk: &Chunk) -> Result<(), AllocError> {
     match *chunk {
-        Chunk::Short(compact, format, fields) => put_short(words, compact, format, fields),
+        Chunk::Short {
+            compact,
+            format,
+            fields,
+        } => put_short(words, compact, format, fields),
+        Chunk::Fixed(fields) => put_short(words, 1, 1, fields),
         Chunk::Array(fields) => put_short(words, 3, 2, fields),
-        Chunk::LongArray(first, last) => put_long_array(words, first, last),
-        Chunk::Classed(class, compact, format, fields) => {
+        Chunk::LongArray { first, last } => put_long_array(words, first, last),
+        Chunk::Classed {
+            class,
+            compact,
+            format,
+            fields,
+        } => {
             let base = base_header(OF_TWO, compact, format, 1 + count_of(fields));
             words.extend_from_slice(&[class | OF_TWO, base])?;
             words.extend_from_slice(fields)
         }
-        Chunk::Long(class, compact, format, first, others) => {
+        Chunk::Long {
+            class,
+            compact,
+            format,
+            first,
+            others,
+        } => {
             let size = 4 * (1 + count_of(first) + count_of(others));
             let base = base_header(OF_THREE, compact, format, 0);
             words.extend_from_slice(&[size, class, base])?;

@@ -1,4 +1,4 @@
-//! A small image as people know it.
+//! A small image as Smalltalk programmers know it.
 
 use super::chunks::Chunk::Words;
 use super::images::{EMPTY, TestImage};

@@ -1,4 +1,4 @@
-//! Files of images, and the images in them.
+//! The files of test images, and the images read from them.
 
 use super::chunks::count_of;
 use super::images::{TestImage, words_of};
@@ -14,8 +14,8 @@ pub fn put_words(file: &mut Vec<u8>, order: Order, words: &[u32]) -> Result<(), 
     Ok(())
 }
 
-/// Puts the header at the end of a file that says how many bytes the data have, at which address
-/// they begin, and at which the special objects array is.
+/// Puts a header at the end of a file: the size of the data in bytes, their base, and the address
+/// of the special objects array.
 pub fn put_header(
     file: &mut Vec<u8>,
     order: Order,
@@ -37,7 +37,7 @@ pub fn file_of(alloc: Global, image: &TestImage) -> Result<Vec<u8>, AllocError> 
     Ok(file)
 }
 
-/// The bytes of its file where words are in this order.
+/// The bytes of an image's file, with its words in this order.
 pub fn file_in(alloc: Global, order: Order, image: &TestImage) -> Result<Vec<u8>, AllocError> {
     file_of(alloc, &TestImage { order, ..*image })
 }

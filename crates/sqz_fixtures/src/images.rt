@@ -7,24 +7,32 @@ use super::with_weak_objects::WITH_WEAK_OBJECTS;
 use sqz_object::Order;
 use std::alloc::{AllocError, Global};
 
-/// An image: its byte order, the address of its first data word, its chunks, and the address of its
-/// special objects array. Where a data word is changed, it counts in place of the one that the
-/// chunks have there.
+/// A test image.
 #[derive(Clone, Copy)]
 pub struct TestImage {
+    /// Its byte order.
     pub order: Order,
+    /// The address of its first data word.
     pub base: u32,
+    /// Its chunks, in the order of their addresses.
     pub chunks: &'static [Chunk],
+    /// The address of its special objects array.
     pub special: u32,
+    /// The change that is made to its data words after the chunks, if any.
     pub changed: Option<Change>,
 }
 
-/// The number of a data word, counted from 0, and what it is changed to.
+/// A change of one data word.
 #[derive(Clone, Copy)]
-pub struct Change(pub usize, pub u32);
+pub struct Change {
+    /// The index of the data word.
+    pub index: usize,
+    /// Its new value.
+    pub word: u32,
+}
 
-/// No data words, in a little-endian file. They would have addresses from 0x1000 on, where the
-/// special objects array is sought.
+/// An image without data words, in a little-endian file. Its base and the address of its special
+/// objects array are 0x1000.
 pub const EMPTY: TestImage = TestImage {
     order: Order::Little,
     base: 0x1000,
@@ -34,14 +42,13 @@ pub const EMPTY: TestImage = TestImage {
 };
 
 /// The images of the folder `images/` that can be read, since a test cannot read that folder: those
-/// that are accepted, without weak objects and with some, and those of which an object has a
-/// defect.
+/// that are accepted, without and with weak objects, and those in which an object has a defect.
 pub const IMAGES: [&[TestImage]; 3] = [&ACCEPTED, &WITH_WEAK_OBJECTS, &WITH_DEFECTS];
 
-/// The image with this data word changed, and no other.
-pub const fn with_word(image: TestImage, number: usize, word: u32) -> TestImage {
+/// The image with the data word at `index` changed to `word`, and no other.
+pub const fn with_word(image: TestImage, index: usize, word: u32) -> TestImage {
     TestImage {
-        changed: Some(Change(number, word)),
+        changed: Some(Change { index, word }),
         ..image
     }
 }
@@ -52,10 +59,10 @@ pub fn words_of(alloc: Global, image: &TestImage) -> Result<Vec<u32>, AllocError
     for chunk in image.chunks {
         put_chunk(&mut words, chunk)?;
     }
-    if let Some(Change(number, changed)) = image.changed
-        && let Some(word) = words.get_mut(number)
+    if let Some(change) = image.changed
+        && let Some(word) = words.get_mut(change.index)
     {
-        *word = changed;
+        *word = change.word;
     }
     Ok(words)
 }

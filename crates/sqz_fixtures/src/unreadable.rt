@@ -1,10 +1,11 @@
-//! Images of which a chunk cannot be read, mostly the second, and images without a special objects
+//! Images with a chunk that cannot be read, mostly the second, and images without a special objects
 //! array.
 
-use super::accepted::{CLASS_EDGE, SPECIAL_ARRAY_ALONE};
+use super::accepted::SPECIAL_ARRAY_ALONE;
 use super::chunks::Chunk::{Array, Words};
 use super::chunks::NIL;
 use super::images::{Change, EMPTY, TestImage};
+use super::with_classes::CLASS_EDGE;
 
 /// A size of 0 in a base header.
 pub const ZERO_SIZE: TestImage = TestImage {
@@ -12,7 +13,7 @@ pub const ZERO_SIZE: TestImage = TestImage {
     ..EMPTY
 };
 
-/// A size of 0 in a base header behind a class word.
+/// A size of 0 in a base header after a class word.
 pub const ZERO_SIZE_OF_TWO: TestImage = TestImage {
     chunks: &[NIL, Words(&[0x1001, 0x101])],
     ..EMPTY
@@ -36,13 +37,13 @@ pub const MIXED_CLASS_HEADER: TestImage = TestImage {
     ..EMPTY
 };
 
-/// Three header words, of which the last has another type.
+/// Three header words, the last of another type.
 pub const MIXED_HEADER: TestImage = TestImage {
     chunks: &[NIL, Words(&[8, 0x1000, 0x20B, 1])],
     ..EMPTY
 };
 
-/// Three header words, of which the second has another type.
+/// Three header words, the second of another type.
 pub const MIXED_SECOND_HEADER: TestImage = TestImage {
     chunks: &[NIL, Words(&[8, 0x1001, 0x200, 1])],
     ..EMPTY
@@ -54,7 +55,7 @@ pub const MIXED_BEFORE_SIZE: TestImage = TestImage {
     ..EMPTY
 };
 
-/// They count before more words than there are.
+/// Header words that disagree count before a size that states more words than there are.
 pub const MIXED_BEFORE_OVERRUN: TestImage = TestImage {
     chunks: &[NIL, Words(&[0xC, 0x1000, 0x20B, 1])],
     ..EMPTY
@@ -90,25 +91,25 @@ pub const OVERRUN: TestImage = TestImage {
     ..EMPTY
 };
 
-/// A base header behind a class word does so.
+/// A base header after a class word states more words than there are.
 pub const OVERRUN_OF_TWO: TestImage = TestImage {
     chunks: &[NIL, Words(&[0x1001, 0x10D, 1])],
     ..EMPTY
 };
 
-/// A size word does so.
+/// A size word states more words than there are.
 pub const OVERRUN_OF_THREE: TestImage = TestImage {
     chunks: &[NIL, Words(&[0xC, 0x1000, 0x200, 1])],
     ..EMPTY
 };
 
-/// A free chunk does so.
+/// A free chunk states more words than there are.
 pub const FREE_OVERRUN: TestImage = TestImage {
     chunks: &[NIL, Words(&[0x12, 1])],
     ..EMPTY
 };
 
-/// Of two chunks that cannot be read the first counts.
+/// The first of two chunks that cannot be read counts.
 pub const FIRST_UNREADABLE_CHUNK: TestImage = TestImage {
     chunks: &[NIL, Array(&[1, 1]), Words(&[0x3203, 0x320F])],
     ..EMPTY
@@ -120,7 +121,7 @@ pub const UNREADABLE_BEFORE_SPECIAL: TestImage = TestImage {
     ..ZERO_SIZE
 };
 
-/// The address of the special objects array is behind the data.
+/// The address of the special objects array is after the data.
 pub const NO_OBJECT_AT_SPECIAL: TestImage = TestImage {
     special: 0x1004,
     ..SPECIAL_ARRAY_ALONE
@@ -129,6 +130,9 @@ pub const NO_OBJECT_AT_SPECIAL: TestImage = TestImage {
 /// At the address of the special objects array is a free chunk. A class word is at 0x1018.
 pub const FREE_CHUNK_AT_SPECIAL: TestImage = TestImage {
     special: 0x1004,
-    changed: Some(Change(1, 0xE)),
+    changed: Some(Change {
+        index: 1,
+        word: 0xE,
+    }),
     ..CLASS_EDGE
 };

@@ -1,15 +1,15 @@
-//! A call that is made again where it is refused memory.
+//! A call that is made again after an allocation failure.
 
 use std::test::Fail;
 
-/// Prints the name of a call that was refused memory.
+/// Prints the name of a call that ran out of memory.
 pub(crate) fn print_refused<R: Print>(rt: &R, name: &str) -> Result<(), Fail> {
     println!(rt; "refused: {name}")?;
     Ok(())
 }
 
-/// What a call gives, as the result of a function. Where it is refused memory it prints its name
-/// and is made again, with the same arguments.
+/// What a call returns, as the result of a function. If it runs out of memory, its name is printed
+/// and it is made again, with the same arguments.
 macro_rules! again {
     ($rt:expr, $name:literal, $call:expr) => {
         match $call {

@@ -1,4 +1,4 @@
-//! What a test takes of the dead cycle's image. A call that is refused memory is made again.
+//! What tests use of the dead cycle's image. A call that runs out of memory is made again.
 
 ghost use Rattle.std.specs.Prelude.{◌≡◌, IfOk};
 ghost use Rattle.sqz_image.specs.Objects.{object_count};

@@ -1,7 +1,7 @@
-//! The bytes of small files, made as the crate is built: a test under a library that refuses memory
-//! takes none for them.
+//! The bytes of small files, made when the crate is built, so that a test under allocation failures
+//! allocates nothing for them.
 
-/// The bytes of words, of which the lowest comes first.
+/// The bytes of words, lowest byte first.
 macro_rules! little_endian {
     ($($word:expr),* $(,)?) => {
         [$(
@@ -13,9 +13,9 @@ macro_rules! little_endian {
     };
 }
 
-/// The bytes of a little-endian file of objects with headers of one word, of which the first has
-/// the address 0x1000, and of which one is the special objects array. Of an object stand here its
-/// compact index, its format and its fields.
+/// The bytes of a little-endian file of objects with headers of one word. The first object has the
+/// address 0x1000, and one is the special objects array. An object is given by its compact index,
+/// its format and its fields.
 macro_rules! file_of {
     (special: $special:literal, $(Short($compact:literal, $format:literal, [$($field:literal),*])),* $(,)?) => {
         little_endian![

@@ -1,5 +1,5 @@
-//! Tests of public calls that are refused memory: each serves when it is made again. They are run
-//! under a library that refuses the process one request for memory; a call that was refused prints
+//! Tests of public calls that run out of memory: each succeeds when it is made again. They are run
+//! under a library that fails one allocation of the process; a call that runs out of memory prints
 //! its name.
 #![tactic(auto)]
 

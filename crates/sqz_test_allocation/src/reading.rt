@@ -1,4 +1,4 @@
-//! Reading a file and its image, and a sink, where memory is refused.
+//! Reading a file and its image, and a sink, under allocation failures.
 
 ghost use Rattle.std.specs.Prelude.{◌≡◌};
 ghost use Rattle.sqz_image.specs.Objects.{object_count};

@@ -1,4 +1,4 @@
-//! Images of which whole runs are made: the file of each, and what a run over it gives.
+//! Images that whole runs are tested on: the file of each, and what a run over it writes.
 
 use super::files::{file_of, little_endian};
 use sqz_tool::Summary;
@@ -19,7 +19,7 @@ const DEAD_CYCLE_CENSUS: &str = concat!(
     "         4           32 total\n",
 );
 
-/// Two dead objects name each other, and two live ones do so.
+/// Two dead objects point to each other, and so do two live ones.
 pub(crate) const DEAD_CYCLE: Row = Row {
     file: &file_of![
         special: 0x1024,
@@ -79,7 +79,7 @@ const CLASS_NAMES_CENSUS: &str = concat!(
     "         5          176 total\n",
 );
 
-/// A class with a name, of which nothing is dead.
+/// A class with a name. No object is dead.
 const CLASS_NAMES: Row = Row {
     file: &CLASS_NAMES_FILE,
     answer: &CLASS_NAMES_FILE,
@@ -92,7 +92,7 @@ const CLASS_NAMES: Row = Row {
     },
 };
 
-/// Its file. Of the special objects array the field 28 names the array of compact classes.
+/// Its file. Field 28 of the special objects array points to the array of compact classes.
 const CLASS_NAMES_FILE: [u8; 240] = file_of![
     special: 0x1038,
     Short(1, 0, []),

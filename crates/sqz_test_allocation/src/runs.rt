@@ -1,4 +1,4 @@
-//! A whole run, where memory is refused.
+//! A whole run, under allocation failures.
 
 use super::again::print_refused;
 use super::dead_cycle::{new_cut, new_sink};
@@ -25,8 +25,8 @@ fn run_once<R: Threads + Sync + AllocGlobal>(
     run(rt, rt.alloc(), plan, &mut source, sink, report, &OpenGate)
 }
 
-/// The same. Where it is refused memory it asserts that nothing was written, and is made again with
-/// a new source and the same sinks.
+/// A run over the dead cycle's file. After an allocation failure, asserts that nothing was written,
+/// and makes the run again with a new source and the same sinks.
 fn run_again<R: Threads + Sync + Abort + Print + AllocGlobal>(
     rt: &R,
     plan: &Plan,
@@ -43,7 +43,7 @@ fn run_again<R: Threads + Sync + Abort + Print + AllocGlobal>(
     }
 }
 
-/// Asserts what a run over an image by a plan answers and writes.
+/// Asserts what a run over an image by a plan returns and writes.
 fn assert_gives<R: Abort>(
     rt: &R,
     plan: &Plan,
@@ -58,7 +58,7 @@ fn assert_gives<R: Abort>(
     assert_eq!(rt; found, wanted, "{weak:?}");
 }
 
-/// Asserts what a run by a plan gives that is made again with the same sinks.
+/// Asserts what a run by a plan returns that is made again with the same sinks.
 fn assert_serves<R: Threads + Sync + Abort + Print + AllocGlobal>(
     rt: &R,
     plan: &Plan,
@@ -93,7 +93,7 @@ struct Devices {
     report: MemorySink,
 }
 
-/// The bytes of a file. Where they are refused memory it is asked for again.
+/// The bytes of a file. After an allocation failure, memory is asked for again.
 fn copy_of(alloc: Global, file: &[u8]) -> Result<Vec<u8>, AllocError> {
     match Vec::from_slice(alloc, file) {
         Ok(copy) => Ok(copy),
@@ -139,8 +139,8 @@ fn assert_runs<R: Threads + Sync + Abort + Print + AllocGlobal>(
     Ok(())
 }
 
-/// The same. Where the run is refused memory it asserts that nothing was written, and makes the run
-/// again over new devices.
+/// Asserts what a run over an image gives from and to new devices. After an allocation failure,
+/// asserts that nothing was written, and makes the run again over new devices.
 fn assert_row<R: Threads + Sync + Abort + Print + AllocGlobal>(
     rt: &R,
     plan: &Plan,

@@ -1,4 +1,4 @@
-//! The stages of a run over an image in memory, each called by itself, where memory is refused.
+//! The stages of a run over an image in memory, each called by itself, under allocation failures.
 
 ghost use Rattle.std.specs.Prelude.{◌≡◌, ◌+◌, ◌*◌, ◌^◌, ◌≤◌, length, sum, IfOk};
 ghost use Rattle.sqz_image.specs.Objects.{object_count};
@@ -28,7 +28,7 @@ const SUMS: [u32; 3] = [1, 2, 5];
 /// The first address of each region's live words.
 const BASES: [u64; 3] = [0x1000, 0x1004, 0x100C];
 
-/// Where the objects go.
+/// The new addresses of the objects.
 const PLACES: [Option<u32>; 6] = [
     Some(0x1000),
     Some(0x1004),
@@ -68,7 +68,7 @@ fn locked_marks<R: Threads + Wait + Sync + Print + AllocGlobal>(
     )
 }
 
-/// What workers that steal give.
+/// What marking by workers that steal returns.
 fn marked_by<R: Threads + Sync + Print + AllocGlobal>(
     rt: &R,
     heap: &Heap,
@@ -113,7 +113,7 @@ fn bases_of<R: Print + AllocGlobal>(rt: &R, base: u32, sums: &[u32]) -> Result<V
     again!(rt, "bases", bases(rt.alloc(), base, sums))
 }
 
-/// Where the marked objects go.
+/// The new addresses of the marked objects.
 fn places_of<R: Threads + Sync + Print + AllocGlobal>(
     rt: &R,
     heap: &Heap,
@@ -193,7 +193,7 @@ fn assert_marks<R: Abort>(rt: &R, marks: &Marks)
     }
 }
 
-/// Asserts where the objects go.
+/// Asserts the new addresses of the objects.
 fn assert_places<R: Abort>(rt: &R, forward: &Forward)
     requires { length forward.now ≡ 6 }
 {
@@ -221,7 +221,7 @@ fn assert_pieces<R: Abort>(rt: &R, pieces: &Pieces) {
     }
 }
 
-/// Asserts what workers that steal give.
+/// Asserts what marking by workers that steal returns.
 fn assert_stolen<R: Abort>(rt: &R, marked: &Marked)
     requires { length marked.now.marks ≡ 6 }
 {
@@ -230,7 +230,7 @@ fn assert_stolen<R: Abort>(rt: &R, marked: &Marked)
     assert_eq!(rt; marked.claims.len(), 2);
 }
 
-/// Asserts what the ways to mark give.
+/// Asserts what each way to mark returns.
 fn assert_marked<R: Threads + Wait + Sync + Abort + Print + AllocGlobal>(
     rt: &R,
     heap: &Heap,
@@ -246,7 +246,7 @@ fn assert_marked<R: Threads + Wait + Sync + Abort + Print + AllocGlobal>(
     Ok(())
 }
 
-/// Where the reachable objects go, of which it asserts what each stage up to there gives.
+/// The new addresses of the reachable objects. Asserts what each stage up to there returns.
 fn placed<R: Threads + Sync + Abort + Print + AllocGlobal>(
     rt: &R,
     heap: &Heap,
@@ -274,7 +274,7 @@ fn assert_census<R: Abort + Print + AllocGlobal>(rt: &R, rows: &[Row]) -> Result
     Ok(())
 }
 
-/// Asserts what the stages give that want to know where the marked objects go.
+/// Asserts what the stages return that need the new addresses of the marked objects.
 fn assert_last_stages<R: Threads + Sync + Abort + Print + AllocGlobal>(
     rt: &R,
     heap: &Heap,
@@ -292,7 +292,7 @@ fn assert_last_stages<R: Threads + Sync + Abort + Print + AllocGlobal>(
     assert_census(rt, &rows_of(rt, heap, weak, marks, forward)?)
 }
 
-/// Asserts what one worker's marks are, and what each stage after them gives.
+/// Asserts what one worker's marks are, and what each stage after them returns.
 fn assert_later_stages<R: Threads + Sync + Abort + Print + AllocGlobal>(
     rt: &R,
     heap: &Heap,
@@ -309,7 +309,7 @@ fn assert_later_stages<R: Threads + Sync + Abort + Print + AllocGlobal>(
     assert_last_stages(rt, heap, weak, regions, workers, &marks, &forward)
 }
 
-/// Asserts what each stage gives.
+/// Asserts what each stage returns.
 fn assert_stages<R: Threads + Wait + Sync + Abort + Print + AllocGlobal>(
     rt: &R,
     heap: &Heap,
@@ -324,7 +324,7 @@ fn assert_stages<R: Threads + Wait + Sync + Abort + Print + AllocGlobal>(
     assert_later_stages(rt, heap, weak, regions, workers)
 }
 
-/// Asserts what each stage gives by each policy on weak slots.
+/// Asserts what each stage returns under each policy on weak slots.
 fn assert_each_policy<R: Threads + Wait + Sync + Abort + Print + AllocGlobal>(
     rt: &R,
     heap: &Heap,

@@ -1,4 +1,4 @@
-//! A mark table, where memory is refused.
+//! A mark table, under allocation failures.
 
 ghost use Rattle.std.specs.Prelude.{◌≡◌, IfOk};
 ghost use Rattle.sqz_marks.specs.Table.{IsPassOf, HasCountedAll};
@@ -69,7 +69,7 @@ fn assert_closed<R: Abort>(rt: &R, closed: &Closed) {
     assert_eq!(rt; found, wanted);
 }
 
-/// Asserts what is left of the table at which marking begins, where it is closed at once.
+/// Asserts what is left of the table at which marking begins, if it is closed at once.
 fn assert_table<R: Abort + Print + AllocGlobal>(
     rt: &R,
     heap: &Heap,

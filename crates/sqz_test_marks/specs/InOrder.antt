@@ -8,7 +8,7 @@ use Rattle.sqz_trace.specs.Edges.{out_edges, strong_target}
 use Rattle.sqz_marks.specs.declared.view.View.{View}
 use Rattle.sqz_marks.specs.Core.{first_view, looked, seen_by, won_by, counted, blackened}
 
--- an object has so many strong fields, and its class word points to no object
+-- an object has this many strong fields, and its class word points to no object
 pub record HasFields (memory : Memory) (weak : Weak) (object fields : ℕ) : Type 0 where
   pub strong : (out_edges memory weak object).strong ≡ fields
   pub class : strong_target memory weak object ClassWord ≡ None

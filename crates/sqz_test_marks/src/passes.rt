@@ -24,7 +24,8 @@ const RACES: u32 = 200;
 /// of them wins.
 const REST: &[(u32, &[u32])] = &[(5, &[0]), (1, &[3]), (3, &[]), (0, &[])];
 
-/// Two passes claim what a slot of the special objects array names, each in a thread of its own.
+/// Two passes claim what a slot of the special objects array points to, each in a thread of its
+/// own.
 fn claim_by_both<R: Threads>(
     rt: &R,
     table: &MarkTable<'_>,

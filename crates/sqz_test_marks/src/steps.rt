@@ -63,7 +63,7 @@ pub(crate) fn assert_looks<R: Abort>(
     assert_eq!(rt; table.look(pass, object), wanted, "object {object}");
 }
 
-/// What a claim of the object that a slot names finds. Where the pass won it, it is counted.
+/// What a claim of the object that a slot points to finds. If the pass won it, it is counted.
 pub(crate) fn claim(table: &MarkTable<'_>, pass: &mut Pass, parent: u32, slot: Slot) -> Claim
     requires of { IsPassOf table.now pass.old }
     requires inside { parent < object_count table.now.heap.memory }
@@ -78,7 +78,7 @@ pub(crate) fn claim(table: &MarkTable<'_>, pass: &mut Pass, parent: u32, slot: S
     found
 }
 
-/// Whether two answers are one.
+/// Whether two claims found the same.
 pub(crate) fn is_same(found: Claim, wanted: Claim) -> bool
     ensures { result ≡ true → found ≡ wanted }
 {
@@ -101,7 +101,8 @@ fn assert_marked<R: Abort>(rt: &R, table: &MarkTable<'_>, pass: &mut Pass, objec
     assert!(rt; shade != Shade::White, "object {object}");
 }
 
-/// Asserts that an object is marked, and what a claim of the object that a slot of it names finds.
+/// Asserts that an object is marked, and what a claim of the object that a slot of it points to
+/// finds.
 pub(crate) fn assert_claims<R: Abort>(
     rt: &R,
     table: &MarkTable<'_>,
@@ -123,8 +124,8 @@ pub(crate) fn assert_claims<R: Abort>(
     );
 }
 
-/// Asserts that an object is grey, claims all that it names, asserts that this won these objects,
-/// and makes the object black.
+/// Asserts that an object is grey, claims all that it points to, asserts that this won these
+/// objects, and makes the object black.
 fn assert_blackens<R: Abort + AllocGlobal>(
     rt: &R,
     table: &MarkTable<'_>,
@@ -162,8 +163,8 @@ fn assert_each_blackens<R: Abort + AllocGlobal>(
     Ok(())
 }
 
-/// What is left of a table. Where memory is refused once, it is asked for again: table and pass are
-/// as before.
+/// What is left of a table. After an allocation failure, memory is asked for again: table and pass
+/// are as before.
 pub(crate) fn close_again(alloc: Global, table: MarkTable<'_>, pass: Pass) -> Result<Closed, Fault>
     requires of { IsPassOf table pass }
     requires whole { pass.view.weight ≡ table.workers }
@@ -233,7 +234,7 @@ fn mark_special<R: Abort + AllocGlobal>(
     Ok(())
 }
 
-/// What it does with what that names.
+/// What the pass does with the objects that the special objects array points to.
 fn mark_named<R: Abort>(rt: &R, table: &MarkTable<'_>, pass: &mut Pass)
     requires of { IsPassOf table.now pass.old }
     requires count { object_count table.now.heap.memory ≡ 6 }
@@ -245,10 +246,10 @@ fn mark_named<R: Abort>(rt: &R, table: &MarkTable<'_>, pass: &mut Pass)
     assert_claims(rt, table, pass, 3, Slot::Field(0), Claim::Seen(1));
 }
 
-/// The objects that are grey then, of which none wins another.
+/// The objects that are grey then. None of them wins another.
 const REST: &[(u32, &[u32])] = &[(0, &[]), (1, &[]), (3, &[])];
 
-/// Marks the dead cycle's image with one pass, which is so many workers' share.
+/// Marks the dead cycle's image with one pass, which is this many workers' share.
 fn mark_dead_cycle<R: Abort + AllocGlobal>(
     rt: &R,
     heap: &Heap,
@@ -264,7 +265,7 @@ fn mark_dead_cycle<R: Abort + AllocGlobal>(
     closed_after(rt, table, pass, REST)
 }
 
-/// Asserts what is left of a table where the pass is one worker's share, two's, or that of the most
+/// Asserts what is left of a table if the pass is the share of one worker, of two, or of the most
 /// that there can be.
 fn assert_one_pass<R: Abort + AllocGlobal>(rt: &R, heap: &Heap, cut: &Cut) -> Result<(), Fail>
     requires { object_count heap.now ≡ 6 }

@@ -7,13 +7,13 @@ use std::sync::Wait;
 use std::test::Fail;
 use std::thread::Threads;
 
-/// Whether these bytes are not one text that stands there twice.
+/// Whether these bytes are not one text printed twice.
 fn is_said_once(bytes: &[u8]) -> bool {
     let (first, second) = bytes.split_at(bytes.len() / 2);
     first != second
 }
 
-/// Asserts that the program ended with 2 at so many words, and said why on standard error, once.
+/// Asserts that the program ended with 2 for this many words, and said why on standard error, once.
 fn assert_says_why<R: Abort>(rt: &R, ended: &Ended, count: usize) {
     assert_eq!(rt;
         (ended.exit, ended.out.contents().is_empty()),
@@ -24,7 +24,7 @@ fn assert_says_why<R: Abort>(rt: &R, ended: &Ended, count: usize) {
     assert!(rt; !said.is_empty() && is_said_once(said), "at {count} words");
 }
 
-/// Asserts that the program ends with 2 at these words, and says why on standard error, once.
+/// Asserts that the program ends with 2 for these words, and says why on standard error, once.
 fn assert_not_taken<R: Threads + Wait + Sync + Abort + AllocGlobal + Files>(
     rt: &R,
     words: &[&str],
@@ -48,13 +48,13 @@ fn takes_a_flag_once_and_without_a_value(rt: HostRuntime) -> Result<(), Fail> {
     assert_not_taken(&rt, &["--clear-weak", "--clear-weak", "a", "b"])
 }
 
-/// What is printed where the number of workers is refused.
+/// What is printed if the number of workers is rejected.
 const BAD_WORKERS: &str = "fault 18: workers must be from 1 to 64\n";
 
-/// What is printed where the number of words of a region is.
+/// What is printed if the number of words of a region is rejected.
 const BAD_CUT: &str = "fault 19: region cut is not valid\n";
 
-/// Words with numbers that are refused, and what is printed.
+/// Words with numbers that are rejected, and what is printed.
 const NUMBERS: [(&[&str], &str); 5] = [
     (&["--workers", "0", "a", "b"], BAD_WORKERS),
     (&["--workers", "65", "a", "b"], BAD_WORKERS),

@@ -46,7 +46,7 @@ fn lines_of_faults(rt: HostRuntime) -> Result<(), Fail> {
     Ok(())
 }
 
-/// Where standard error takes nothing, the exits are the same.
+/// If standard error takes nothing, the exits are the same.
 #[test]
 fn exits_without_lines(rt: HostRuntime) -> Result<(), Fail> {
     for (fault, wanted, _) in &LINES {

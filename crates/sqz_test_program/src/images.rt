@@ -8,7 +8,7 @@ use std::alloc::{AllocError, Global};
 /// How many bytes the object of the large image has: more than a MiB.
 const MANY: u32 = 20 << 16;
 
-/// The image of three objects, of which one is dead.
+/// The image of three objects, one of which is dead.
 pub(crate) fn whole_image(alloc: Global) -> Result<Vec<u8>, AllocError> {
     file_of(alloc, &DEAD_ARRAY)
 }
@@ -44,7 +44,7 @@ fn put_large_image(file: &mut Vec<u8>, has_dead: bool) -> Result<(), AllocError>
 
 /// An image of more than a MiB, which is several blocks of 64 KiB: a class, a dead array of two
 /// fields if it is to have one, then an object of many bytes, and the special objects array, which
-/// names it.
+/// points to it.
 pub(crate) fn large_image(alloc: Global, has_dead: bool) -> Result<Vec<u8>, AllocError> {
     let mut file = Vec::new(alloc);
     put_large_image(&mut file, has_dead)?;

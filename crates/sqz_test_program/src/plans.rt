@@ -57,8 +57,7 @@ fn compact_image<R: Threads + Wait + Sync + AllocGlobal + Drop>(
     Ok(())
 }
 
-/// Six words are as many regions where a region has one word, and each of three workers has two of
-/// them.
+/// Six words make six regions of one word, and each of three workers has two of them.
 #[test]
 fn workers_and_regions_that_are_asked_for(rt: HostRuntime) -> Result<(), Fail> {
     let counts = Counts {

@@ -52,7 +52,7 @@ pub(crate) fn run_into<R: Threads + Wait + Sync + Files>(
     Ok(Ended { exit, out, err })
 }
 
-/// How the program ends with these words where IN has this image, and what it does to OUT.
+/// How the program ends with these words if IN has this image, and what it does to OUT.
 pub(crate) fn run_over<R: Threads + Wait + Sync + Drop>(
     rt: &R,
     alloc: Global,

@@ -5,7 +5,8 @@ use super::programs::{assert_ended, run_over};
 use super::test_files::{IN, OUT, SOUND};
 use sqz_fixtures::accepted::SPECIAL_ARRAY_ALONE;
 use sqz_fixtures::unreadable::{MIXED_CLASS_HEADER, NO_OBJECT_AT_SPECIAL, OVERRUN, ZERO_SIZE};
-use sqz_fixtures::with_defects::{METHOD_HEADER, NO_CLASS, ODD_FIELD, SHORT_CONTEXT};
+use sqz_fixtures::with_bad_formats::{METHOD_HEADER, SHORT_CONTEXT};
+use sqz_fixtures::with_defects::{NO_CLASS, ODD_FIELD};
 use sqz_fixtures::with_weak_objects::WEAK_BAD_CLASS;
 use sqz_fixtures::{TestImage, file_of};
 use std::process::Abort;
@@ -13,7 +14,7 @@ use std::sync::Wait;
 use std::test::Fail;
 use std::thread::Threads;
 
-/// Asserts that the program, given these words, refuses an image with 1 and this line, and does
+/// Asserts that the program, given these words, rejects an image with 1 and this line, and does
 /// nothing to the other file.
 fn assert_refuses_at<R: Threads + Wait + Sync + Abort + AllocGlobal + Drop>(
     rt: &R,
@@ -41,7 +42,7 @@ const HEADERS: &[(usize, u8, usize, &str)] = &[
     (87, 0, 87, "fault 6: data are truncated\n"),
 ];
 
-/// So many bytes of the image of three objects, of which one is changed.
+/// A prefix of the image of three objects, of this many bytes, with one byte changed.
 fn changed_image<R: Abort + AllocGlobal>(
     rt: &R,
     at: usize,
@@ -64,10 +65,10 @@ fn headers(rt: HostRuntime) -> Result<(), Fail> {
     Ok(())
 }
 
-/// An image, and what is printed where it is refused.
+/// An image, and what is printed when it is rejected.
 type Refused = (TestImage, &'static str);
 
-/// Images of which a data word is at fault.
+/// Images with a data word at fault.
 const DATA_WORDS: &[Refused] = &[
     (ZERO_SIZE, "fault 7: size 0 at word 1\n"),
     (
@@ -88,13 +89,13 @@ const DATA_WORDS: &[Refused] = &[
     ),
 ];
 
-/// Images of which weak slots cannot be cleared.
+/// Images whose weak slots cannot be cleared.
 const WEAK_SLOTS: &[Refused] = &[
     (WEAK_BAD_CLASS, "fault 20: bad weak object 00001020\n"),
     (SPECIAL_ARRAY_ALONE, "fault 21: nil not found\n"),
 ];
 
-/// Asserts that the program, given these words, refuses each of these images so.
+/// Asserts that the program, given these words, rejects each of these images so.
 fn assert_refuses_each<R: Threads + Wait + Sync + Abort + AllocGlobal + Drop>(
     rt: &R,
     words: &[&str],

@@ -15,7 +15,7 @@ pub(crate) enum TestFile<'a> {
     Output { disk: &'a Disk<'a> },
 }
 
-/// What is answered for each thing that the two files do not do.
+/// What is returned for each call that the two files do not support.
 pub(crate) fn refuse<T>() -> io::Result<T>
     ensures { IsErr result }
 {

@@ -1,5 +1,5 @@
 //! A file system of two files: one that can be read, and one that can be made and written. They
-//! fail where a test wants it, and the test sees what was done to the second.
+//! fail when a test asks for it, and the test sees what was done to the second.
 
 ghost use Rattle.std.specs.Prelude.{◌≤◌, length, IfOk};
 
@@ -15,7 +15,7 @@ use std::thread::Threads;
 /// The path of the file that can be read.
 pub(crate) const IN: &str = "in.image";
 
-/// The path of the file that can be made, where a test asks for no other one.
+/// The path of the file that can be made, unless a test asks for another one.
 pub(crate) const OUT: &str = "out.image";
 
 /// How the two files behave.
@@ -25,7 +25,7 @@ pub(crate) struct Behavior {
     pub output: &'static str,
     /// How many bytes one read gives, and one write takes, at most.
     pub piece: usize,
-    /// Whether the read behind the last byte of IN fails, in place of telling the end.
+    /// Whether the read after the last byte of IN fails, instead of returning the end.
     pub read_fails: bool,
     /// How many calls fail that are to make OUT. The next one makes it.
     pub makings_fail: u32,
@@ -77,7 +77,7 @@ impl Written {
         Ok(())
     }
 
-    /// Takes as many of these bytes as one write does, and answers how many that were.
+    /// Takes as many of these bytes as one write does, and returns how many that were.
     pub(crate) fn write(&mut self, behavior: &Behavior, from: &[u8]) -> io::Result<usize>
         ensures { IfOk result (λ count. count ≤ length from.now) }
     {

@@ -8,7 +8,7 @@ use std::sync::Wait;
 use std::test::Fail;
 use std::thread::Threads;
 
-/// What is printed where the image cannot be written.
+/// What is printed if the image cannot be written.
 const NOT_WRITTEN: &str = "fault 17: cannot write the output\n";
 
 /// Asserts that the program writes this to OUT and flushes it, and prints nothing.
@@ -25,8 +25,8 @@ fn assert_writes<R: Threads + Wait + Sync + Abort + AllocGlobal + Drop>(
     Ok(())
 }
 
-/// Asserts that the program ends with 3 and this line where IN has the image of three objects, or a
-/// front of so many bytes of it. Answers what it did to OUT.
+/// Asserts that the program ends with 3 and this line if IN has the image of three objects, or a
+/// prefix of it of this many bytes. Returns what it did to OUT.
 fn assert_fails<R: Threads + Wait + Sync + Abort + AllocGlobal + Drop>(
     rt: &R,
     count: usize,
@@ -103,7 +103,7 @@ fn making_or_first_write_fails(rt: HostRuntime) -> Result<(), Fail> {
     Ok(())
 }
 
-/// The same of a flush.
+/// A flush that failed is not tried again, though it would succeed.
 #[test]
 fn first_flush_fails(rt: HostRuntime) -> Result<(), Fail> {
     let behavior = Behavior {

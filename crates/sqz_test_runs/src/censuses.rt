@@ -1,7 +1,8 @@
 //! Censuses of small images.
 
 use super::runs::{Outcome, assert_bytes, run_by_two};
-use sqz_fixtures::accepted::{BIG_ENDIAN_CLASS_NAMES, CLASS_NAMES, DEAD_ARRAY, METACLASS};
+use sqz_fixtures::accepted::DEAD_ARRAY;
+use sqz_fixtures::with_classes::{BIG_ENDIAN_CLASS_NAMES, CLASS_NAMES, METACLASS};
 use sqz_fixtures::{Change, TestImage, file_of};
 use sqz_trace::Weak;
 use std::process::Abort;
@@ -9,7 +10,7 @@ use std::sync::Wait;
 use std::test::Fail;
 use std::thread::Threads;
 
-/// The census of nil and a special objects array that names it.
+/// The census of nil and a special objects array that points to it.
 pub(crate) const NIL_CENSUS: &str = concat!(
     "         1            8 -------- compact 3\n",
     "         1            4 -------- compact 1\n",
@@ -61,7 +62,7 @@ fn class_with_a_name(rt: HostRuntime) -> Result<(), Fail> {
 
 /// The class has an integer in place of a name.
 const CLASS_WITHOUT_NAME: TestImage = TestImage {
-    changed: Some(Change(8, 1)),
+    changed: Some(Change { index: 8, word: 1 }),
     ..CLASS_NAMES
 };
 

@@ -4,12 +4,15 @@ use super::prefixes::assert_array_left_out;
 use super::runs::assert_compacts;
 use sqz_fixtures::Chunk::{Array, Classed, Free, Long, Short, Words};
 use sqz_fixtures::accepted::{
-    CLASS_EDGE, CLASS_EDGE_OF_THREE_WORDS, CLASS_NAMES, CONTEXT_STACK, CONTEXT_WITH_CLASS_WORD,
-    CONTEXT_WITHOUT_STACK_POINTER, DEAD_BAD_CONTEXT, DEAD_BAD_METHOD, DEAD_BAD_POINTER,
-    DEAD_WITHOUT_CLASS, FREE_CHUNK, HIGHEST_BASE, INTEGERS, METHOD_LITERALS, NIL_ALONE,
+    DEAD_BAD_CONTEXT, DEAD_BAD_METHOD, DEAD_BAD_POINTER, DEAD_WITHOUT_CLASS, FREE_CHUNK,
+    HIGHEST_BASE, INTEGERS, NIL_ALONE,
 };
 use sqz_fixtures::answers::CLASS_EDGE_ANSWER;
-use sqz_fixtures::{EMPTY, NIL, ODD, TestImage, with_word};
+use sqz_fixtures::with_classes::{CLASS_EDGE, CLASS_EDGE_OF_THREE_WORDS, CLASS_NAMES};
+use sqz_fixtures::with_formats::{
+    CONTEXT_STACK, CONTEXT_WITH_CLASS_WORD, CONTEXT_WITHOUT_STACK_POINTER, METHOD_LITERALS,
+};
+use sqz_fixtures::{EMPTY, LEAF, NIL, ODD, TestImage, with_word};
 use sqz_object::Order;
 use sqz_trace::Weak;
 use std::process::Abort;
@@ -37,39 +40,79 @@ const NEGATIVE_STACK: &[u32] = &[1, 1, 0xFFFF_FFFF];
 
 /// Format 3 with compact index 4 is no context.
 const FORMAT_OF_CONTEXT: TestImage = TestImage {
-    chunks: &[NIL, Short(4, 3, NEGATIVE_STACK), Array(&[0x1000, 0x1004])],
+    chunks: &[
+        NIL,
+        Short {
+            compact: 4,
+            format: 3,
+            fields: NEGATIVE_STACK,
+        },
+        Array(&[0x1000, 0x1004]),
+    ],
     special: 0x1014,
     ..EMPTY
 };
 
 /// Nor is it with compact index 12.
 const INDEX_BEFORE_CONTEXT: TestImage = TestImage {
-    chunks: &[NIL, Short(12, 3, NEGATIVE_STACK), Array(&[0x1000, 0x1004])],
+    chunks: &[
+        NIL,
+        Short {
+            compact: 12,
+            format: 3,
+            fields: NEGATIVE_STACK,
+        },
+        Array(&[0x1000, 0x1004]),
+    ],
     special: 0x1014,
     ..EMPTY
 };
 
 /// Nor is format 2 with compact index 13.
 const INDEX_OF_CONTEXT: TestImage = TestImage {
-    chunks: &[NIL, Short(13, 2, NEGATIVE_STACK), Array(&[0x1000, 0x1004])],
+    chunks: &[
+        NIL,
+        Short {
+            compact: 13,
+            format: 2,
+            fields: NEGATIVE_STACK,
+        },
+        Array(&[0x1000, 0x1004]),
+    ],
     special: 0x1014,
     ..EMPTY
 };
 
-/// The fields of a method: a header that states one literal, of which the bits that count none are
-/// all set, that literal, and a word behind it.
+/// The fields of a method: a header that states one literal, with all bits set that do not count
+/// literals, that literal, and a word after it.
 const ONE_LITERAL: &[u32] = &[0xFFFC_07FF, 0x1000, 0x1002];
 
 /// They are a method in the lowest format of one.
 const LOWEST_METHOD_FORMAT: TestImage = TestImage {
-    chunks: &[NIL, Short(5, 12, ONE_LITERAL), Array(&[0x1000, 0x1004])],
+    chunks: &[
+        NIL,
+        Short {
+            compact: 5,
+            format: 12,
+            fields: ONE_LITERAL,
+        },
+        Array(&[0x1000, 0x1004]),
+    ],
     special: 0x1014,
     ..EMPTY
 };
 
 /// They are a method in the highest.
 const HIGHEST_METHOD_FORMAT: TestImage = TestImage {
-    chunks: &[NIL, Short(5, 15, ONE_LITERAL), Array(&[0x1000, 0x1004])],
+    chunks: &[
+        NIL,
+        Short {
+            compact: 5,
+            format: 15,
+            fields: ONE_LITERAL,
+        },
+        Array(&[0x1000, 0x1004]),
+    ],
     special: 0x1014,
     ..EMPTY
 };
@@ -91,16 +134,35 @@ fn same_as_it_was(rt: HostRuntime) -> Result<(), Fail> {
     Ok(())
 }
 
-/// The class word of a dead object may name nothing.
+/// The class word of a dead object may point to no object.
 const DEAD_BAD_CLASS_WORD: TestImage = TestImage {
-    chunks: &[NIL, Classed(0x2000, 0, 1, &[1]), Array(&[0x1000])],
+    chunks: &[
+        NIL,
+        Classed {
+            class: 0x2000,
+            compact: 0,
+            format: 1,
+            fields: &[1],
+        },
+        Array(&[0x1000]),
+    ],
     special: 0x1010,
     ..EMPTY
 };
 
-/// The same in a header of three words.
+/// The class word of a dead object with a header of three words may point to no object.
 const DEAD_BAD_CLASS_WORD_OF_THREE: TestImage = TestImage {
-    chunks: &[NIL, Long(0x2000, 0, 2, &[1], &[]), Array(&[0x1000])],
+    chunks: &[
+        NIL,
+        Long {
+            class: 0x2000,
+            compact: 0,
+            format: 2,
+            first: &[1],
+            others: &[],
+        },
+        Array(&[0x1000]),
+    ],
     special: 0x1014,
     ..EMPTY
 };
@@ -146,7 +208,7 @@ fn highest_base(rt: HostRuntime) -> Result<(), Fail> {
 const CLASS_EDGE_OF_THREE_WORDS_ANSWER: TestImage = TestImage {
     chunks: &[
         NIL,
-        Short(1, 0, &[1]),
+        LEAF,
         Words(&[8, 0x1004, 0x3FC, 1]),
         Array(&[0x1000, 0x1014]),
     ],
@@ -161,31 +223,41 @@ fn class_words_that_move(rt: HostRuntime) -> Result<(), Fail> {
     assert_left(&rt, &CLASS_EDGE_OF_THREE_WORDS, answer)
 }
 
-/// The fields of the context of `CONTEXT_STACK`, of which the one on the stack names an object that
-/// has moved.
+/// The fields of the context of `CONTEXT_STACK`, of which the one on the stack points to an object
+/// that has moved.
 const MOVED_STACK: &[u32] = &[0x1000, 1, 3, 0x1000, 0x1000, 0x1000, 0x1004, 0x1014, 2, ODD];
 
 /// What `CONTEXT_STACK` is compacted to.
 const CONTEXT_STACK_ANSWER: TestImage = TestImage {
     chunks: &[
         NIL,
-        Short(1, 0, &[1]),
-        Short(13, 3, MOVED_STACK),
+        LEAF,
+        Short {
+            compact: 13,
+            format: 3,
+            fields: MOVED_STACK,
+        },
         Array(&[0x1000, 0x100C]),
     ],
     special: 0x1038,
     ..EMPTY
 };
 
-/// The same of `CONTEXT_WITH_CLASS_WORD`.
+/// The fields of the context of `CONTEXT_WITH_CLASS_WORD`, with the address of the object that has
+/// moved.
 const MOVED_STACK_BELOW_ODD: &[u32] = &[0x1000, 1, 3, 0x1000, 0x1000, 0x1000, 0x1004, 0x1002];
 
 /// What `CONTEXT_WITH_CLASS_WORD` is compacted to.
 const CONTEXT_WITH_CLASS_WORD_ANSWER: TestImage = TestImage {
     chunks: &[
         NIL,
-        Short(1, 0, &[1]),
-        Classed(0x1004, 14, 3, MOVED_STACK_BELOW_ODD),
+        LEAF,
+        Classed {
+            class: 0x1004,
+            compact: 14,
+            format: 3,
+            fields: MOVED_STACK_BELOW_ODD,
+        },
         Array(&[0x1000, 0x1010]),
     ],
     special: 0x1034,
@@ -203,8 +275,12 @@ fn contexts(rt: HostRuntime) -> Result<(), Fail> {
 const METHOD_LITERALS_ANSWER: TestImage = TestImage {
     chunks: &[
         NIL,
-        Short(1, 0, &[1]),
-        Short(5, 12, &[0x801, 0x1004, 0x1000, 0x100C]),
+        LEAF,
+        Short {
+            compact: 5,
+            format: 12,
+            fields: &[0x801, 0x1004, 0x1000, 0x100C],
+        },
         Array(&[0x1000, 0x100C]),
     ],
     special: 0x1020,
@@ -215,9 +291,13 @@ const METHOD_LITERALS_ANSWER: TestImage = TestImage {
 const LITERALS_ALONE: TestImage = TestImage {
     chunks: &[
         NIL,
-        Short(1, 0, &[1]),
-        Short(1, 0, &[1]),
-        Short(5, 12, &[0x801, 0x100C, 0x1000]),
+        LEAF,
+        LEAF,
+        Short {
+            compact: 5,
+            format: 12,
+            fields: &[0x801, 0x100C, 0x1000],
+        },
         Array(&[0x1000, 0x1014]),
     ],
     special: 0x1024,
@@ -228,8 +308,12 @@ const LITERALS_ALONE: TestImage = TestImage {
 const LITERALS_ALONE_ANSWER: TestImage = TestImage {
     chunks: &[
         NIL,
-        Short(1, 0, &[1]),
-        Short(5, 12, &[0x801, 0x1004, 0x1000]),
+        LEAF,
+        Short {
+            compact: 5,
+            format: 12,
+            fields: &[0x801, 0x1004, 0x1000],
+        },
         Array(&[0x1000, 0x100C]),
     ],
     special: 0x101C,
@@ -248,7 +332,11 @@ const UNTRACED_WORD: TestImage = TestImage {
     chunks: &[
         NIL,
         Array(&[1]),
-        Short(1, 5, &[0x100C]),
+        Short {
+            compact: 1,
+            format: 5,
+            fields: &[0x100C],
+        },
         Array(&[0x1000, 0x100C]),
     ],
     special: 0x1014,
@@ -257,7 +345,15 @@ const UNTRACED_WORD: TestImage = TestImage {
 
 /// What it is compacted to. The header is then data word 1.
 const UNTRACED_WORD_ANSWER: TestImage = TestImage {
-    chunks: &[NIL, Short(1, 5, &[0x100C]), Array(&[0x1000, 0x1004])],
+    chunks: &[
+        NIL,
+        Short {
+            compact: 1,
+            format: 5,
+            fields: &[0x100C],
+        },
+        Array(&[0x1000, 0x1004]),
+    ],
     special: 0x100C,
     ..EMPTY
 };

@@ -1,14 +1,18 @@
-//! Images of which a reachable object has a defect: the lowest such object counts, and of its
-//! defects the first.
+//! Images in which a reachable object has a defect: the lowest such object counts, and its first
+//! defect.
 
 use super::runs::assert_image_refused;
 use sqz_fixtures::Chunk::{Array, Long, Short};
-use sqz_fixtures::accepted::{CONTEXT_STACK, NIL_ALONE};
-use sqz_fixtures::with_defects::{
-    ALL_ONES, BAD_CLASS_WORD, BAD_LITERAL, CLASS_WORD_BEFORE_FIELD, CONTEXT_OF_FIVE_FIELDS,
-    FIELD_NAMES_CLASS_WORD, FIELD_NAMES_FREE_CHUNK, LOWER_IS_NAMED, LOWER_OF_TWO, METHOD_HEADER,
-    METHOD_WITHOUT_CLASS, METHOD_WITHOUT_FIELDS, NO_CLASS, SHORT_CONTEXT, TOO_MANY_LITERALS,
+use sqz_fixtures::accepted::NIL_ALONE;
+use sqz_fixtures::with_bad_formats::{
+    ALL_ONES, BAD_LITERAL, CONTEXT_OF_FIVE_FIELDS, METHOD_HEADER, METHOD_WITHOUT_CLASS,
+    METHOD_WITHOUT_FIELDS, SHORT_CONTEXT, TOO_MANY_LITERALS,
 };
+use sqz_fixtures::with_defects::{
+    BAD_CLASS_WORD, CLASS_WORD_BEFORE_FIELD, FIELD_NAMES_CLASS_WORD, FIELD_NAMES_FREE_CHUNK,
+    LOWER_IS_NAMED, LOWER_OF_TWO, NO_CLASS,
+};
+use sqz_fixtures::with_formats::CONTEXT_STACK;
 use sqz_fixtures::{Change, EMPTY, NIL, TestImage, with_word};
 use sqz_image::{Fault, Slot};
 use sqz_trace::Weak;
@@ -48,7 +52,7 @@ fn assert_bad_slots<R: Threads + Wait + Sync + Abort + AllocGlobal>(
     Ok(())
 }
 
-/// Of two bad fields the first counts.
+/// The first of two bad fields counts.
 const TWO_ODD_FIELDS: TestImage = TestImage {
     chunks: &[NIL, Array(&[0x1000, 0x1002, 0x1006])],
     special: 0x1004,
@@ -63,7 +67,7 @@ const BAD_FIELDS: &[(TestImage, u32, Slot)] = &[
     (LOWER_OF_TWO, 0x1004, Slot::Field(0)),
 ];
 
-/// Asserts that `NIL_ALONE` is refused where this is the field of its array.
+/// Asserts that `NIL_ALONE` is refused if this is the field of its array.
 fn assert_field_refused<R: Threads + Wait + Sync + Abort + AllocGlobal>(
     rt: &R,
     word: u32,
@@ -82,14 +86,32 @@ fn bad_fields(rt: HostRuntime) -> Result<(), Fail> {
 
 /// A class word in a header of three words with an address at which no object is.
 const BAD_CLASS_WORD_OF_THREE: TestImage = TestImage {
-    chunks: &[NIL, Long(0x1004, 0, 2, &[1], &[]), Array(&[0x1000, 0x100C])],
+    chunks: &[
+        NIL,
+        Long {
+            class: 0x1004,
+            compact: 0,
+            format: 2,
+            first: &[1],
+            others: &[],
+        },
+        Array(&[0x1000, 0x100C]),
+    ],
     special: 0x1014,
     ..EMPTY
 };
 
 /// That an object has no class counts before its bad field.
 const NO_CLASS_BEFORE_FIELD: TestImage = TestImage {
-    chunks: &[NIL, Short(0, 2, &[0x1002]), Array(&[0x1000, 0x1004])],
+    chunks: &[
+        NIL,
+        Short {
+            compact: 0,
+            format: 2,
+            fields: &[0x1002],
+        },
+        Array(&[0x1000, 0x1004]),
+    ],
     special: 0x100C,
     ..EMPTY
 };
@@ -117,7 +139,10 @@ fn bad_or_missing_classes(rt: HostRuntime) -> Result<(), Fail> {
 
 /// A method whose field 0 is neither an integer nor an address.
 const ODD_METHOD_HEADER: TestImage = TestImage {
-    changed: Some(Change(2, 0x1002)),
+    changed: Some(Change {
+        index: 2,
+        word: 0x1002,
+    }),
     ..METHOD_HEADER
 };
 
@@ -138,7 +163,15 @@ fn bad_methods(rt: HostRuntime) -> Result<(), Fail> {
 
 /// A context of two fields, without a stack pointer.
 const CONTEXT_OF_TWO_FIELDS: TestImage = TestImage {
-    chunks: &[NIL, Short(13, 3, &[1, 1]), Array(&[0x1000, 0x1004])],
+    chunks: &[
+        NIL,
+        Short {
+            compact: 13,
+            format: 3,
+            fields: &[1, 1],
+        },
+        Array(&[0x1000, 0x1004]),
+    ],
     special: 0x1010,
     ..EMPTY
 };

@@ -4,7 +4,8 @@ use super::censuses::{CLASS_CENSUS, NIL_CENSUS};
 use super::prefixes::file_behind;
 use super::runs::{Devices, Outcome, SOUND, assert_bytes, assert_writes_both, plan_by, run_over};
 use sqz_fixtures::TestImage;
-use sqz_fixtures::accepted::{CLASS_NAMES, DEAD_ARRAY, NIL_ALONE};
+use sqz_fixtures::accepted::{DEAD_ARRAY, NIL_ALONE};
+use sqz_fixtures::with_classes::CLASS_NAMES;
 use sqz_image::Fault;
 use sqz_tool::Plan;
 use sqz_trace::Weak;
@@ -33,7 +34,7 @@ struct Sample {
     text: &'static str,
 }
 
-/// A dead array, the same behind 512 bytes, and an image that is compacted to itself.
+/// A dead array, the same after 512 bytes, and an image that is compacted to itself.
 const SAMPLES: &[Sample] = &[
     Sample {
         before: 0,
@@ -55,8 +56,8 @@ const SAMPLES: &[Sample] = &[
     },
 ];
 
-/// The samples. A function that names the constant itself holds all of it, and each such costs its
-/// check anew.
+/// The samples. Each function that refers to the constant itself holds all of it, and its check
+/// takes that long again.
 fn samples() -> &'static [Sample] {
     SAMPLES
 }
@@ -85,7 +86,7 @@ enum Output {
     Census,
 }
 
-/// Devices of which this sink fails at a call.
+/// Devices whose sink of this kind fails at a call.
 fn failing_at(output: Output, call: u64) -> Devices {
     match output {
         Output::Image => Devices {
@@ -99,7 +100,7 @@ fn failing_at(output: Output, call: u64) -> Devices {
     }
 }
 
-/// Devices of which this sink has room for so many bytes.
+/// Devices whose sink of this kind has room for this many bytes.
 fn with_room(output: Output, room: u32) -> Devices {
     match output {
         Output::Image => Devices {
@@ -135,13 +136,13 @@ fn assert_whole<R: Threads + Wait + Sync + Abort + AllocGlobal>(
     assert_writes_both(rt, plan, devices, file, &case.image, case.text)
 }
 
-/// The first so many bytes of these, or all of them where they are not so many.
+/// The first bytes of these, this many, or all of them if they are fewer.
 fn first(bytes: &[u8], count: usize) -> &[u8] {
     &bytes[..count.min(bytes.len())]
 }
 
-/// Asserts that a run could not write this sink, and that so many bytes went there: no byte of the
-/// census before the whole image.
+/// Asserts that a run could not write this sink, and that this many bytes went there: no byte of
+/// the census before the whole image.
 fn assert_stopped<R: Abort>(rt: &R, case: &Case, outcome: &Outcome, output: Output, count: usize) {
     let (image_count, text_count) = match output {
         Output::Image => (count, 0),
@@ -184,8 +185,8 @@ fn count_stopped<R: Abort>(
     Some(written)
 }
 
-/// How many bytes go to this sink in a run that is stopped at this call of it. Where the call does
-/// not come, none is told, and the run writes all.
+/// How many bytes go to this sink in a run that is stopped at this call of it. Returns `None` if
+/// the call does not come, and the run writes all.
 fn written_until<R: Threads + Wait + Sync + Abort + AllocGlobal>(
     rt: &R,
     plan: &Plan,
@@ -201,7 +202,7 @@ fn written_until<R: Threads + Wait + Sync + Abort + AllocGlobal>(
     Ok(written)
 }
 
-/// Asserts that a run is stopped at each call of this sink, and writes all where no call fails. At
+/// Asserts that a run is stopped at each call of this sink, and writes all if no call fails. At
 /// least one call comes before the flush, which is the last and fails with all written.
 fn assert_each_call<R: Threads + Wait + Sync + Abort + AllocGlobal>(
     rt: &R,
@@ -222,14 +223,14 @@ fn assert_each_call<R: Threads + Wait + Sync + Abort + AllocGlobal>(
     Ok(())
 }
 
-/// Asserts that so many calls are at least two, and fewer than the most, and that all was written
+/// Asserts that this many calls are at least two, and fewer than the most, and that all was written
 /// before the last.
 fn assert_flushed<R: Abort>(rt: &R, calls: u64, written: usize, wanted: usize) {
     assert!(rt; 2 <= calls && calls < MOST_CALLS);
     assert_eq!(rt; written, wanted);
 }
 
-/// Asserts that a run is stopped where this sink has room for fewer bytes than it is to take, and
+/// Asserts that a run is stopped if this sink has room for fewer bytes than it is to take, and
 /// fills it.
 fn assert_each_room<R: Threads + Wait + Sync + Abort + AllocGlobal>(
     rt: &R,
@@ -286,14 +287,14 @@ fn each_room_of_a_sink(rt: HostRuntime) -> Result<(), Fail> {
     Ok(())
 }
 
-/// How many reads a run makes of a file in pieces of so many bytes: one for each piece, and one
+/// How many reads a run makes of a file in pieces of this many bytes: one for each piece, and one
 /// that gives none.
 fn count_reads<R: Abort>(rt: &R, file: &[u8], piece: u32) -> u64 {
     assert!(rt; 0 < piece && file.len() <= 4096);
     file.len().div_ceil(piece as usize) as u64 + 1
 }
 
-/// Devices whose source gives so many bytes at once, and fails at this read, if at all.
+/// Devices whose source gives this many bytes at once, and fails at this read, if at all.
 fn source_failing_at(piece: u32, source_fails: Option<u64>) -> Devices {
     Devices {
         piece,
@@ -302,7 +303,7 @@ fn source_failing_at(piece: u32, source_fails: Option<u64>) -> Devices {
     }
 }
 
-/// Asserts that a run is refused where this read fails.
+/// Asserts that a run is refused if this read fails.
 fn assert_read_refused<R: Threads + Wait + Sync + Abort + AllocGlobal>(
     rt: &R,
     plan: &Plan,
@@ -323,7 +324,7 @@ fn assert_read_refused<R: Threads + Wait + Sync + Abort + AllocGlobal>(
     Ok(())
 }
 
-/// Asserts that a run is refused at each read that fails, and writes all where none does.
+/// Asserts that a run is refused at each read that fails, and writes all if none does.
 fn assert_each_read<R: Threads + Wait + Sync + Abort + AllocGlobal>(
     rt: &R,
     plan: &Plan,

@@ -23,7 +23,7 @@ const ROOMY: Devices = Devices {
     ..SOUND
 };
 
-/// How many objects are on the chain, and how many the array names.
+/// How many objects are on the chain, and how many the array points to.
 const COUNT: u32 = 100_000;
 
 /// Half of them.
@@ -44,7 +44,7 @@ fn large_file<R: Abort + AllocGlobal>(
 }
 
 /// A large file, what is written of it, what a run over it counts, and the last line of its census
-/// behind the end of the line before.
+/// after the end of the line before.
 #[derive(Clone, Copy)]
 struct Large<'a> {
     file: &'a [u8],
@@ -65,7 +65,7 @@ fn assert_large<R: Threads + Wait + Sync + Abort + AllocGlobal>(
     Ok(())
 }
 
-/// Asserts what a run with so many workers wrote.
+/// Asserts what a run with this many workers wrote.
 fn assert_wrote_large<R: Abort>(rt: &R, workers: u32, outcome: &Outcome, large: Large<'_>) {
     let same_image = outcome.image.as_slice() == large.wanted;
     let same_line = outcome.census.ends_with(large.last_line.as_bytes());
@@ -87,7 +87,7 @@ fn assert_large_by_nine<R: Threads + Wait + Sync + Abort + AllocGlobal>(
     Ok(())
 }
 
-/// Asserts it of nine plans, whether weak slots are kept or cleared, and once behind 512 bytes.
+/// Asserts it of nine plans, whether weak slots are kept or cleared, and once after 512 bytes.
 fn assert_large_by_all<R: Threads + Wait + Sync + Abort + AllocGlobal>(
     rt: &R,
     large: Large<'_>,
@@ -106,7 +106,7 @@ fn assert_large_by_two<R: Threads + Wait + Sync + Abort + AllocGlobal>(
     assert_large(rt, &plan, large)
 }
 
-/// Asserts it behind 512 bytes.
+/// Asserts it after 512 bytes.
 fn assert_large_behind_512<R: Threads + Wait + Sync + Abort + AllocGlobal>(
     rt: &R,
     large: Large<'_>,
@@ -121,8 +121,8 @@ fn assert_large_behind_512<R: Threads + Wait + Sync + Abort + AllocGlobal>(
     assert_large_by_two(rt, moved)
 }
 
-/// In which order the objects on a chain name each other: the next one, the one before, or by turns
-/// one of the lower and one of the upper half, from both ends to the middle.
+/// In which order the objects on a chain point to each other: the next one, the one before, or by
+/// turns one of the lower and one of the upper half, from both ends to the middle.
 #[derive(Clone, Copy)]
 enum Path {
     Up,
@@ -130,7 +130,7 @@ enum Path {
     Zigzag,
 }
 
-/// The object behind this one on a path; none behind the last.
+/// The object after this one on a path; none after the last.
 fn object_behind(path: Path, object: u32) -> Option<u32>
     requires { object < 100000 }
     ensures { IfSome result (λ next. next < 100000) }
@@ -144,7 +144,7 @@ fn object_behind(path: Path, object: u32) -> Option<u32>
     }
 }
 
-/// The word that names the object behind this one on a path, and an integer in the last.
+/// The word that points to the object after this one on a path, and an integer in the last.
 fn word_of(path: Path, object: u32) -> u32
     requires { object < 100000 }
 {
@@ -154,7 +154,7 @@ fn word_of(path: Path, object: u32) -> u32
     }
 }
 
-/// The words of nil, of the objects on a path and of the special objects array, which names the
+/// The words of nil, of the objects on a path and of the special objects array, which points to the
 /// first.
 fn chain(alloc: Global, path: Path, first: u32) -> Result<Vec<u32>, AllocError> {
     let mut words = Vec::from_slice(alloc, &[0x1007])?;
@@ -202,7 +202,7 @@ fn chain_from_both_ends(rt: HostRuntime) -> Result<(), Fail> {
     assert_chain_kept(&rt, Path::Zigzag, 0x1004)
 }
 
-/// The words of so many objects without fields, of which the first is nil, and of an array, which
+/// The words of this many objects without fields, of which the first is nil, and of an array, which
 /// is the special objects array and holds these words.
 fn array_behind(alloc: Global, count: usize, fields: &[u32]) -> Result<Vec<u32>, AllocError> {
     let mut words = Vec::new(alloc);
@@ -212,7 +212,7 @@ fn array_behind(alloc: Global, count: usize, fields: &[u32]) -> Result<Vec<u32>,
     Ok(words)
 }
 
-/// The fields of an array that names each object.
+/// The fields of an array that points to each object.
 fn all_named(alloc: Global) -> Result<Vec<u32>, AllocError> {
     let mut fields = Vec::new(alloc);
     for field in 0..COUNT {
@@ -221,7 +221,8 @@ fn all_named(alloc: Global) -> Result<Vec<u32>, AllocError> {
     Ok(fields)
 }
 
-/// The fields of an array that names, by its even fields, objects that stand so many bytes apart.
+/// The fields of an array that points, by its even fields, to objects that are this many bytes
+/// apart.
 fn even_named(alloc: Global, apart: u32) -> Result<Vec<u32>, AllocError>
     requires { apart < 100 }
 {

@@ -14,7 +14,7 @@ use std::thread::Threads;
 /// The first four header words of a file: its version, the sizes of header and data, and the base.
 type Stated = [u32; 4];
 
-/// What those of a sound file say.
+/// What those of a valid file say.
 const SOUND: Stated = [6502, 64, 24, 0x1000];
 
 /// The header words that follow these, and the data words.
@@ -22,7 +22,7 @@ const REST: [u32; 18] = [
     0x1010, 0, 0, 0, 0, 0, 0, 0, 0, 0, 0, 0, 0x1007, 0x320F, 1, 1, 0x320B, 0x1000,
 ];
 
-/// The first so many bytes of a file of 88 whose header says this.
+/// The first bytes, this many, of a file of 88 whose header says this.
 fn file_that_states(
     alloc: Global,
     order: Order,

@@ -1,4 +1,4 @@
-//! Runs by workers of whom one is held: they write the same as those by workers of whom none is.
+//! Runs by workers one of whom is held: they write the same as runs in which none is.
 
 use super::runs::{Outcome, SOUND, assert_bytes_by, plan_by, run_over, run_past};
 use sqz_fixtures::accepted::DEAD_CYCLE;
@@ -34,7 +34,7 @@ impl Gate for HoldingGate {
     }
 }
 
-/// What workers do of whom none is held.
+/// What workers do if none is held.
 fn run_open<R: Threads + Wait + Sync + AllocGlobal>(rt: &R, plan: &Plan) -> Result<Outcome, Fail> {
     run_over(
         rt,
@@ -45,7 +45,7 @@ fn run_open<R: Threads + Wait + Sync + AllocGlobal>(rt: &R, plan: &Plan) -> Resu
     )
 }
 
-/// What workers do that pass this gate.
+/// What workers do who pass this gate.
 fn run_past_gate<R: Threads + Sync + AllocGlobal>(
     rt: &R,
     plan: &Plan,
@@ -55,7 +55,7 @@ fn run_past_gate<R: Threads + Sync + AllocGlobal>(
     run_past(rt, rt.alloc(), plan, file, &SOUND, gate)
 }
 
-/// What workers do of whom the first is held once.
+/// What workers do if the first is held once.
 fn run_held<R: Threads + Sync + Abort + AllocGlobal>(rt: &R, plan: &Plan) -> Result<Outcome, Fail> {
     let gate = HoldingGate {
         held: AtomicU64::new(0),
@@ -65,13 +65,13 @@ fn run_held<R: Threads + Sync + Abort + AllocGlobal>(rt: &R, plan: &Plan) -> Res
     Ok(outcome)
 }
 
-/// Asserts that a gate held one of so many workers once.
+/// Asserts that a gate held one of this many workers once.
 fn assert_held_once<R: Abort>(rt: &R, workers: u32, gate: &HoldingGate) {
     let held = gate.held.load(Ordering::SeqCst);
     assert_eq!(rt; (workers, held), (workers, 1));
 }
 
-/// Asserts that runs with so many workers wrote this image, and the same census.
+/// Asserts that runs with this many workers wrote this image, and the same census.
 fn assert_same<R: Abort>(rt: &R, workers: u32, open: &Outcome, held: &Outcome, wanted: &[u8]) {
     assert_bytes_by(rt, workers, &open.image, wanted);
     assert_bytes_by(rt, workers, &held.image, &open.image);
@@ -91,7 +91,7 @@ fn assert_same_where_held<R: Threads + Wait + Sync + Abort + AllocGlobal>(
     Ok(())
 }
 
-/// Asserts it of so many workers.
+/// Asserts it for this many workers.
 fn assert_same_by<R: Threads + Wait + Sync + Abort + AllocGlobal>(
     rt: &R,
     workers: u32,

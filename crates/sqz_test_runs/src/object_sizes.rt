@@ -10,7 +10,13 @@ use std::test::Fail;
 const THREE_WORD_HEADER_ANSWER: TestImage = TestImage {
     chunks: &[
         NIL,
-        Long(0x1000, 0, 2, &[1; 63], &[]),
+        Long {
+            class: 0x1000,
+            compact: 0,
+            format: 2,
+            first: &[1; 63],
+            others: &[],
+        },
         Array(&[0x1000, 0x100C]),
     ],
     special: 0x110C,

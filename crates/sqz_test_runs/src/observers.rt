@@ -25,7 +25,7 @@ impl StageObserver for Recorder {
     }
 }
 
-/// What a run over an image answers, and the stages that ended.
+/// What a run over an image returns, and the stages that ended.
 fn observed<R: Threads + Wait + Sync + AllocGlobal>(
     rt: &R,
     plan: &Plan,

@@ -63,7 +63,7 @@ fn same_answer_for_each_plan(rt: HostRuntime) -> Result<(), Fail> {
     assert_answers(&rt, Weak::Keep, &DEAD_CYCLE_CASE)
 }
 
-/// A plan with so many workers, where cut points are given.
+/// A plan with this many workers, and given cut points.
 fn plan_with_points(alloc: Global, workers: u32) -> Result<Plan, Fault> {
     Ok(Plan {
         workers: Workers::new(workers)?,

@@ -16,7 +16,7 @@ use std::sync::Wait;
 use std::test::Fail;
 use std::thread::Threads;
 
-/// So many bytes, and the bytes of a file behind them.
+/// This many bytes, followed by the bytes of a file.
 pub(crate) fn behind(alloc: Global, count: usize, file: &[u8]) -> Result<Vec<u8>, AllocError> {
     let mut bytes = Vec::new(alloc);
     bytes.resize(count, 0x23)?;
@@ -24,7 +24,7 @@ pub(crate) fn behind(alloc: Global, count: usize, file: &[u8]) -> Result<Vec<u8>
     Ok(bytes)
 }
 
-/// So many bytes, and the bytes of an image's file behind them.
+/// This many bytes, followed by the bytes of an image's file.
 pub(crate) fn file_behind(
     alloc: Global,
     count: usize,
@@ -33,13 +33,13 @@ pub(crate) fn file_behind(
     behind(alloc, count, &file_of(alloc, image)?)
 }
 
-/// The bytes of a file, and five bytes behind them.
+/// The bytes of a file, followed by five bytes.
 pub(crate) fn with_tail(mut file: Vec<u8>) -> Result<Vec<u8>, AllocError> {
     file.extend_from_slice(&[1, 2, 3, 4, 5])?;
     Ok(file)
 }
 
-/// So many bytes, and behind them the bytes of an image's file where words are in this order.
+/// This many bytes, followed by the bytes of an image's file with words in this order.
 fn file_in_behind(
     alloc: Global,
     count: usize,
@@ -49,7 +49,7 @@ fn file_in_behind(
     behind(alloc, count, &file_in(alloc, order, image)?)
 }
 
-/// The same behind 512 bytes.
+/// The bytes of an image's file with words in this order, after 512 bytes.
 fn behind_512(alloc: Global, order: Order, image: &TestImage) -> Result<Vec<u8>, AllocError> {
     file_in_behind(alloc, 512, order, image)
 }
@@ -62,12 +62,12 @@ const DEAD_ARRAY_SUMMARY: Summary = Summary {
     data_after: 12,
 };
 
-/// So many bytes, the bytes of the file of `DEAD_ARRAY`, and five bytes behind them.
+/// This many bytes, followed by the bytes of the file of `DEAD_ARRAY` and five bytes.
 fn array_with_tail(alloc: Global, count: usize, order: Order) -> Result<Vec<u8>, AllocError> {
     with_tail(file_in_behind(alloc, count, order, &DEAD_ARRAY)?)
 }
 
-/// Asserts that a run over these bytes keeps so many before the header, and none of those behind
+/// Asserts that a run over these bytes keeps this many before the header, and none of those after
 /// the data.
 pub(crate) fn assert_array_left_out<R: Threads + Wait + Sync + Abort + AllocGlobal>(
     rt: &R,
@@ -92,7 +92,7 @@ fn keeps_512_bytes(rt: HostRuntime) -> Result<(), Fail> {
     Ok(())
 }
 
-/// The first so many bytes of a file whose image stands behind 512 bytes.
+/// The first bytes, this many, of a file whose image follows 512 bytes.
 fn cut_to(alloc: Global, order: Order, length: usize) -> Result<Vec<u8>, AllocError> {
     let mut file = behind_512(alloc, order, &DEAD_ARRAY)?;
     file.truncate(length);
@@ -125,7 +125,7 @@ const SHORT_LENGTHS: &[(usize, Fault)] = &[
     (599, Fault::Truncated),
 ];
 
-/// The version counts behind 512 bytes where it is all there, and from it on all is counted.
+/// The version counts after 512 bytes if it is all there, and from it on all is counted.
 #[test]
 fn too_few_bytes(rt: HostRuntime) -> Result<(), Fail> {
     for (length, fault) in SHORT_LENGTHS {
@@ -145,7 +145,7 @@ fn other_counts_of_bytes(rt: HostRuntime) -> Result<(), Fail> {
     Ok(())
 }
 
-/// A file of two images, of which the second stands behind 512 bytes.
+/// A file of two images, of which the second follows 512 bytes.
 fn two_images(alloc: Global, first: &[u8], second: &[u8]) -> Result<Vec<u8>, AllocError> {
     let mut file = Vec::from_slice(alloc, first)?;
     file.resize(512, 0)?;
@@ -153,7 +153,7 @@ fn two_images(alloc: Global, first: &[u8], second: &[u8]) -> Result<Vec<u8>, All
     Ok(file)
 }
 
-/// A file of a dead array in this byte order, and of nil in that behind 512 bytes.
+/// A file of a dead array in the first byte order, and of nil in the second after 512 bytes.
 fn array_and_nil(alloc: Global, first: Order, second: Order) -> Result<Vec<u8>, AllocError> {
     let first = file_in(alloc, first, &DEAD_ARRAY)?;
     let second = file_in(alloc, second, &NIL_ALONE)?;
@@ -181,7 +181,7 @@ fn front_goes_first(rt: HostRuntime) -> Result<(), Fail> {
     Ok(())
 }
 
-/// A file that begins with these header words, and has a sound image behind 512 bytes.
+/// A file that begins with these header words, and has a valid image after 512 bytes.
 fn sound_behind(alloc: Global, stated: &[u32]) -> Result<Vec<u8>, AllocError> {
     let mut first = Vec::new(alloc);
     put_words(&mut first, Order::Little, stated)?;
@@ -189,7 +189,7 @@ fn sound_behind(alloc: Global, stated: &[u32]) -> Result<Vec<u8>, AllocError> {
     two_images(alloc, &first, &second)
 }
 
-/// Header words of which one is bad, and the fault.
+/// Header words, one of which is bad, and the fault.
 const BROKEN_HEADERS: &[([u32; 4], Fault)] = &[
     ([6502, 68, 24, 0x1000], Fault::BadHeaderSize),
     ([6502, 64, 22, 0x1000], Fault::BadDataSize),
@@ -206,8 +206,8 @@ fn broken_header_at_the_front(rt: HostRuntime) -> Result<(), Fail> {
     Ok(())
 }
 
-/// Asserts what a run that clears weak slots writes of an image behind 512 bytes, where words are
-/// in this order.
+/// Asserts what a run that clears weak slots writes of an image after 512 bytes, with words in this
+/// order.
 fn assert_cleared_behind_512<R: Threads + Wait + Sync + Abort + AllocGlobal>(
     rt: &R,
     plan: &Plan,
@@ -225,32 +225,32 @@ fn census_with_weak_slots_cleared(rt: HostRuntime) -> Result<(), Fail> {
     assert_cleared_behind_512(&rt, &plan, Order::Big)
 }
 
-/// What is written of `NIL_ALONE` where no piece of it is.
+/// What is written of `NIL_ALONE` if none of its pieces is written.
 const NO_DATA: TestImage = TestImage {
     special: 0x1004,
     ..EMPTY
 };
 
-/// Nil's image behind so many bytes, as it is read.
+/// Nil's image after this many bytes, as it is read.
 fn image_behind(alloc: Global, count: usize) -> Result<Image, Fault> {
     read_image(alloc, &file_behind(alloc, count, &NIL_ALONE)?)
 }
 
-/// Asserts that an image tells that so many bytes are before its header.
+/// Asserts that an image says that this many bytes are before its header.
 fn assert_prefix<R: Abort + AllocGlobal>(rt: &R, image: &Image, count: usize) -> Result<(), Fail> {
     let wanted = behind(rt.alloc(), count, &[])?;
     assert_bytes(rt, image.prefix(), &wanted);
     Ok(())
 }
 
-/// The bytes that are written of an image and of none of its pieces.
+/// The bytes that are written of an image without its pieces.
 fn written_of(alloc: Global, image: &Image) -> Result<Vec<u8>, Fault> {
     let mut sink = MemorySink::new(alloc, 4096, None)?;
     write_image(image, 0x1004, &[], &mut sink)?;
     Ok(Vec::from_slice(alloc, sink.contents())?)
 }
 
-/// Asserts that so many bytes are written before an image's header.
+/// Asserts that this many bytes are written before an image's header.
 fn assert_prefix_written<R: Abort + AllocGlobal>(
     rt: &R,
     image: &Image,
@@ -261,7 +261,7 @@ fn assert_prefix_written<R: Abort + AllocGlobal>(
     Ok(())
 }
 
-/// An image tells the bytes before its header, and has them written.
+/// An image has the bytes before its header, and they are written.
 #[test]
 fn bytes_of_an_image(rt: HostRuntime) -> Result<(), Fail> {
     for count in [0, 512] {

@@ -14,9 +14,8 @@ use std::sync::Wait;
 use std::test::Fail;
 use std::thread::Threads;
 
-/// How the devices of a run behave: how many bytes the source gives at once, which are at least
-/// one, at which call each device fails, if at all, and how many bytes those take that are written
-/// to.
+/// How the devices of a run behave: how many bytes the source gives at once, at least one, at which
+/// call each device fails, if at all, and how many bytes the sinks take.
 #[derive(Clone, Copy)]
 pub(crate) struct Devices {
     pub piece: u32,
@@ -37,7 +36,7 @@ pub(crate) const SOUND: Devices = Devices {
     census_room: 4096,
 };
 
-/// What a run answers, and the bytes that it wrote.
+/// What a run returns, and the bytes that it wrote.
 #[derive(Drop)]
 pub(crate) struct Outcome {
     pub answer: Result<Summary, Fault>,
@@ -55,7 +54,7 @@ pub(crate) fn plan_of(weak: Weak, census: bool) -> Result<Plan, Fault> {
     })
 }
 
-/// A plan with so many workers, regions of so many words, and a census.
+/// A plan with this many workers, regions of this many words, and a census.
 pub(crate) fn plan_by(workers: u32, words: u32, weak: Weak) -> Result<Plan, Fault> {
     Ok(Plan {
         workers: Workers::new(workers)?,
@@ -104,7 +103,7 @@ pub(crate) fn run_past<R: Threads + Sync, G: Gate>(
     Ok(outcome_of(alloc, answer, &sink, &report)?)
 }
 
-/// What a run answered, and the bytes that its sinks took.
+/// What a run returned, and the bytes that its sinks took.
 fn outcome_of(
     alloc: Global,
     answer: Result<Summary, Fault>,
@@ -152,7 +151,7 @@ pub(crate) fn assert_bytes<R: Abort>(rt: &R, bytes: &[u8], wanted: &[u8]) {
     assert_eq!(rt; bytes, wanted);
 }
 
-/// Asserts that the bytes that so many workers wrote are these.
+/// Asserts that the bytes that this many workers wrote are these.
 pub(crate) fn assert_bytes_by<R: Abort>(rt: &R, workers: u32, bytes: &[u8], wanted: &[u8]) {
     assert_eq!(rt; bytes, wanted, "with {workers} workers");
 }
@@ -171,7 +170,7 @@ pub(crate) fn assert_writes_both<R: Threads + Wait + Sync + Abort + AllocGlobal>
     Ok(())
 }
 
-/// Asserts that a run with so many workers wrote this image and this census.
+/// Asserts that a run with this many workers wrote this image and this census.
 fn assert_wrote_both<R: Abort>(
     rt: &R,
     workers: u32,
@@ -214,7 +213,7 @@ fn assert_wrote_nothing<R: Abort>(rt: &R, outcome: &Outcome, fault: Fault) {
     );
 }
 
-/// Asserts that an image is compacted to another, where words are in this order.
+/// Asserts that an image is compacted to another, with words in this order.
 fn assert_compacts_in<R: Threads + Wait + Sync + Abort + AllocGlobal>(
     rt: &R,
     order: Order,

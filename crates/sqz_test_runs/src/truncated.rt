@@ -1,13 +1,12 @@
-//! Files of which an end is missing, data that say that they are shorter, and words that state the
-//! most and the least.
+//! Truncated files, headers that state fewer data, and words that state the most and the least.
 
 use super::plans::{Case, assert_answers};
 use super::prefixes::behind;
 use super::runs::{assert_refused, assert_refused_by, nine_plans};
 use sqz_fixtures::Chunk::Words;
-use sqz_fixtures::accepted::{CLASS_EDGE, CLASS_NAMES};
 use sqz_fixtures::answers::CLASS_EDGE_ANSWER;
-use sqz_fixtures::with_defects::ALL_ONES;
+use sqz_fixtures::with_bad_formats::ALL_ONES;
+use sqz_fixtures::with_classes::{CLASS_EDGE, CLASS_NAMES};
 use sqz_fixtures::{EMPTY, TestImage, file_in, file_of};
 use sqz_image::Fault;
 use sqz_object::{Order, put_word};
@@ -38,7 +37,7 @@ fn class_file<R: Abort + AllocGlobal>(rt: &R) -> Result<Vec<u8>, Fail> {
     Ok(file)
 }
 
-/// What a file is refused with that ends before the data do.
+/// The fault of a file that ends before the data do.
 fn fault_of_length(length: usize) -> Fault {
     if length < 64 {
         Fault::TooShort
@@ -59,7 +58,7 @@ fn each_length_of_a_file(rt: HostRuntime) -> Result<(), Fail> {
     Ok(())
 }
 
-/// The first so many bytes of that file behind 512 bytes.
+/// The first bytes, this many, of that file after 512 bytes.
 fn cut_behind_512<R: Abort + AllocGlobal>(rt: &R, length: usize) -> Result<Vec<u8>, Fail> {
     let mut file = behind(rt.alloc(), 512, &class_file(rt)?)?;
     file.truncate(length);
@@ -87,13 +86,13 @@ const EDGE_CASE: Case = Case {
     ),
 };
 
-/// Has the header of their file say that the data have so many bytes.
+/// Makes the header of their file say that the data have this many bytes.
 fn state_size<R: Abort>(rt: &R, file: &mut [u8], size: u32) {
     assert_eq!(rt; file.len(), 112);
     file[8..12].copy_from_slice(&put_word(Order::Little, size));
 }
 
-/// The bytes of their file, whose header says that the data have so many bytes.
+/// The bytes of their file, whose header says that the data have this many bytes.
 fn file_that_says<R: Abort + AllocGlobal>(rt: &R, size: u32) -> Result<Vec<u8>, Fail> {
     let mut file = file_of(rt.alloc(), &CLASS_EDGE)?;
     state_size(rt, &mut file, size);
@@ -183,9 +182,9 @@ fn assert_image_refused_by_all<R: Threads + Wait + Sync + Abort + AllocGlobal>(
     Ok(())
 }
 
-/// Images whose words state the least size or the most, and the fault of each where weak slots are
-/// kept and where they are cleared: 63 words of ones are a method with fewer literals than it
-/// states, whose field 0 names nothing.
+/// Images whose words state the least size or the most, and the fault of each if weak slots are
+/// kept and if they are cleared: 63 words of ones are a method with fewer literals than it states,
+/// whose field 0 points to no object.
 const ZEROS_AND_ONES: &[(TestImage, Fault, Fault)] = &[
     (
         TWO_ZEROS,

@@ -36,7 +36,7 @@ fn run_again<R: Threads + Wait + Sync + AllocGlobal>(
     run_over(rt, rt.alloc(), &plan, file, &SOUND)
 }
 
-/// What a second run counts where nothing changes any more.
+/// What a second run counts if nothing changes any more.
 fn counts_of_second(first: Summary) -> Summary {
     Summary {
         objects: first.kept,
@@ -79,7 +79,8 @@ fn settles<R: Threads + Wait + Sync + Abort + AllocGlobal>(
     Ok(true)
 }
 
-/// How many of these images are accepted by this policy and, behind so many bytes, settle.
+/// How many of these images are accepted under this policy after this many bytes, and are compacted
+/// to fixed points.
 fn count_among<R: Threads + Wait + Sync + Abort + AllocGlobal>(
     rt: &R,
     weak: Weak,
@@ -95,7 +96,8 @@ fn count_among<R: Threads + Wait + Sync + Abort + AllocGlobal>(
     Ok(count)
 }
 
-/// How many of all images are accepted by this policy and, behind so many bytes, settle.
+/// How many of all images are accepted under this policy after this many bytes, and are compacted
+/// to fixed points.
 fn count_settled<R: Threads + Wait + Sync + Abort + AllocGlobal>(
     rt: &R,
     weak: Weak,
@@ -122,12 +124,12 @@ fn nil_file(alloc: Global) -> Result<Vec<u8>, AllocError> {
     file_of(alloc, &NIL_ALONE)
 }
 
-/// The file of nil, and five bytes behind it.
+/// The file of nil, and five bytes after it.
 fn nil_with_tail(alloc: Global) -> Result<Vec<u8>, AllocError> {
     with_tail(nil_file(alloc)?)
 }
 
-/// Asserts how long the file of nil is with five bytes behind it, and without them.
+/// Asserts how long the file of nil is with five bytes after it, and without them.
 fn assert_lengths<R: Abort + AllocGlobal>(rt: &R) -> Result<(), Fail> {
     let with_tail = nil_with_tail(rt.alloc())?.len();
     let without = nil_file(rt.alloc())?.len();
@@ -155,8 +157,7 @@ fn assert_tail_settles<R: Threads + Wait + Sync + Abort + AllocGlobal>(
     Ok(())
 }
 
-/// The first run leaves out five bytes that stand behind the data, and the second run changes
-/// nothing.
+/// The first run leaves out the five bytes after the data, and the second run changes nothing.
 #[test]
 fn bytes_after_data_are_left_out_once(rt: HostRuntime) -> Result<(), Fail> {
     assert_lengths(&rt)?;

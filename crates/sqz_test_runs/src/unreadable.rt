@@ -1,4 +1,4 @@
-//! Images of which a chunk cannot be read, and images without a special objects array.
+//! Images with a chunk that cannot be read, and images without a special objects array.
 
 use super::runs::assert_image_refused;
 use sqz_fixtures::unreadable::{
@@ -38,7 +38,7 @@ fn assert_all_unreadable<R: Threads + Wait + Sync + Abort + AllocGlobal>(
     Ok(())
 }
 
-/// Images of which one chunk cannot be read, and the fault of each.
+/// Images with one chunk that cannot be read, and the fault of each.
 const UNREADABLE: &[(TestImage, Fault)] = &[
     (ZERO_SIZE, Fault::ZeroSize { word: 1 }),
     (FREE_ZERO_SIZE, Fault::ZeroSize { word: 1 }),

@@ -1,32 +1,47 @@
 //! Censuses of images with weak objects.
 
 use super::censuses::assert_census;
-use sqz_fixtures::Chunk::{Array, Classed, LongArray, Short};
+use sqz_fixtures::Chunk::{Array, Classed, Fixed, LongArray};
 use sqz_fixtures::{EMPTY, NIL, TestImage};
 use sqz_trace::Weak;
 use std::test::Fail;
 
-/// A weak object with a class word. Of its weak slots one names an object of another class, and one
-/// that class; nothing else leads to these.
+/// A weak object with a class word. One of its weak slots points to an object of another class, and
+/// one to that class; nothing else leads to these.
 pub(crate) const WEAK_CLASS: TestImage = TestImage {
     chunks: &[
         NIL,
-        Short(1, 1, &[1, 1, 0x405]),
-        Short(1, 1, &[1, 1, 0x405]),
-        Classed(0x1014, 0, 1, &[1]),
-        Classed(0x1004, 0, 4, &[0x1028, 0x1014]),
+        Fixed(&[1, 1, 0x405]),
+        Fixed(&[1, 1, 0x405]),
+        Classed {
+            class: 0x1014,
+            compact: 0,
+            format: 1,
+            fields: &[1],
+        },
+        Classed {
+            class: 0x1004,
+            compact: 0,
+            format: 4,
+            fields: &[0x1028, 0x1014],
+        },
         Array(&[0x1000, 0x1034]),
     ],
     special: 0x1040,
     ..EMPTY
 };
 
-/// What is left of it where weak slots are cleared.
+/// What is left of it if weak slots are cleared.
 pub(crate) const WEAK_CLASS_CLEARED: TestImage = TestImage {
     chunks: &[
         NIL,
-        Short(1, 1, &[1, 1, 0x405]),
-        Classed(0x1004, 0, 4, &[0x1000, 0x1000]),
+        Fixed(&[1, 1, 0x405]),
+        Classed {
+            class: 0x1004,
+            compact: 0,
+            format: 4,
+            fields: &[0x1000, 0x1000],
+        },
         Array(&[0x1000, 0x1018]),
     ],
     special: 0x1024,
@@ -41,7 +56,7 @@ pub(crate) const WEAK_CLASS_CENSUS: &str = concat!(
     "         4           48 total\n",
 );
 
-/// The class of the weak object is counted. What only its weak slots name is counted where these
+/// The class of the weak object is counted. What only its weak slots point to is counted if these
 /// are kept.
 #[test]
 fn census_of_weak_object(rt: HostRuntime) -> Result<(), Fail> {
@@ -56,20 +71,28 @@ fn census_of_weak_object(rt: HostRuntime) -> Result<(), Fail> {
     assert_census(&rt, Weak::Keep, &WEAK_CLASS, kept)
 }
 
-/// The array of compact classes is weak, and names the class of the index 1.
+/// The array of compact classes is weak, and points to the class of the index 1.
 const WEAK_COMPACT_CLASSES: TestImage = TestImage {
     chunks: &[
         NIL,
-        Short(1, 1, &[1, 1, 0x405]),
-        Short(1, 1, &[1, 1, 0x405]),
-        Classed(0x1004, 0, 4, &[0x1014]),
-        LongArray(&[0x1000], 0x1028),
+        Fixed(&[1, 1, 0x405]),
+        Fixed(&[1, 1, 0x405]),
+        Classed {
+            class: 0x1004,
+            compact: 0,
+            format: 4,
+            fields: &[0x1014],
+        },
+        LongArray {
+            first: &[0x1000],
+            last: 0x1028,
+        },
     ],
     special: 0x1030,
     ..EMPTY
 };
 
-/// The class of the index 1 has a row where weak slots are kept.
+/// The class of the index 1 has a row if weak slots are kept.
 #[test]
 fn census_of_weak_compact_classes(rt: HostRuntime) -> Result<(), Fail> {
     let cleared = concat!(

@@ -18,8 +18,8 @@ use std::sync::Wait;
 use std::test::Fail;
 use std::thread::Threads;
 
-/// Asserts that an image is refused with this fault where weak slots are cleared, and that where
-/// they are kept all is as it was.
+/// Asserts that an image is refused with this fault if weak slots are cleared, and that it stays as
+/// it is if they are kept.
 fn assert_not_cleared<R: Threads + Wait + Sync + Abort + AllocGlobal>(
     rt: &R,
     image: &TestImage,
@@ -66,8 +66,8 @@ const BAD_FIELD: Fault = Fault::BadPointer {
     slot: Slot::Field(0),
 };
 
-/// Images that are refused under both policies, and the faults where weak slots are cleared and
-/// where they are kept: nil counts before a missing class, this before a bad weak object, that
+/// Images that are refused under both policies, and the faults if weak slots are cleared and if
+/// they are kept: a missing nil counts before a missing class, this before a bad weak object, that
 /// before a bad field, and a weak slot may not be bad.
 const REFUSED_BY_BOTH: &[(TestImage, Fault, Fault)] = &[
     (

@@ -1,22 +1,22 @@
-//! Images with weak objects, and what is left of them where weak slots are cleared and where they
-//! are kept.
+//! Images with weak objects, and what is left of them if weak slots are cleared and if they are
+//! kept.
 
 use super::runs::assert_compacts;
-use sqz_fixtures::Chunk::{Array, Classed, Long, LongArray, Short};
+use sqz_fixtures::Chunk::{Array, Classed, Fixed, Long, LongArray, Short};
 use sqz_fixtures::answers::WEAK_FIELDS_CLEARED;
 use sqz_fixtures::with_weak_objects::{
     WEAK_COMPACT_CLASS, WEAK_FIELDS, WEAK_FIXED_FIELD, WEAK_OWN_CLASS, WEAK_SIXTY_FOUR_FIXED,
     WEAK_SLOT_OF_LIVE_OBJECT, WEAK_SPECIAL_WITH_CLASS_WORD, WEAK_WEAK_CLASS,
 };
-use sqz_fixtures::{EMPTY, NIL, TestImage};
+use sqz_fixtures::{EMPTY, LEAF, NIL, TestImage};
 use sqz_trace::Weak;
 use std::process::Abort;
 use std::sync::Wait;
 use std::test::Fail;
 use std::thread::Threads;
 
-/// Asserts what is left of an image where weak slots are cleared, and that where they are kept all
-/// is as it was.
+/// Asserts what is left of an image if weak slots are cleared, and that it stays as it is if they
+/// are kept.
 fn assert_cleared<R: Threads + Wait + Sync + Abort + AllocGlobal>(
     rt: &R,
     image: &TestImage,
@@ -26,13 +26,18 @@ fn assert_cleared<R: Threads + Wait + Sync + Abort + AllocGlobal>(
     assert_compacts(rt, Weak::Keep, image, image)
 }
 
-/// What is left of `WEAK_FIXED_FIELD` where weak slots are cleared.
+/// What is left of `WEAK_FIXED_FIELD` if weak slots are cleared.
 const FIXED_FIELD_CLEARED: TestImage = TestImage {
     chunks: &[
         NIL,
-        Short(1, 1, &[1, 1, 0x409]),
-        Short(1, 0, &[1]),
-        Classed(0x1004, 0, 4, &[0x1014, 0x1000]),
+        Fixed(&[1, 1, 0x409]),
+        LEAF,
+        Classed {
+            class: 0x1004,
+            compact: 0,
+            format: 4,
+            fields: &[0x1014, 0x1000],
+        },
         Array(&[0x1000, 0x1020]),
     ],
     special: 0x102C,
@@ -43,7 +48,12 @@ const FIXED_FIELD_CLEARED: TestImage = TestImage {
 const OWN_CLASS_CLEARED: TestImage = TestImage {
     chunks: &[
         NIL,
-        Classed(0x1008, 0, 4, &[1, 0x1000, 0x409]),
+        Classed {
+            class: 0x1008,
+            compact: 0,
+            format: 4,
+            fields: &[1, 0x1000, 0x409],
+        },
         Array(&[0x1000, 0x1008]),
     ],
     special: 0x1018,
@@ -54,16 +64,26 @@ const OWN_CLASS_CLEARED: TestImage = TestImage {
 const WEAK_CLASS_CLEARED: TestImage = TestImage {
     chunks: &[
         NIL,
-        Short(1, 1, &[1, 1, 0x405]),
-        Classed(0x1004, 0, 4, &[1, 0x1000, 0x405]),
-        Classed(0x1018, 0, 4, &[0x1000]),
+        Fixed(&[1, 1, 0x405]),
+        Classed {
+            class: 0x1004,
+            compact: 0,
+            format: 4,
+            fields: &[1, 0x1000, 0x405],
+        },
+        Classed {
+            class: 0x1018,
+            compact: 0,
+            format: 4,
+            fields: &[0x1000],
+        },
         Array(&[0x1000, 0x102C]),
     ],
     special: 0x1034,
     ..EMPTY
 };
 
-/// Images with weak objects, and what is left of each where weak slots are cleared.
+/// Images with weak objects, and what is left of each if weak slots are cleared.
 const CLEARED: &[(TestImage, TestImage)] = &[
     (WEAK_FIELDS, WEAK_FIELDS_CLEARED),
     (WEAK_FIXED_FIELD, FIXED_FIELD_CLEARED),
@@ -84,9 +104,14 @@ fn cleared_and_kept(rt: HostRuntime) -> Result<(), Fail> {
 const LIVE_OBJECT_ANSWER: TestImage = TestImage {
     chunks: &[
         NIL,
-        Short(1, 1, &[1, 1, 0x405]),
-        Short(1, 0, &[1]),
-        Classed(0x1004, 0, 4, &[0x1014]),
+        Fixed(&[1, 1, 0x405]),
+        LEAF,
+        Classed {
+            class: 0x1004,
+            compact: 0,
+            format: 4,
+            fields: &[0x1014],
+        },
         Array(&[0x1000, 0x1020, 0x1014]),
     ],
     special: 0x1028,
@@ -101,13 +126,19 @@ fn weak_slot_of_live_object(rt: HostRuntime) -> Result<(), Fail> {
     Ok(())
 }
 
-/// What is left of `WEAK_SIXTY_FOUR_FIXED` where weak slots are cleared.
+/// What is left of `WEAK_SIXTY_FOUR_FIXED` if weak slots are cleared.
 const SIXTY_FOUR_FIXED_CLEARED: TestImage = TestImage {
     chunks: &[
         NIL,
-        Short(1, 1, &[1, 1, 0x2_0005]),
-        Short(1, 0, &[1]),
-        Long(0x1004, 0, 4, &[1; 63], &[0x1014, 0x1000]),
+        Fixed(&[1, 1, 0x2_0005]),
+        LEAF,
+        Long {
+            class: 0x1004,
+            compact: 0,
+            format: 4,
+            first: &[1; 63],
+            others: &[0x1014, 0x1000],
+        },
         Array(&[0x1000, 0x1024]),
     ],
     special: 0x112C,
@@ -123,10 +154,17 @@ fn sixty_four_fixed_fields(rt: HostRuntime) -> Result<(), Fail> {
 const COMPACT_CLASS_CLEARED: TestImage = TestImage {
     chunks: &[
         NIL,
-        Short(1, 1, &[1, 1, 0x405]),
-        Short(1, 4, &[0x1000]),
+        Fixed(&[1, 1, 0x405]),
+        Short {
+            compact: 1,
+            format: 4,
+            fields: &[0x1000],
+        },
         Array(&[0x1004]),
-        LongArray(&[0x1000, 0x1014], 0x101C),
+        LongArray {
+            first: &[0x1000, 0x1014],
+            last: 0x101C,
+        },
     ],
     special: 0x1024,
     ..EMPTY

@@ -1,4 +1,4 @@
-//! Devices that pass calls on: what goes through them, and what does not once they failed.
+//! Devices that pass calls on: what goes through them, and what does not after they failed.
 
 use sqz_fixtures::accepted::DEAD_ARRAY;
 use sqz_fixtures::file_of;
@@ -27,7 +27,7 @@ fn reads_a_file_in_pieces_of_any_size(rt: HostRuntime) -> Result<(), Fail> {
     Ok(())
 }
 
-/// Bytes that tell where they stand.
+/// Bytes that show their position.
 const BYTES: [u8; 16] = [0, 1, 2, 3, 4, 5, 6, 7, 8, 9, 10, 11, 12, 13, 14, 15];
 
 #[test]
@@ -136,7 +136,7 @@ impl Write for FailsOnce {
     }
 }
 
-/// Asserts that a write that fails so is not tried again where all bytes are to be written.
+/// Asserts that a write that fails so is not tried again if all bytes are to be written.
 fn assert_written_once<R: Abort>(rt: &R, error: ErrorKind) {
     let mut writer = FailsOnce { writes: 0, error };
     let mut sink = WriteSink::new(&mut writer);

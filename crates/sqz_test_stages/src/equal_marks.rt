@@ -135,7 +135,7 @@ fn of_all_images(rt: HostRuntime) -> Result<(), Fail> {
     Ok(())
 }
 
-/// More weak objects, and free chunks behind all objects.
+/// More weak objects, and free chunks after all objects.
 #[test]
 fn of_weak_objects_and_of_free_chunks_at_the_end(rt: HostRuntime) -> Result<(), Fail> {
     assert_equal_for_each(

@@ -2,27 +2,33 @@
 
 ghost use Rattle.std.specs.Prelude.{◌<◌};
 
-use sqz_fixtures::Chunk::{Array, Classed, Free, Long, LongArray, Short, Words};
+use sqz_fixtures::Chunk::{Array, Classed, Fixed, Free, Long, LongArray, Short, Words};
 use sqz_fixtures::accepted::DEAD_CYCLE;
-use sqz_fixtures::{EMPTY, NIL, ODD, TestImage, image_of, put_header, put_words};
+use sqz_fixtures::{EMPTY, LEAF, NIL, ODD, TestImage, image_of, put_header, put_words};
 use sqz_image::{Image, read_image};
 use sqz_object::Order;
 use std::alloc::Global;
 use std::test::Fail;
 
-/// The second object is dead, and the third has six words, of which three are header words.
+/// The second object is dead, and the third has six words, three of them header words.
 pub(crate) const LONG_HEADER: TestImage = TestImage {
     chunks: &[
         NIL,
         Array(&[1, 1]),
-        Long(0x1000, 0, 2, &[1, 1, 1], &[]),
+        Long {
+            class: 0x1000,
+            compact: 0,
+            format: 2,
+            first: &[1, 1, 1],
+            others: &[],
+        },
         Array(&[0x1000, 0x1018]),
     ],
     special: 0x1028,
     ..EMPTY
 };
 
-/// Free chunks stand at the end.
+/// Free chunks at the end.
 pub(crate) const FREE_AT_THE_END: TestImage = TestImage {
     chunks: &[NIL, Array(&[0x1000]), Free(&[]), Free(&[1])],
     special: 0x1004,
@@ -34,8 +40,13 @@ pub(crate) const CLASS_WORDS: TestImage = TestImage {
     chunks: &[
         NIL,
         Array(&[1, 1]),
-        Short(1, 0, &[1]),
-        Classed(0x1010, 0, 1, &[1]),
+        LEAF,
+        Classed {
+            class: 0x1010,
+            compact: 0,
+            format: 1,
+            fields: &[1],
+        },
         Words(&[8, 0x1010, 0x208, 0x101C]),
         Array(&[0x1000, 0x102C]),
     ],
@@ -47,8 +58,13 @@ pub(crate) const CLASS_WORDS: TestImage = TestImage {
 pub(crate) const CLASS_WORDS_ANSWER: TestImage = TestImage {
     chunks: &[
         NIL,
-        Short(1, 0, &[1]),
-        Classed(0x1004, 0, 1, &[1]),
+        LEAF,
+        Classed {
+            class: 0x1004,
+            compact: 0,
+            format: 1,
+            fields: &[1],
+        },
         Words(&[8, 0x1004, 0x208, 0x1010]),
         Array(&[0x1000, 0x1020]),
     ],
@@ -60,79 +76,106 @@ pub(crate) const CLASS_WORDS_ANSWER: TestImage = TestImage {
 pub(crate) const CONTEXT_AND_METHOD: TestImage = TestImage {
     chunks: &[
         NIL,
-        Short(
-            13,
-            3,
-            &[0x1000, 1, 3, 0x1000, 0x1000, 0x1000, 0x1000, 1, 2, ODD],
-        ),
-        Short(5, 12, &[0x801, 0x1000, 0x1000, 0x100C]),
+        Short {
+            compact: 13,
+            format: 3,
+            fields: &[0x1000, 1, 3, 0x1000, 0x1000, 0x1000, 0x1000, 1, 2, ODD],
+        },
+        Short {
+            compact: 5,
+            format: 12,
+            fields: &[0x801, 0x1000, 0x1000, 0x100C],
+        },
         Array(&[0x1004, 0x1030]),
     ],
     special: 0x1044,
     ..EMPTY
 };
 
-/// A weak object, of whose three weak slots one names a live object, one a dead one, and one holds
-/// an integer. Its class word names a class without fixed fields. The first object is dead, so that
-/// all others move.
+/// A weak object with three weak slots: one points to a live object, one to a dead one, and one
+/// holds an integer. Its class word points to a class without fixed fields. The first object is
+/// dead, so that all others move.
 pub(crate) const THREE_WEAK_SLOTS: TestImage = TestImage {
     chunks: &[
         Array(&[1, 1]),
         NIL,
-        Short(1, 1, &[1, 1, 0x405]),
-        Short(1, 0, &[1]),
-        Short(1, 0, &[1]),
-        Classed(0x1010, 0, 4, &[0x1020, 0x1028, 7]),
+        Fixed(&[1, 1, 0x405]),
+        LEAF,
+        LEAF,
+        Classed {
+            class: 0x1010,
+            compact: 0,
+            format: 4,
+            fields: &[0x1020, 0x1028, 7],
+        },
         Array(&[0x100C, 0x1034, 0x1020]),
     ],
     special: 0x1044,
     ..EMPTY
 };
 
-/// What is left of it where weak slots are cleared.
+/// What is left of it if weak slots are cleared.
 pub(crate) const THREE_WEAK_SLOTS_CLEARED: TestImage = TestImage {
     chunks: &[
         NIL,
-        Short(1, 1, &[1, 1, 0x405]),
-        Short(1, 0, &[1]),
-        Classed(0x1004, 0, 4, &[0x1014, 0x1000, 7]),
+        Fixed(&[1, 1, 0x405]),
+        LEAF,
+        Classed {
+            class: 0x1004,
+            compact: 0,
+            format: 4,
+            fields: &[0x1014, 0x1000, 7],
+        },
         Array(&[0x1000, 0x1020, 0x1014]),
     ],
     special: 0x1030,
     ..EMPTY
 };
 
-/// What is left of it where they are kept.
+/// What is left of it if they are kept.
 pub(crate) const THREE_WEAK_SLOTS_KEPT: TestImage = TestImage {
     chunks: &[
         NIL,
-        Short(1, 1, &[1, 1, 0x405]),
-        Short(1, 0, &[1]),
-        Short(1, 0, &[1]),
-        Classed(0x1004, 0, 4, &[0x1014, 0x101C, 7]),
+        Fixed(&[1, 1, 0x405]),
+        LEAF,
+        LEAF,
+        Classed {
+            class: 0x1004,
+            compact: 0,
+            format: 4,
+            fields: &[0x1014, 0x101C, 7],
+        },
         Array(&[0x1000, 0x1028, 0x1014]),
     ],
     special: 0x1038,
     ..EMPTY
 };
 
-/// A weak object of two fields, of which one is fixed, as the class says that its compact index
-/// names. Its weak slot names a dead object.
+/// A weak object of two fields, one of which is fixed, as the class of its compact index says. Its
+/// weak slot points to a dead object.
 pub(crate) const FIXED_FIELD_BY_INDEX: TestImage = TestImage {
     chunks: &[
         NIL,
-        Short(1, 1, &[1, 1, 0x409]),
-        Short(1, 0, &[1]),
-        Short(1, 0, &[1]),
-        Short(1, 4, &[0x1014, 0x101C]),
+        Fixed(&[1, 1, 0x409]),
+        LEAF,
+        LEAF,
+        Short {
+            compact: 1,
+            format: 4,
+            fields: &[0x1014, 0x101C],
+        },
         Array(&[0x1004]),
-        LongArray(&[0x1000, 0x1024], 0x1030),
+        LongArray {
+            first: &[0x1000, 0x1024],
+            last: 0x1030,
+        },
     ],
     special: 0x1038,
     ..EMPTY
 };
 
-/// The special objects array names three objects, which name one, two and four objects more.
+/// The special objects array points to three objects, which point to one, two and four objects
+/// more.
 pub(crate) const FAN: TestImage = TestImage {
     chunks: &[
         NIL,
@@ -142,9 +185,9 @@ pub(crate) const FAN: TestImage = TestImage {
         NIL,
         NIL,
         NIL,
-        Short(1, 1, &[0x1000]),
-        Short(1, 1, &[0x1004, 0x1008]),
-        Short(1, 1, &[0x100C, 0x1010, 0x1014, 0x1018]),
+        Fixed(&[0x1000]),
+        Fixed(&[0x1004, 0x1008]),
+        Fixed(&[0x100C, 0x1010, 0x1014, 0x1018]),
         Array(&[0x101C, 0x1024, 0x1030]),
     ],
     special: 0x1044,
@@ -171,8 +214,8 @@ pub(crate) fn long_object_image(alloc: Global, words: u32) -> Result<Image, Fail
     Ok(read_image(alloc, &file)?)
 }
 
-/// An image of nil, of so many objects that each name the next one, and of the special objects
-/// array, which names the first.
+/// An image of nil, of this many objects that each point to the next one, and of the special
+/// objects array, which points to the first.
 pub(crate) fn chain_image(alloc: Global, count: u32) -> Result<Image, Fail>
     requires { count < 10000 }
 {

@@ -12,7 +12,7 @@ use std::sync::Wait;
 use std::test::Fail;
 use std::thread::Threads;
 
-/// Which objects are marked by so many workers, who pass a gate.
+/// Which objects are marked by this many workers, who pass a gate.
 pub(crate) fn marked_by<R: Threads + Wait + Sync + AllocGlobal, G: Gate>(
     rt: &R,
     heap: &Heap,
@@ -24,7 +24,7 @@ pub(crate) fn marked_by<R: Threads + Wait + Sync + AllocGlobal, G: Gate>(
     Ok(flags_of(rt.alloc(), heap, &marks)?)
 }
 
-/// Asserts that so many workers, who pass a gate, mark the four reachable objects of an image of
+/// Asserts that this many workers, who pass a gate, mark the four reachable objects of an image of
 /// six.
 fn assert_marks<R: Threads + Wait + Sync + Abort + AllocGlobal, G: Gate>(
     rt: &R,

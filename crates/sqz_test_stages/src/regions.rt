@@ -14,7 +14,7 @@ use std::process::Abort;
 use std::test::Fail;
 use std::thread::Threads;
 
-/// Where the live objects of the dead cycle's image go.
+/// The new addresses of the live objects of the dead cycle's image.
 const DEAD_CYCLE_PLACES: [Option<u32>; 6] = [
     Some(0x1000),
     Some(0x1004),
@@ -37,7 +37,7 @@ pub(crate) fn cut_at(alloc: Global, points: &[u32]) -> Result<Cut, Fail> {
     Ok(Cut::at(points.to_vec(alloc)?)?)
 }
 
-/// Where the reachable objects of an image go.
+/// Where the reachable objects of an image go, by regions.
 #[derive(Drop)]
 pub(crate) struct Placed {
     /// How many live words each region has.
@@ -113,7 +113,7 @@ fn assert_placed<R: Abort>(rt: &R, heap: &Heap, placed: &Placed, places: &[Optio
     }
 }
 
-/// The same, cut at these words.
+/// Asserts it for an image that is cut at these words.
 fn assert_places_at<R: Threads + Sync + Abort + AllocGlobal>(
     rt: &R,
     image: &Image,

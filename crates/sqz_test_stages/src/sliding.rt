@@ -22,7 +22,7 @@ use std::process::Abort;
 use std::test::Fail;
 use std::thread::Threads;
 
-/// The pieces of a heap under a cut, moved by so many workers, who pass a gate.
+/// The pieces of a heap under a cut, moved by this many workers, who pass a gate.
 pub(crate) fn slid_by<R: Threads + Sync + AllocGlobal, G: Gate>(
     rt: &R,
     heap: &Heap,
@@ -60,7 +60,7 @@ fn joined(alloc: Global, pieces: &[Vec<u32>]) -> Result<Vec<u32>, AllocError> {
     Ok(words)
 }
 
-/// Asserts that pieces have so many words each.
+/// Asserts that the pieces have this many words each.
 pub(crate) fn assert_sizes<R: Abort>(rt: &R, pieces: &[Vec<u32>], sizes: &[usize]) {
     assert_eq!(rt; pieces.len(), sizes.len());
     for (piece, size) in pieces.iter().zip(sizes) {
@@ -79,7 +79,7 @@ fn assert_words<R: Abort + AllocGlobal>(
     Ok(())
 }
 
-/// Asserts that pieces have so many words each, and together those of an image.
+/// Asserts that the pieces have this many words each, and together those of an image.
 pub(crate) fn assert_pieces<R: Abort + AllocGlobal>(
     rt: &R,
     pieces: &Pieces,
@@ -91,7 +91,7 @@ pub(crate) fn assert_pieces<R: Abort + AllocGlobal>(
     assert_words(rt, &joined(rt.alloc(), pieces)?, wanted)
 }
 
-/// The words of an object after the move, one by one, put behind others.
+/// Adds the words of an object after the move to a list, one by one.
 fn put_moved_words(
     words: &mut Vec<u32>,
     heap: &Heap,
@@ -138,7 +138,7 @@ fn moved_words<R: Threads + Sync + AllocGlobal>(
     Ok(placed_words(rt.alloc(), heap, weak, &placed.forward)?)
 }
 
-/// Asserts what pieces so many workers make of the dead cycle's image.
+/// Asserts what pieces this many workers make of the dead cycle's image.
 fn assert_three_pieces<R: Threads + Sync + Abort + AllocGlobal>(
     rt: &R,
     image: &Image,
@@ -164,8 +164,8 @@ fn region_of_dead_objects_alone(rt: HostRuntime) -> Result<(), Fail> {
     assert_pieces(&rt, &pieces, &[1, 0, 2], &NIL_ALONE)
 }
 
-/// Asserts that the words of an image after the move are those of another, in two pieces of so many
-/// words.
+/// Asserts that the words of an image after the move are those of another, in two pieces of this
+/// many words.
 fn assert_two_pieces<R: Threads + Sync + Abort + AllocGlobal>(
     rt: &R,
     image: &Image,
@@ -178,8 +178,8 @@ fn assert_two_pieces<R: Threads + Sync + Abort + AllocGlobal>(
     assert_pieces(rt, &pieces, sizes, wanted)
 }
 
-/// Asserts that the words of an image after the move are those of another, in two pieces of so many
-/// words and one by one.
+/// Asserts that the words of an image after the move are those of another, in two pieces of this
+/// many words and one by one.
 fn assert_moves<R: Threads + Sync + Abort + AllocGlobal>(
     rt: &R,
     image: &TestImage,
@@ -200,8 +200,8 @@ fn class_words_and_headers_of_three_words(rt: HostRuntime) -> Result<(), Fail> {
     assert_moves(&rt, &CLASS_WORDS, Weak::Keep, 9, &[6, 7], wanted)
 }
 
-/// A weak slot that names a dead object names nil, in its new place. One that names a live object
-/// names that, and an integer and the class word are as where slots are kept.
+/// A weak slot that points to a dead object points to nil, at its new address. One that points to a
+/// live object still points to it, and an integer and the class word are as if slots were kept.
 #[test]
 fn weak_slots_cleared(rt: HostRuntime) -> Result<(), Fail> {
     let wanted = &THREE_WEAK_SLOTS_CLEARED;

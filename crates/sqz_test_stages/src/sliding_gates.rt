@@ -92,8 +92,8 @@ fn one_region_for_two_workers(rt: HostRuntime) -> Result<(), Fail> {
     Ok(())
 }
 
-/// Where shares begin is rounded down: of three regions the first worker has one and the second
-/// has two, and so of one region the first has none. No object begins in the second region.
+/// The beginning of a share is rounded down: of three regions the first worker has one and the
+/// second has two, and so of one region the first has none. No object begins in the second region.
 #[test]
 fn second_worker_has_more_regions(rt: HostRuntime) -> Result<(), Fail> {
     let gate = TurnGate::new(Phase::Slide, &[]);

@@ -1,4 +1,4 @@
-//! Sliding takes memory behind the gate alone, as the size of the process tells.
+//! Sliding allocates only after the gate, as the size of the process shows.
 
 use super::gates::{Hold, TurnGate, assert_held, turn_of};
 use super::sliding::{slid, slid_by};
@@ -17,12 +17,11 @@ use std::rt::Files;
 use std::sync::atomic::{AtomicU64, Ordering};
 use std::test::Fail;
 
-/// How many bytes the large object has. Of so many that are asked for at once the process becomes
-/// larger.
+/// How many bytes the large object has. An allocation of this many bytes makes the process larger.
 const MANY: u32 = 40 << 20;
 
 /// An image with an object of many bytes, from its second word on, and a special objects array that
-/// names it.
+/// points to it.
 fn large_image(alloc: Global) -> Result<Image, Fail> {
     let special = 0x1010 + MANY;
     let order = Order::Little;
@@ -70,7 +69,7 @@ impl<R: Files + Sync> Gate for SizeGate<'_, R> {
     }
 }
 
-/// Asserts that the process had a size before, and by how many pages at least it was larger behind
+/// Asserts that the process had a size before, and by how many pages at least it was larger after
 /// it.
 fn assert_grows<R: Abort>(rt: &R, before: &AtomicU64, behind: &AtomicU64, least: u64) {
     let before = before.load(Ordering::SeqCst);
@@ -81,8 +80,8 @@ fn assert_grows<R: Abort>(rt: &R, before: &AtomicU64, behind: &AtomicU64, least:
     );
 }
 
-/// The room for the list of pieces, 60 MiB, and the first piece, 40 MiB, are taken behind the first
-/// turn and before the second.
+/// The room for the list of pieces, 60 MiB, and the first piece, 40 MiB, are allocated after the
+/// first turn and before the second.
 #[test]
 fn first_turn_is_before_all_memory(rt: HostRuntime) -> Result<(), Fail> {
     let image = large_image(rt.alloc())?;
@@ -96,8 +95,8 @@ fn first_turn_is_before_all_memory(rt: HostRuntime) -> Result<(), Fail> {
     Ok(())
 }
 
-/// How many bytes each of two large objects has. So many that are asked for at once are never a
-/// part of what was freed.
+/// How many bytes each of two large objects has. An allocation of this many bytes is never served
+/// from freed memory.
 const PIECE: u32 = 33 << 20;
 
 /// How many pages those are.
@@ -106,8 +105,8 @@ const PIECE_PAGES: u64 = (PIECE / 4096) as u64;
 /// A large object's header, of three words.
 const LARGE: [u32; 3] = [PIECE + 4, 0x1000, 0x800];
 
-/// An image with nil, a small object, two large ones and the special objects array, which names all
-/// of them.
+/// An image with nil, a small object, two large ones and the special objects array, which points to
+/// all of them.
 fn image_of_two(alloc: Global) -> Result<Image, Fail> {
     let special = 0x1024 + 2 * PIECE;
     let order = Order::Little;

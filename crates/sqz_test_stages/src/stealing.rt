@@ -19,7 +19,7 @@ use std::process::Abort;
 use std::test::Fail;
 use std::thread::Threads;
 
-/// What the marking of an image gives by so many workers, who pass a gate.
+/// What the marking of an image by this many workers, who pass a gate, returns.
 fn marked_by<R: Threads + Sync + AllocGlobal, G: Gate>(
     rt: &R,
     image: &Image,
@@ -43,8 +43,8 @@ fn flags_in(alloc: Global, image: &Image, marked: &Marked) -> Result<Vec<bool>, 
     flags_of(alloc, image.heap(), &marked.marks)
 }
 
-/// What the marking of an image of six objects gives, of which it asserts that the four reachable
-/// ones are marked.
+/// What the marking of an image of six objects returns. Asserts that the four reachable ones are
+/// marked.
 fn marked_dead_cycle<R: Threads + Sync + Abort + AllocGlobal, G: Gate>(
     rt: &R,
     cut: &Cut,
@@ -75,7 +75,7 @@ fn won(marked: &Marked) -> u64 {
     won
 }
 
-/// Asserts of what the marking of that image gives the live words, that there is a count for each
+/// Asserts the live words that the marking of that image returns, that there is a count for each
 /// worker, and that four objects were won.
 fn assert_counts<R: Abort>(rt: &R, workers: u32, live_words: &[u32], marked: &Marked) {
     let found = (
@@ -90,7 +90,8 @@ fn assert_counts<R: Abort>(rt: &R, workers: u32, live_words: &[u32], marked: &Ma
     );
 }
 
-/// Asserts what any number of workers give under a cut whose regions have these live words.
+/// Asserts what marking by any number of workers returns under a cut whose regions have these live
+/// words.
 fn assert_marked<R: Threads + Sync + Abort + AllocGlobal>(
     rt: &R,
     cut: &Cut,
@@ -103,8 +104,8 @@ fn assert_marked<R: Threads + Sync + Abort + AllocGlobal>(
     Ok(())
 }
 
-/// Asserts that workers won so many objects each, and that the special objects array alone was won
-/// outside of their turns.
+/// Asserts that the workers won this many objects each, and that the special objects array alone
+/// was won outside of their turns.
 pub(crate) fn assert_won<R: Abort>(rt: &R, marked: &Marked, claims: &[u32]) {
     let won = (marked.claims.as_slice(), marked.finished);
     assert_eq!(rt;
@@ -114,7 +115,7 @@ pub(crate) fn assert_won<R: Abort>(rt: &R, marked: &Marked, claims: &[u32]) {
     );
 }
 
-/// Asserts that workers pass a gate, and win so many objects each.
+/// Asserts that workers pass a gate, and win this many objects each.
 fn assert_claims<R: Threads + Sync + Abort + AllocGlobal>(
     rt: &R,
     gate: &TurnGate<'_>,
@@ -168,7 +169,7 @@ fn two_workers_mark_at_one_time(rt: HostRuntime) -> Result<(), Fail> {
     Ok(())
 }
 
-/// What the marking of the fan gives by two workers, who pass a gate.
+/// What the marking of the fan by two workers, who pass a gate, returns.
 fn marked_fan<R: Threads + Sync + AllocGlobal>(
     rt: &R,
     gate: &TurnGate<'_>,
@@ -177,7 +178,7 @@ fn marked_fan<R: Threads + Sync + AllocGlobal>(
     marked_by(rt, &image, &Cut::every(1)?, 2, gate)
 }
 
-/// Asserts how many objects of the fan each of two workers won, where the first stops at this turn
+/// Asserts how many objects of the fan each of two workers won, if the first stops at this turn
 /// until the other has won the rest.
 fn assert_fan<R: Threads + Sync + Abort + AllocGlobal>(
     rt: &R,
@@ -201,9 +202,9 @@ fn assert_fan<R: Threads + Sync + Abort + AllocGlobal>(
     Ok(())
 }
 
-/// A worker takes the objects of its own deque first in, first out: behind the special objects
-/// array the one that names one object, then the one that names two, and then the one that names
-/// four.
+/// A worker takes the objects of its own deque first in, first out: after the special objects array
+/// the one that points to one object, then the one that points to two, and then the one that points
+/// to four.
 #[test]
 fn worker_takes_first_what_it_won_first(rt: HostRuntime) -> Result<(), Fail> {
     for (stop, claims) in &[(1, [3, 7]), (2, [4, 6]), (3, [6, 4]), (4, [10, 0])] {
@@ -213,7 +214,7 @@ fn worker_takes_first_what_it_won_first(rt: HostRuntime) -> Result<(), Fail> {
 }
 
 /// The turn at which a worker of a chain stops. The second worker stops a turn later, since it
-/// first takes the object at the lowest address, which names none.
+/// first takes the object at the lowest address, which points to none.
 const fn stop_of(worker: u32) -> Turn {
     turn_of(worker, if worker == 1 { 2 } else { 1 })
 }
@@ -238,7 +239,7 @@ fn chain_holds(alloc: Global, last: u32) -> Result<Vec<Hold>, AllocError>
     Ok(holds)
 }
 
-/// What the marking of a chain of objects gives, of which it asserts that all are marked.
+/// What the marking of a chain of objects returns. Asserts that all are marked.
 pub(crate) fn marked_chain<R: Threads + Sync + Abort + AllocGlobal>(
     rt: &R,
     count: u32,
@@ -255,7 +256,7 @@ pub(crate) fn marked_chain<R: Threads + Sync + Abort + AllocGlobal>(
     Ok(marked)
 }
 
-/// How many objects each worker of a chain won, of which the last has this number.
+/// How many objects each worker of a chain won, up to the worker with this number.
 fn chain_claims(alloc: Global, last: u32) -> Result<Vec<u32>, AllocError>
     requires { last ≤ 7 }
 {

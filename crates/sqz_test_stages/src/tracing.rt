@@ -1,11 +1,13 @@
-//! What objects name, which of them are reachable, and what is wrong with them, in small images.
+//! What objects point to, which of them are reachable, and what is wrong with them, in small
+//! images.
 
 ghost use Rattle.std.specs.Prelude.{◌≡◌, length};
 ghost use Rattle.sqz_image.specs.Objects.{object_count};
 
 use super::images::{CONTEXT_AND_METHOD, FIXED_FIELD_BY_INDEX, dead_cycle_image};
-use sqz_fixtures::accepted::{CLASS_EDGE, SPECIAL_ARRAY_ALONE};
+use sqz_fixtures::accepted::SPECIAL_ARRAY_ALONE;
 use sqz_fixtures::image_of;
+use sqz_fixtures::with_classes::CLASS_EDGE;
 use sqz_fixtures::with_defects::LOWER_OF_TWO;
 use sqz_fixtures::with_weak_objects::{WEAK_FIXED_FIELD, WEAK_SPECIAL, WEAK_TOO_MANY_FIXED};
 use sqz_image::{Fault, Heap, Image, Slot};
@@ -32,7 +34,7 @@ pub(crate) fn flags_of(alloc: Global, heap: &Heap, marks: &Marks) -> Result<Vec<
     Ok(flags)
 }
 
-/// Asserts that so many objects are marked, which are all.
+/// Asserts that this many objects are marked, which are all.
 pub(crate) fn assert_all<R: Abort>(rt: &R, flags: &[bool], count: usize) {
     assert_eq!(rt; flags.len(), count);
     assert!(rt; flags.iter().all(|flag| *flag), "all objects are marked");
@@ -44,7 +46,7 @@ pub(crate) fn marked(alloc: Global, heap: &Heap, weak: Weak) -> Result<Vec<bool>
     Ok(flags_of(alloc, heap, &marks)?)
 }
 
-/// Which objects are marked where all is left to the end.
+/// Which objects are marked if all is left to the end.
 pub(crate) fn finished(alloc: Global, heap: &Heap, weak: Weak) -> Result<Vec<bool>, Fail> {
     let marks = finish(heap, weak, first_shades(alloc, heap)?);
     Ok(flags_of(alloc, heap, &marks)?)
@@ -84,15 +86,15 @@ fn assert_defects<R: Abort>(rt: &R, image: &Image, weak: Weak, defects: &[Option
     }
 }
 
-/// Asserts that a slot of an object names another object, or none.
+/// Asserts that a slot of an object points to another object, or to none.
 fn assert_names<R: Abort>(rt: &R, image: &Image, object: u32, slot: Slot, named: Option<u32>) {
     let heap = image.heap();
     assert!(rt; object < heap.len());
     assert_eq!(rt; target(heap, object, slot), named, "slot {slot:?}");
 }
 
-/// Asserts that of an object so many fields are traced, which are all strong where weak slots are
-/// kept, and that so many are strong where they are cleared.
+/// Asserts how many fields of an object are traced, all of which are strong if weak slots are kept,
+/// and how many are strong if they are cleared.
 fn assert_strong<R: Abort>(rt: &R, image: &Image, object: u32, count: u32, cleared: u32) {
     let heap = image.heap();
     assert!(rt; object < heap.len());
@@ -105,15 +107,14 @@ fn assert_strong<R: Abort>(rt: &R, image: &Image, object: u32, count: u32, clear
     assert_eq!(rt; found, (count, count, cleared), "object {object}");
 }
 
-/// Asserts whether nil is missing where weak slots are cleared. Where they are kept it is not asked
-/// for.
+/// Asserts whether nil is missing if weak slots are cleared. If they are kept, it is not needed.
 fn assert_lacks_nil<R: Abort>(rt: &R, image: &Image, wanted: bool) {
     let heap = image.heap();
     assert!(rt; !lacks_nil(heap, Weak::Keep));
     assert_eq!(rt; lacks_nil(heap, Weak::Clear), wanted);
 }
 
-/// Asserts which objects are marked without a lock, and which where all is left to the end.
+/// Asserts which objects are marked without a lock, and which if all is left to the end.
 fn assert_marks_without_workers<R: Abort + AllocGlobal>(
     rt: &R,
     heap: &Heap,

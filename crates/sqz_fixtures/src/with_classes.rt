@@ -1,0 +1,139 @@
+//! Accepted images with class words, and with classes that have names.
+
+use super::chunks::Chunk::{Array, Classed, Fixed, LongArray, Short, Words};
+use super::chunks::{LEAF, NIL};
+use super::images::{EMPTY, TestImage};
+use sqz_object::Order;
+
+/// A class word keeps a class that no field points to, and is updated as the class moves.
+pub const CLASS_EDGE: TestImage = TestImage {
+    chunks: &[
+        NIL,
+        Array(&[1, 1]),
+        LEAF,
+        Classed {
+            class: 0x1010,
+            compact: 0,
+            format: 1,
+            fields: &[1],
+        },
+        Array(&[0x1000, 0x101C]),
+    ],
+    special: 0x1024,
+    ..EMPTY
+};
+
+/// A class word in a header of three words does so too. The base header states 63 words that are
+/// not there.
+pub const CLASS_EDGE_OF_THREE_WORDS: TestImage = TestImage {
+    chunks: &[
+        NIL,
+        Array(&[1, 1]),
+        LEAF,
+        Words(&[8, 0x1010, 0x3FC, 1]),
+        Array(&[0x1000, 0x1020]),
+    ],
+    special: 0x1028,
+    ..EMPTY
+};
+
+/// The bytes of an object with a class word come back as they were in a big-endian file.
+pub const BIG_ENDIAN_BYTES: TestImage = TestImage {
+    order: Order::Big,
+    chunks: &[
+        NIL,
+        Array(&[1, 1]),
+        LEAF,
+        Classed {
+            class: 0x1010,
+            compact: 0,
+            format: 10,
+            fields: &[0x5371_7565, 0x616B_0000],
+        },
+        Array(&[0x1000, 0x101C]),
+    ],
+    special: 0x1028,
+    ..EMPTY
+};
+
+/// The class of the compact index 1 has a name. The last field of the special objects array points
+/// to the array of compact classes.
+pub const CLASS_NAMES: TestImage = TestImage {
+    chunks: &[
+        NIL,
+        Fixed(&[1, 1, 1, 1, 1, 1, 0x1024]),
+        Short {
+            compact: 2,
+            format: 10,
+            fields: &[0x656A_624F, 0x7463],
+        },
+        Array(&[0x1004]),
+        LongArray {
+            first: &[0x1000],
+            last: 0x1030,
+        },
+    ],
+    special: 0x1038,
+    ..EMPTY
+};
+
+/// The same words in a big-endian file, which spell another name.
+pub const BIG_ENDIAN_CLASS_NAMES: TestImage = TestImage {
+    order: Order::Big,
+    ..CLASS_NAMES
+};
+
+/// A class without a name of its own is named after its one instance.
+pub const METACLASS: TestImage = TestImage {
+    chunks: &[
+        NIL,
+        Fixed(&[1, 1, 1, 1, 1, 0x1024, 1]),
+        Fixed(&[1, 1, 1, 1, 1, 1, 0x1044]),
+        Short {
+            compact: 2,
+            format: 10,
+            fields: &[0x656A_624F, 0x7463],
+        },
+        Array(&[0x1004]),
+        LongArray {
+            first: &[0x1000],
+            last: 0x1050,
+        },
+    ],
+    special: 0x1058,
+    ..EMPTY
+};
+
+/// The bytes of a name, and three more, which its object does not have.
+const FORTY_FIVE_BYTES: &[u32] = &[
+    0x616E2041, 0x6F20656D, 0x35342066, 0x74796220, 0x203A7365, 0x7F7E201F, 0x6120FF80, 0x6D20646E,
+    0x2C65726F, 0x74756320, 0x72656820, 0x7A797865,
+];
+
+/// The first 40 bytes of a long name are printed, followed by ` class`, with `?` for each that is
+/// not printable.
+pub const LONG_NAME: TestImage = TestImage {
+    chunks: &[
+        NIL,
+        Fixed(&[1, 1, 1, 1, 1, 1, 0x1044]),
+        Fixed(&[1, 1, 1, 1, 1, 0x1004, 1]),
+        Short {
+            compact: 2,
+            format: 11,
+            fields: FORTY_FIVE_BYTES,
+        },
+        Classed {
+            class: 0x1024,
+            compact: 0,
+            format: 1,
+            fields: &[1],
+        },
+        Array(&[0x1004]),
+        LongArray {
+            first: &[0x1000, 0x107C],
+            last: 0x1084,
+        },
+    ],
+    special: 0x108C,
+    ..EMPTY
+};
