@@ -12,16 +12,19 @@ tallies_of-requires-clause-entries g c =
     (weak, rw c.deref-2.ensures.value kept)
 
 pub rows_of-requires : goal.rows_of-requires
-rows_of-requires g c = (search rules, λ k within.
-    let weak = c.args.weak in
-    let shares = c.in_ok-shares.shares.items in
-    let kept = c.in_ok-entries.ensures weak (rw c.deref.ensures.value c.in_ok-classes.ensures) in
-    let counted = c.in_ok-tallies.ensures.tallies weak (rw c.deref-2.ensures.value kept) in
-    let in_order =
-    subst (λ (tallies : List Tally). AreSharesInOrder tallies shares) c.deref-3.ensures.value c.in_ok-shares.ensures in
-    let kept_inside = keys_inside c.args.heap.now c.in_ok-tallies.tallies.items shares counted.sized in_order in
-    let inside = rw (← c.deref-4.ensures.value) at kept_inside in
-    inside k within)
+rows_of-requires g c = (
+  search rules,
+  λ k within.
+      let weak = c.args.weak in
+      let shares = c.in_ok-shares.shares.items in
+      let kept = c.in_ok-entries.ensures weak (rw c.deref.ensures.value c.in_ok-classes.ensures) in
+      let counted = c.in_ok-tallies.ensures.tallies weak (rw c.deref-2.ensures.value kept) in
+      let in_order =
+      subst (λ (tallies : List Tally). AreSharesInOrder tallies shares) c.deref-3.ensures.value c.in_ok-shares.ensures in
+      let kept_inside = keys_inside c.args.heap.now c.in_ok-tallies.tallies.items shares counted.sized in_order in
+      let inside = rw (← c.deref-4.ensures.value) at kept_inside in
+      inside k within,
+)
 
 pub returns-clause-rows : goal.returns-clause-rows
 returns-clause-rows g c reach placed =
