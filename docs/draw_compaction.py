@@ -16,13 +16,13 @@ from object_memory import Image, traced_end
 
 # The place of the first word, and a word's width and height; the tops of the two rows; and the picture's height.
 LEFT, WIDE, HIGH = 70, 80, 34
-TOPS = (74, 234)
-HEIGHT = 300
+TOPS = (74, 214)
+HEIGHT = 320
 # The example's base, and its data words.
 BASE = 0x1000
 WORDS = (0x1007, 0x320F, 1, 1, 0xA, 0, 0x320B, BASE)
-# These are seen on white and on black.
-TEXT, LIVE, DEAD, MOVE = "#787878", "#3d8bd4", "#999999", "#d4803d"
+# On a page of any colour the picture has its own, which is white.
+PAGE, TEXT, LIVE, DEAD, MOVE = "#ffffff", "#24292f", "#0550ae", "#57606a", "#9a4a00"
 
 
 def middle(place):
@@ -46,7 +46,7 @@ def label(image, number, is_live):
     """What an object is called."""
     if number == image.special:
         return "special objects"
-    return "nil" if number == image.field(image.special, 0) else "array" if is_live else "array, named by none"
+    return "nil" if number == image.field(image.special, 0) else "array" if is_live else "dead array"
 
 
 def draw_box(first, end, top, colour, opacity, words):
@@ -64,7 +64,7 @@ def draw_free(image, top):
     ends = [0, *(it.end for it in image.objects)]
     for end, first in zip(ends, [it.first for it in image.objects]):
         if end < first:
-            yield draw_box(end, first, top, DEAD, 0, "free")
+            yield draw_box(end, first, top, DEAD, 0, "free chunk")
 
 
 def draw_object(image, number, is_live, top):
@@ -77,11 +77,11 @@ def draw_object(image, number, is_live, top):
 
 
 def arc(image, pointer, top):
-    """An arrow from a field to the object that it names, above the words."""
-    begin, end = middle(pointer.place) + 24, middle(image.objects[pointer.named].first) + 16
-    high = top - 56
+    """An arrow from a field to the object that it points to, above the words of the first row and below those of the second."""
+    begin, end = middle(pointer.place) + 24, middle(image.objects[pointer.named].first) + 28
+    edge, far = (top - 3, top - 56) if top == TOPS[0] else (top + HIGH + 3, top + HIGH + 72)
     return (
-        f'<path d="M{begin} {top - 2} C{begin} {high} {end} {high} {end} {top - 4}" fill="none" stroke="{LIVE}" '
+        f'<path d="M{begin} {edge} C{begin} {far} {end} {far} {end} {edge}" fill="none" stroke="{LIVE}" '
         f'marker-end="url(#live)"/>'
     )
 
@@ -111,6 +111,7 @@ def draw(before, after):
         f'font-family="sans-serif" font-size="13">'
     )
     yield "<title>An image and what it is compacted to</title>"
+    yield f'<rect width="{width}" height="{HEIGHT}" rx="8" fill="{PAGE}"/>'
     yield f"<defs>{head_of('live', LIVE)}{head_of('move', MOVE)}</defs>"
     for image, alive, top, name in ((before, live, TOPS[0], "before"), (after, after.live(), TOPS[1], "after")):
         yield words_at(LEFT - 12, top + 22, name, "end")
