@@ -25,7 +25,7 @@ pub(crate) struct Arguments<'a> {
     pub(crate) question: Question<'a>,
 }
 
-/// Reads the words of a command line, of which the first is the program's name.
+/// Reads the words of a command line, the program's name first.
 ///
 /// Fails with the text to print: the help if it was asked for, or what is wrong with the words.
 pub(crate) fn read_arguments<'a>(
@@ -88,7 +88,7 @@ fn class<'a>(alloc: Global) -> Result<Arg<'a>, AllocError> {
 fn clear_weak<'a>(alloc: Global) -> Arg<'a> {
     Arg::new(alloc, "clear-weak")
         .long("clear-weak")
-        .help("Look as if what only weak references name were let go of")
+        .help("Treat weak references to objects that nothing else keeps as cleared")
         .action(ArgAction::SetTrue)
         .value_parser(value_parser!(bool))
 }

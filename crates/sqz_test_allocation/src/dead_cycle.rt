@@ -47,7 +47,7 @@ pub(crate) fn regions_of<'a, R: Print + AllocGlobal>(
     again!(rt, "Regions::of", Regions::of(rt.alloc(), heap, cut))
 }
 
-/// Asserts that a heap has six objects, of which the last is the special objects array.
+/// Asserts that a heap has six objects, the special objects array last.
 pub(crate) fn assert_six_objects<R: Abort>(rt: &R, heap: &Heap)
     ensures { object_count heap.now ≡ 6 }
 {

@@ -132,7 +132,7 @@ fn raced<R: Threads + Abort>(rt: &R, table: &MarkTable<'_>, pass: Pass) -> Pass
     table.join(first, second)
 }
 
-/// What is left of a table of which two passes claim one object.
+/// What is left of a table after two passes claim one object.
 fn race<R: Threads + Abort + AllocGlobal>(
     rt: &R,
     heap: &Heap,

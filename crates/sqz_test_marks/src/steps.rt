@@ -37,8 +37,7 @@ pub(crate) fn new_cut(alloc: Global) -> Result<Cut, Fail> {
     Ok(Cut::at([1, 3].to_vec(alloc)?)?)
 }
 
-/// Asserts that a heap has six objects, of which the last is the special objects array, as that of
-/// the dead cycle.
+/// Asserts that a heap has six objects, the special objects array last, as that of the dead cycle.
 pub(crate) fn assert_dead_cycle<R: Abort>(rt: &R, heap: &Heap)
     ensures count { object_count heap.now ≡ 6 }
     ensures start { start_of heap.now ≡ 5 }

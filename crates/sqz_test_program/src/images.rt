@@ -8,7 +8,7 @@ use std::alloc::{AllocError, Global};
 /// How many bytes the object of the large image has: more than a MiB.
 const MANY: u32 = 20 << 16;
 
-/// The image of three objects, one of which is dead.
+/// The image of three objects, one of them dead.
 pub(crate) fn whole_image(alloc: Global) -> Result<Vec<u8>, AllocError> {
     file_of(alloc, &DEAD_ARRAY)
 }

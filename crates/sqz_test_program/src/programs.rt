@@ -18,7 +18,7 @@ pub(crate) struct Ended {
     pub err: MemorySink,
 }
 
-/// The words of a command line, of which the first is the program's name.
+/// The words of a command line, the program's name first.
 fn line_of(alloc: Global, words: &[&str]) -> Result<Vec<String>, AllocError> {
     let mut line = Vec::new(alloc);
     line.push(String::from_str(alloc, "sqzcompact")?)?;

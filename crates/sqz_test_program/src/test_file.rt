@@ -30,7 +30,7 @@ fn written<'a>(disk: &'a Disk<'_>) -> io::Result<MutexGuard<'a, Written>> {
 }
 
 impl<'a> TestFile<'a> {
-    /// IN, of which nothing was read yet.
+    /// IN, before its first read.
     pub(crate) fn open_input(disk: &'a Disk<'a>) -> Self {
         TestFile::Input {
             disk,

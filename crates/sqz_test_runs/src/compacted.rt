@@ -223,8 +223,8 @@ fn class_words_that_move(rt: HostRuntime) -> Result<(), Fail> {
     assert_left(&rt, &CLASS_EDGE_OF_THREE_WORDS, answer)
 }
 
-/// The fields of the context of `CONTEXT_STACK`, of which the one on the stack points to an object
-/// that has moved.
+/// The fields of the context of `CONTEXT_STACK`. The one on the stack points to an object that has
+/// moved.
 const MOVED_STACK: &[u32] = &[0x1000, 1, 3, 0x1000, 0x1000, 0x1000, 0x1004, 0x1014, 2, ODD];
 
 /// What `CONTEXT_STACK` is compacted to.

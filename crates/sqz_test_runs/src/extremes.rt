@@ -202,8 +202,8 @@ fn chain_from_both_ends(rt: HostRuntime) -> Result<(), Fail> {
     assert_chain_kept(&rt, Path::Zigzag, 0x1004)
 }
 
-/// The words of this many objects without fields, of which the first is nil, and of an array, which
-/// is the special objects array and holds these words.
+/// The words of this many objects without fields, nil first, and of the special objects array, which
+/// holds these words.
 fn array_behind(alloc: Global, count: usize, fields: &[u32]) -> Result<Vec<u32>, AllocError> {
     let mut words = Vec::new(alloc);
     words.resize(count, 0x1007)?;

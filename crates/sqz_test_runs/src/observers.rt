@@ -1,4 +1,4 @@
-//! What an observer of a run is told.
+//! The stages that an observer of a run sees.
 
 use super::runs::plan_of;
 use sqz_fixtures::accepted::DEAD_ARRAY;

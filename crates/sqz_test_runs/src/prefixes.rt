@@ -145,7 +145,7 @@ fn other_counts_of_bytes(rt: HostRuntime) -> Result<(), Fail> {
     Ok(())
 }
 
-/// A file of two images, of which the second follows 512 bytes.
+/// A file of two images. The second follows 512 bytes.
 fn two_images(alloc: Global, first: &[u8], second: &[u8]) -> Result<Vec<u8>, AllocError> {
     let mut file = Vec::from_slice(alloc, first)?;
     file.resize(512, 0)?;
@@ -189,7 +189,7 @@ fn sound_behind(alloc: Global, stated: &[u32]) -> Result<Vec<u8>, AllocError> {
     two_images(alloc, &first, &second)
 }
 
-/// Header words, one of which is bad, and the fault.
+/// Header words, one of them bad, and the fault.
 const BROKEN_HEADERS: &[([u32; 4], Fault)] = &[
     ([6502, 68, 24, 0x1000], Fault::BadHeaderSize),
     ([6502, 64, 22, 0x1000], Fault::BadDataSize),

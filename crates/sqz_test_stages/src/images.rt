@@ -151,8 +151,8 @@ pub(crate) const THREE_WEAK_SLOTS_KEPT: TestImage = TestImage {
     ..EMPTY
 };
 
-/// A weak object of two fields, one of which is fixed, as the class of its compact index says. Its
-/// weak slot points to a dead object.
+/// A weak object of two fields. The class of its compact index says that one is fixed. Its weak slot
+/// points to a dead object.
 pub(crate) const FIXED_FIELD_BY_INDEX: TestImage = TestImage {
     chunks: &[
         NIL,

@@ -184,7 +184,7 @@ fn cut_points_inside_objects(rt: HostRuntime) -> Result<(), Fail> {
     assert_places(&rt, &image, &cut, &[1, 66, 0, 3], &bases, &places)
 }
 
-/// The third object has six words, of which three are header words.
+/// The third object has six words, three of them header words.
 #[test]
 fn cut_points_in_small_objects(rt: HostRuntime) -> Result<(), Fail> {
     let image = image_of(rt.alloc(), &LONG_HEADER)?;

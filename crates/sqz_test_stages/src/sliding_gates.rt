@@ -31,8 +31,7 @@ fn assert_slides_to<R: Threads + Sync + Abort + AllocGlobal>(
     assert_pieces(rt, &pieces, sizes, &DEAD_CYCLE_ANSWER)
 }
 
-/// Asserts that two workers pass a gate, of which the first has the first region and the second the
-/// two others.
+/// Asserts that two workers pass a gate. The first has the first region, the second the two others.
 fn assert_slides<R: Threads + Sync + Abort + AllocGlobal>(
     rt: &R,
     gate: &TurnGate<'_>,

@@ -93,8 +93,8 @@ fn assert_names<R: Abort>(rt: &R, image: &Image, object: u32, slot: Slot, named:
     assert_eq!(rt; target(heap, object, slot), named, "slot {slot:?}");
 }
 
-/// Asserts how many fields of an object are traced, all of which are strong if weak slots are kept,
-/// and how many are strong if they are cleared.
+/// Asserts how many fields of an object are traced, how many are strong if weak slots are cleared, and
+/// that all traced ones are strong if they are kept.
 fn assert_strong<R: Abort>(rt: &R, image: &Image, object: u32, count: u32, cleared: u32) {
     let heap = image.heap();
     assert!(rt; object < heap.len());
