@@ -1,5 +1,5 @@
 #!/usr/bin/env python3
-"""Counts what each crate has: lines of code, of definitions and of proofs, wrong bodies and tests. Prints a table in Markdown.
+"""Counts what each crate has: lines of code, of definitions and of proofs, mutants and tests. Prints a table in Markdown.
 
 Usage: bench/count_lines.py
 
@@ -9,7 +9,7 @@ proofs `proofs/**/*.antt`. A wrong body is an edit in `must-fail/`, and a test a
 import pathlib
 
 ROOT = pathlib.Path(__file__).resolve().parent.parent
-COLUMNS = ("code", "definitions", "proofs", "wrong bodies", "tests")
+COLUMNS = ("code", "definitions", "proofs", "mutants", "tests")
 
 
 def lines_of(paths, comment):
