@@ -1,5 +1,5 @@
 #!/usr/bin/env python3
-"""Runs the built program over large images: want of memory may not be answered where no memory was refused.
+"""Runs the built program over large images: no run may be out of memory unless an allocation fails.
 
 Usage: tests/sizes.py
 
@@ -8,7 +8,8 @@ bytes, a base at 2^31 or above, or a chain or an array of a million objects. Eac
 and to print what is known from how the image was made. It has a minute, and needs a second or two:
 a run that looks through all objects for each of them does not end in it.
 
-Then the address space is limited to 15 percent more than a run needs, which is counted by its objects, words and classes.
+Then the address space is limited to 15 percent more than a run needs, which is computed from its
+objects, words and classes.
 
 The last line is 'N passed, M failed'.
 """
