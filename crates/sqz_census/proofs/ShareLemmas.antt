@@ -1,9 +1,9 @@
 -- The shares of groups, by key and in census order.
 -- Serves `shares::shares_by_key` and `shares::shares_of`.
 use Rattle.std.proofs.Common.{◌≡◌, ℕ, ◌+◌, ◌<◌, List, [], ◌∷◌, ◌++◌, length, get_or, refl, sym, subst, arith}
-use Rattle.std.specs.List.Sorted.{IsPermutation, IsNonDecreasingBy, IsStableByKey}
-use Rattle.std.specs.Ordering.{nat_cmp}
-use Rattle.sqz_object.proofs.RankedLemmas.{AreFilled, AreFilled-more_no, AreFilled-more_yes, AreRanked-sorted, rank_by}
+use Rattle.std.specs.List.Sorted.{IsPermutation, IsSortedBy}
+use Rattle.std.specs.declared.cmp.Reverse.{Reverse}
+use Rattle.sqz_object.proofs.RankedLemmas.{AreFilled, AreFilled-more_no, AreFilled-more_yes, AreRanked-sorted, is_before}
 use Rattle.sqz_census.specs.declared.tallies.Tally.{Tally}
 use Rattle.sqz_census.specs.declared.shares.Share.{Share}
 use Rattle.sqz_census.specs.Tallies.{no_tally, FitWords}
@@ -18,8 +18,8 @@ abbrev words_in : Share → ℕ
 words_in share = share.words
 
 -- what shares are sorted by
-abbrev pub rank : Share → ℕ
-rank = rank_by words_in
+abbrev pub sort_key : Share → Reverse ℕ × ℕ
+sort_key share = (record { 0 = share.words }, share.key)
 
 -- the group with a key has some object
 abbrev HasSome : List Tally → ℕ → Type 0
@@ -60,10 +60,9 @@ IsShareOf-key tallies key share lt fit some is =
 
 -- sorted shares are in order
 pub AreSharesInOrder-sorted : (tallies : List Tally) (shares sorted : List Share) → AreShares tallies (length tallies) shares
-    → IsPermutation shares sorted → IsNonDecreasingBy rank sorted → IsStableByKey rank nat_cmp shares sorted
-    → AreSharesInOrder tallies sorted
-AreSharesInOrder-sorted tallies shares sorted are moved ranked stable =
+    → IsPermutation shares sorted → IsSortedBy (is_before key_in words_in) sorted → AreSharesInOrder tallies sorted
+AreSharesInOrder-sorted tallies shares sorted are moved ordered =
     let in_order =
     AreRanked-sorted key_in no_share (IsShareOf tallies) (HasSome tallies) (length tallies) shares (filled are) sorted moved words_in
-    (λ share is. omega (arith, is.few)) ranked stable in
+    ordered in
     record { each = in_order.each; all = in_order.all; ordered = in_order.ordered }

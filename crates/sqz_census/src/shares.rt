@@ -1,11 +1,12 @@
 //! The groups that have live objects, in census order.
 
-ghost use Rattle.std.specs.Prelude.{◌≡◌, ◌-◌, length, IfOk};
+ghost use Rattle.std.specs.Prelude.{◌≡◌, length, IfOk};
 ghost use Rattle.sqz_census.specs.Tallies.{FitWords};
 ghost use Rattle.sqz_census.specs.Shares.{AreShares, AreSharesInOrder};
 
 use crate::tallies::Tally;
 use std::alloc::{AllocError, Global};
+use std::cmp::Reverse;
 
 /// The live objects of a group: their number, and their total length in words.
 #[derive(Clone, Copy)]
@@ -22,11 +23,11 @@ pub(crate) fn shares_of(alloc: Global, tallies: &[Tally]) -> Result<Vec<Share>, 
     ensures { IfOk result (λ shares. AreSharesInOrder tallies.now shares.items) }
 {
     let mut shares = shares_by_key(alloc, tallies)?;
-    shares.sort_by_key(
-        |share: &Share| -> u32
-            ensures { result ≡ 4294967295 - share.now.words }
-        { u32::MAX - share.words },
-    )?;
+    shares.sort_unstable_by_key(
+        |share: &Share| -> (Reverse<u32>, u32)
+            ensures { result ≡ (record { 0 = share.now.words }, share.now.key) }
+        { (Reverse(share.words), share.key) },
+    );
     Ok(shares)
 }
 

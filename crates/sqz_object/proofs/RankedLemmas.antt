@@ -1,15 +1,17 @@
--- Lists filled by key and then sorted stably: more words come first, and the lower key comes first
--- on a tie.
+-- Lists filled by key and then sorted: more words come first, and the lower key comes first on a
+-- tie.
 -- Serves `ShareLemmas` of `sqz_census` and `MemberLemmas` of `sqz_paths`.
-use Rattle.std.proofs.Common.{◌≡◌, ◌⊎◌, ℕ, zero, suc, ◌+◌, ◌-◌, ◌<◌, ◌≤◌, eqb, List, [], ◌∷◌, ◌++◌, map, length, get_or}
+use Rattle.std.proofs.Common.{◌≡◌, ◌⊎◌, ℕ, ◌+◌, ◌<◌, Bool, false, eqb, List, [], ◌∷◌, ◌++◌, map, length, get_or}
 use Rattle.std.proofs.Common.{refl, sym, ap, subst, ◌∙◌, arith, inl, inr, true≢false}
-use Rattle.std.specs.List.Sorted.{IsPermutation, IsNonDecreasingBy, IsSortedByKey, IsStableByKey, IsStrictlyIncreasing}
-use Rattle.std.specs.Ordering.{nat_cmp, eq_by_cmp}
-use Rattle.std.specs.Cmp.{unsigned_tied}
-use Rattle.std.proofs.lemmas.Bool.{cases_lt, cases_eq, le-ltb, eq-eqb, ne_eqb}
+use Rattle.std.specs.List.Sorted.{IsPermutation, IsSortedBy, IsStrictlyIncreasing}
+use Rattle.std.specs.Ordering.{nat_cmp, eq_by_cmp, is_lt, ordering_then}
+use Rattle.std.specs.Cmp.{unsigned_tied, IsStrictWeakOrder}
+use Rattle.std.proofs.lemmas.Bool.{cases_lt, cases_eq, eq-eqb, ne_eqb}
+use Rattle.std.proofs.lemmas.Cmp.{nat_cmp_total, on_total, back_total, then_total, ranked, by_ranked}
 use Rattle.std.proofs.lemmas.List.{length-map, get_or-map, get_or_append_left, get_or_push, length_push, get_or_default}
 use Rattle.std.proofs.lemmas.List.Elements.{Contains-get_or}
-use Rattle.std.proofs.lemmas.List.Sorted.{All-permutation, Contains-permutation, IsPermutation-map, ties_still_rise}
+use Rattle.std.proofs.lemmas.List.MinMax.{ranks_by}
+use Rattle.std.proofs.lemmas.List.Sorted.{All-permutation, Contains-permutation, IsPermutation-map, sorted_far}
 use Rattle.std.proofs.lemmas.Map.Keys.{IsDistinct-from_sorted, IsDistinct-IsPermutation, apart_from_distinct}
 use Rattle.std.proofs.lemmas.Map.Keys.{sorted_from_strictly_increasing}
 
@@ -36,9 +38,9 @@ pub record AreRanked {X : Type 0} (key words : X → ℕ) (none : X) (IsRight : 
   pub all : (k : ℕ) → k < bound → IsWanted k → HasKey key none k items
   pub ordered : (i j : ℕ) → i < j → j < length items → Precedes key words (get_or items i none) (get_or items j none)
 
--- what items are sorted by, which is lower for more words
-abbrev pub rank_by : {X : Type 0} → (X → ℕ) → X → ℕ
-rank_by words item = 4294967295 - words item
+-- what items are sorted by: the number of words, from the highest down, and then the key
+abbrev pub is_before : {X : Type 0} → (X → ℕ) → (X → ℕ) → X → X → Bool
+is_before key words one other = is_lt (ordering_then (nat_cmp (words other) (words one)) (nat_cmp (key one) (key other)))
 
 -- ---- keys
 
@@ -50,21 +52,27 @@ tied_keys one other = unsigned_tied one other ∙ either (cases_eq one other) �
     either (inl same) = rw same refl
     either (inr apart) = rw (ne_eqb one other apart, ne_eqb other one (λ same. apart (sym same))) refl
 
--- a number that is no higher and not the same is lower
-strictly : (one other : ℕ) → one ≤ other → (one ≡ other → ⊥) → one < other
-strictly one other le apart =
-    elim (cases_lt one other) [
-      | inl lt ↦ lt
-      | inr ge ↦ absurd (apart (omega arith))
-    ]
+-- it is an order
+is_before-order : {X : Type 0} (key words : X → ℕ) → IsStrictWeakOrder (is_before key words)
+is_before-order key words =
+    ranks_by (then_total (back_total (on_total words nat_cmp_total)) (on_total key nat_cmp_total)) (λ item. item)
 
--- what precedes something precedes all that this precedes
-Precedes-along : {X : Type 0} (key words : X → ℕ) (one two three : X)
-    → Precedes key words one two → Precedes key words two three → Precedes key words one three
-Precedes-along key words one two three (inl more) (inl fewer) = inl (omega arith)
-Precedes-along key words one two three (inl more) (inr tied) = inl (omega (arith, tied.0))
-Precedes-along key words one two three (inr tied) (inl fewer) = inl (omega (arith, tied.0))
-Precedes-along key words one two three (inr tied) (inr also) = inr (tied.0 ∙ also.0, omega (arith, tied.1, also.1))
+-- the same over their numbers of words and keys: if the second of two items does not come before
+-- the first, the first precedes the second
+not_before : (a b k l : ℕ) → is_lt (ordering_then (nat_cmp a b) (nat_cmp l k)) ≡ false → (k ≡ l → ⊥)
+    → (b < a) ⊎ ((a ≡ b) × (k < l))
+not_before a b k l late apart =
+    by_ranked (a < b) (a ≡ b) (b < a) (nat_cmp a b) (ranked a b (nat_cmp a b) refl)
+    (λ less lt. absurd (true≢false (rw less at late)))
+    (λ equal same. inr (same, by_key (rw equal at late)))
+    (λ greater lt. inl lt)
+  where
+    by_key : is_lt (nat_cmp l k) ≡ false → k < l
+    by_key late =
+        by_ranked (l < k) (l ≡ k) (k < l) (nat_cmp l k) (ranked l k (nat_cmp l k) refl)
+        (λ less lt. absurd (true≢false (rw less at late)))
+        (λ equal same. absurd (apart (sym same)))
+        (λ greater lt. lt)
 
 module _ {X : Type 0} (key : X → ℕ) (none : X) (IsRight : X → Type 0) (IsWanted : ℕ → Type 0) (bound : ℕ) (items : List X)
     (are : AreFilled key none IsRight IsWanted bound items) where
@@ -156,21 +164,6 @@ module _ {X : Type 0} (key : X → ℕ) (none : X) (IsRight : X → Type 0) (IsW
       let next = get_or-map key items (k + 1) none 0 inside in
       omega (arith, here, next, are.rise k (k + 1) (omega arith) inside)
 
-  -- so the items are sorted by key
-  by_key : IsSortedByKey key nat_cmp items
-  by_key k d from lt =
-      let low : k < length items = omega arith in
-      let here = ap key (get_or_default items k d none low) in
-      let next = ap key (get_or_default items (k + 1) d none lt) in
-      let rises = are.rise k (k + 1) (omega arith) lt in
-      let above : key (get_or items k d) < key (get_or items (k + 1) d) = omega (arith, here, next) in
-      let apart : key (get_or items (k + 1) d) ≡ key (get_or items k d) → ⊥ = λ same. absurd (omega arith) in
-      rw (le-ltb _ _ (above_le k d above), ne_eqb _ _ apart) refl
-    where
-      above_le : (k : ℕ) (d : X) → key (get_or items k d) < key (get_or items (k + 1) d)
-          → key (get_or items k d) ≤ key (get_or items (k + 1) d)
-      above_le k d lt = omega arith
-
   module _ (sorted : List X) (moved : IsPermutation items sorted) where
     -- each item is right still
     each_sorted : (i : ℕ) → i < length sorted → IsRight (get_or sorted i none)
@@ -204,39 +197,15 @@ module _ {X : Type 0} (key : X → ℕ) (none : X) (IsRight : X → Type 0) (IsW
         let equal : one ≡ other = here ∙ same ∙ sym there in
         true≢false (sym (eq-eqb one other equal) ∙ sym (unsigned_tied one other) ∙ apart)
 
-    module _ (words : X → ℕ) (few : (item : X) → IsRight item → words item ≤ 4294967295)
-        (ranked : IsNonDecreasingBy (rank_by words) sorted) (stable : IsStableByKey (rank_by words) nat_cmp items sorted) where
-      -- neighbours are in order
-      neighbours : (k : ℕ) → k + 1 < length sorted → Precedes key words (get_or sorted k none) (get_or sorted (k + 1) none)
-      neighbours k lt =
-          let one = get_or sorted k none in
-          let other = get_or sorted (k + 1) none in
-          let rises : 4294967295 - words one ≤ 4294967295 - words other = ranked k (k + 1) none (omega arith) lt in
-          let few_here = few one (each_sorted k (omega arith)) in
-          let few_there = few other (each_sorted (k + 1) lt) in
-          elim (cases_lt (words other) (words one)) [
-            | inl fewer ↦ inl fewer
-            | inr ge ↦
-                let same : words one ≡ words other = omega arith in
-                let tied : rank_by words one ≡ rank_by words other = ap (λ (count : ℕ). 4294967295 - count) same in
-                let le = ties_still_rise key (rank_by words) items sorted by_key stable k none lt tied in
-                let apart = keys_apart k (k + 1) (omega arith) lt in
-                inr (same, strictly (key one) (key other) le apart)
-          ]
-
-      -- so are any two
-      all_ordered : (i j : ℕ) → i < j → j < length sorted → Precedes key words (get_or sorted i none) (get_or sorted j none)
-      all_ordered i zero lt inside = absurd (omega arith)
-      all_ordered i (suc j) lt inside =
-          let next : suc j ≡ j + 1 = omega arith in
-          let here : Precedes key words (get_or sorted j none) (get_or sorted (suc j) none) = rw next (neighbours j (omega arith)) in
-          elim (cases_lt i j) [
-            | inl low ↦
-                Precedes-along key words (get_or sorted i none) (get_or sorted j none) (get_or sorted (suc j) none)
-                (all_ordered i j low (omega arith)) here
-            | inr high ↦ (let same : i ≡ j = omega arith in rw same here)
-          ]
-
-      -- sorted items are in their final order
-      pub AreRanked-sorted : AreRanked key words none IsRight IsWanted bound sorted
-      AreRanked-sorted = record { each = each_sorted; all = all_sorted; ordered = all_ordered }
+    -- sorted items are in their final order
+    pub AreRanked-sorted : (words : X → ℕ) → IsSortedBy (is_before key words) sorted → AreRanked key words none IsRight IsWanted bound sorted
+    AreRanked-sorted words in_order =
+        record {
+          each = each_sorted;
+          all = all_sorted;
+          ordered = λ i j lt inside.
+              not_before (words (get_or sorted i none)) (words (get_or sorted j none))
+              (key (get_or sorted i none)) (key (get_or sorted j none))
+              (sorted_far (is_before key words) (is_before-order key words) sorted in_order i j none (omega arith) inside)
+              (keys_apart i j lt inside);
+        }

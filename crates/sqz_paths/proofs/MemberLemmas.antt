@@ -1,14 +1,12 @@
 -- The marked objects of a class, by address and by their words.
 -- Serves `members::members_by_address` and `members::members_of`.
-use Rattle.std.proofs.Common.{◌≡◌, ℕ, ◌+◌, ◌^◌, ◌<◌, ◌≤◌, Bool, true, false, eqb, List, [], ◌∷◌, ◌++◌, length, Option, Some}
-use Rattle.std.proofs.Common.{refl, sym, ◌∙◌, arith}
-use Rattle.std.specs.List.{concat}
-use Rattle.std.specs.List.Sorted.{IsPermutation, IsNonDecreasingBy, IsStableByKey}
+use Rattle.std.proofs.Common.{◌≡◌, ℕ, ◌+◌, ◌<◌, Bool, true, false, eqb, List, [], ◌∷◌, ◌++◌, length, Option, Some}
+use Rattle.std.proofs.Common.{refl, sym, ◌∙◌}
+use Rattle.std.specs.List.Sorted.{IsPermutation, IsSortedBy}
+use Rattle.std.specs.declared.cmp.Reverse.{Reverse}
 use Rattle.std.specs.Option.{option_eq}
-use Rattle.std.specs.Ordering.{nat_cmp}
-use Rattle.sqz_object.proofs.RankedLemmas.{AreFilled, AreFilled-more_no, AreFilled-more_yes, AreRanked-sorted, rank_by}
-use Rattle.sqz_image.specs.Objects.{Memory, Object, objects, object_count, chunk_words}
-use Rattle.sqz_image.proofs.ObjectLemmas.{StandsIn, objects_stand, All_at}
+use Rattle.sqz_object.proofs.RankedLemmas.{AreFilled, AreFilled-more_no, AreFilled-more_yes, AreRanked-sorted, is_before}
+use Rattle.sqz_image.specs.Objects.{Memory, object_count, chunk_words}
 use Rattle.sqz_trace.specs.declared.weak.Weak.{Weak}
 use Rattle.sqz_trace.specs.Strong.{class_of}
 use Rattle.sqz_trace.specs.Graph.{is_marked}
@@ -25,16 +23,8 @@ abbrev words_of : Member → ℕ
 words_of member = member.words
 
 -- what members are sorted by
-abbrev pub rank : Member → ℕ
-rank = rank_by words_of
-
--- an object has no more words than its memory
-words-le : (memory : Memory) (index : ℕ) → index < object_count memory
-    → length (chunk_words memory index) ≤ length (concat memory.chunks)
-words-le memory index lt =
-    let none : Object = record { first = 0; chunk = [] } in
-    let stands = All_at (StandsIn (concat memory.chunks)) (objects memory) index none lt (objects_stand memory.chunks) in
-    omega (arith, stands.inside)
+abbrev pub sort_key : Member → Reverse ℕ × ℕ
+sort_key member = (record { 0 = member.words }, member.object)
 
 module _ (memory : Memory) (weak : Weak) (marks : List Bool) (class : ℕ) where
   -- what holds of a member
@@ -79,13 +69,11 @@ module _ (memory : Memory) (weak : Weak) (marks : List Bool) (class : ℕ) where
         filled_back
         (AreFilled-more_yes object_of no_member Is Has bound members (filled are) member refl (record { is = is; words = words_are }))
 
-  -- all members are in their order once they are sorted by words
-  pub AreMembers-sorted : (members sorted : List Member) → length (concat memory.chunks) < 2 ^ 30
+  -- all members are in their order once they are sorted by words and index
+  pub AreMembers-sorted : (members sorted : List Member)
       → AreMembersBelow memory weak marks class (object_count memory) members → IsPermutation members sorted
-      → IsNonDecreasingBy rank sorted → IsStableByKey rank nat_cmp members sorted
-      → AreMembers memory weak marks class sorted
-  AreMembers-sorted members sorted few are moved ranked stable =
+      → IsSortedBy (is_before object_of words_of) sorted → AreMembers memory weak marks class sorted
+  AreMembers-sorted members sorted are moved ordered =
       let in_order =
-      AreRanked-sorted object_of no_member Is Has (object_count memory) members (filled are) sorted moved words_of
-      (λ member is. omega (arith, is.words, words-le memory member.object is.is.inside, few)) ranked stable in
+      AreRanked-sorted object_of no_member Is Has (object_count memory) members (filled are) sorted moved words_of ordered in
       record { each = in_order.each; all = λ index is. in_order.all index is.inside is; ordered = in_order.ordered }
