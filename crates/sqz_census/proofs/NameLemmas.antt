@@ -1,6 +1,6 @@
 -- The first bytes that encode words.
 -- Serves `names::first_bytes` and `names::text_in`.
-use Rattle.std.proofs.Common.{◌≡◌, ℕ, ◌-◌, ◌*◌, ◌<◌, ◌≤◌, min, List, length, map, take, drop, Some, refl}
+use Rattle.std.proofs.Common.{◌≡◌, ℕ, ◌-◌, ◌*◌, ◌≤◌, min, List, length, map, take, drop, Some}
 use Rattle.std.proofs.Common.{sym, ap, ◌∙◌, arith, inl, inr}
 use Rattle.std.proofs.lemmas.List.{length-take, take-append-le, take-append-drop, take-take, take_all}
 use Rattle.std.proofs.lemmas.Bool.{cases_lt}

@@ -36,10 +36,11 @@ pub fn class_name(
     requires { class < object_count heap.now }
     ensures { IfOk result (λ name. name.items ≡ class_name heap.now weak class) }
 {
-    if let Some(own) = held_name(alloc, heap, weak, class)? {
+    let names = ClassNames { heap, weak };
+    if let Some(own) = names.held(alloc, class)? {
         return Ok(own);
     }
-    match instance_name(alloc, heap, weak, class)? {
+    match names.of_instance(alloc, class)? {
         Some(mut name) => {
             name.extend_from_slice(b" class")?;
             Ok(name)
@@ -57,38 +58,37 @@ pub fn compact_name(alloc: Global, compact: u32) -> Result<Vec<u8>, AllocError>
     Ok(name.into_bytes())
 }
 
-/// Returns the name of the instance of a metaclass, if it has one.
-fn instance_name(
-    alloc: Global,
-    heap: &Heap,
+/// What the names of classes are read from: the heap, and what becomes of weak slots.
+#[derive(Drop)]
+struct ClassNames<'a> {
+    heap: &'a Heap,
     weak: Weak,
-    class: ObjectIndex,
-) -> Result<Option<Vec<u8>>, AllocError>
-    requires { class < object_count heap.now }
-    ensures { IfOk result (λ name.
-        option_map (λ text. text.items) name ≡ option_and_then (held_name heap.now weak)
-        (strong_target heap.now weak class (Field 5))) }
-{
-    match OutEdges::of(heap, weak, class).target(Slot::Field(INSTANCE)) {
-        Some(instance) => held_name(alloc, heap, weak, instance),
-        None => Ok(None),
-    }
 }
 
-/// Returns the name that an object has, if its field 6 points to a byte object.
-fn held_name(
-    alloc: Global,
-    heap: &Heap,
-    weak: Weak,
-    object: ObjectIndex,
-) -> Result<Option<Vec<u8>>, AllocError>
-    requires { object < object_count heap.now }
-    ensures { IfOk result (λ name.
-        option_map (λ text. text.items) name ≡ held_name heap.now weak object) }
-{
-    match OutEdges::of(heap, weak, object).target(Slot::Field(NAME)) {
-        Some(name) => text_in(alloc, heap.order(), &heap.object(name)),
-        None => Ok(None),
+impl ClassNames<'_> {
+    /// Returns the name that an object has, if its field 6 points to a byte object.
+    fn held(&self, alloc: Global, object: ObjectIndex) -> Result<Option<Vec<u8>>, AllocError>
+        requires { object < object_count self.now.heap.now }
+        ensures { IfOk result (λ name. option_map (λ text. text.items) name
+            ≡ held_name self.now.heap.now self.now.weak object) }
+    {
+        match OutEdges::of(self.heap, self.weak, object).target(Slot::Field(NAME)) {
+            Some(name) => text_in(alloc, self.heap.order(), &self.heap.object(name)),
+            None => Ok(None),
+        }
+    }
+
+    /// Returns the name of the instance of a metaclass, if it has one.
+    fn of_instance(&self, alloc: Global, class: ObjectIndex) -> Result<Option<Vec<u8>>, AllocError>
+        requires { class < object_count self.now.heap.now }
+        ensures { IfOk result (λ name. option_map (λ text. text.items) name
+            ≡ option_and_then (held_name self.now.heap.now self.now.weak)
+            (strong_target self.now.heap.now self.now.weak class (Field 5))) }
+    {
+        match OutEdges::of(self.heap, self.weak, class).target(Slot::Field(INSTANCE)) {
+            Some(instance) => self.held(alloc, instance),
+            None => Ok(None),
+        }
     }
 }
 
