@@ -217,11 +217,27 @@ module _ (edges : OutEdges) where
       (IsTargetAmong-last edges slots slot) old shades new first second
 
   -- the targets of all strong slots became grey, and then the object black
-  pub Blackens-after_slots : (memory : Memory) (weak : Weak) (object : ℕ) → edges ≡ out_edges memory weak object
-      → (slots : List Slot) → slots ≡ strong_slots edges → (old shades : List Shade) → object < object_count memory
-      → length old ≡ object_count memory → Greys (IsTargetAmong edges slots) old shades
-      → Blackens (HasEdge memory weak object) object old (set shades object Black)
-  Blackens-after_slots memory weak object its slots all old shades inside sized greys =
-      Blackens-after (IsTargetAmong edges slots) (HasEdge memory weak object) object old shades
-      (omega (arith, greys.sized, sized, inside)) (IsTargetAmong-edge memory weak object edges its slots all)
-      (λ index. HasEdge-among memory weak object edges its slots index inside) greys
+  pub Blackens-after_slots : (object : ℕ) (slots : List Slot) → slots ≡ strong_slots edges → (old shades : List Shade)
+      → object < length old → Greys (IsTargetAmong edges slots) old shades
+      → Blackens (IsTargetAmong edges (strong_slots edges)) object old (set shades object Black)
+  Blackens-after_slots object slots all old shades inside greys =
+      Blackens-after (IsTargetAmong edges slots) (IsTargetAmong edges (strong_slots edges)) object old shades
+      (omega (arith, greys.sized, inside)) (λ index. subst (λ (it : List Slot). IsTargetAmong edges it index) (sym all))
+      (λ index. subst (λ (it : List Slot). IsTargetAmong edges it index) all) greys
+
+  -- these targets are what the object has edges to
+  pub Blackens-edges : (memory : Memory) (weak : Weak) (object : ℕ) → edges ≡ out_edges memory weak object
+      → object < object_count memory → (old new : List Shade)
+      → Blackens (IsTargetAmong edges (strong_slots edges)) object old new → Blackens (HasEdge memory weak object) object old new
+  Blackens-edges memory weak object its inside old new step =
+      record {
+        sized = step.sized;
+        black = step.black;
+        targets = λ index edge. step.targets index (IsTargetAmong-edge memory weak object edges its (strong_slots edges) refl index edge);
+        only = λ index. elim (step.only index) [
+          | inl same ↦ inl same
+          | inr (inl same) ↦ inr (inl same)
+          | inr (inr (target, white, grey)) ↦
+              inr (inr (HasEdge-among memory weak object edges its (strong_slots edges) index inside target, white, grey))
+        ];
+      }

@@ -3,7 +3,7 @@
 -- Serves `CopyLemmas`; `CopiedLemmas` and `MovedShapeLemmas` of `sqz_slide`.
 use Rattle.std.proofs.Common.{◌≡◌, ◌⊎◌, ℕ, ◌+◌, ◌%◌, Bool, true, false, ◌&&◌, cond, eqb}
 use Rattle.std.proofs.Common.{List, [], ◌∷◌, length, slice_index}
-use Rattle.std.proofs.Common.{Option, refl, sym, ap, ◌∙◌, arith, inl, inr}
+use Rattle.std.proofs.Common.{refl, sym, ap, ◌∙◌, arith, inl, inr}
 use Rattle.std.specs.Prelude.{option_map}
 use Rattle.std.specs.Prelude.{pos}
 use Rattle.sqz_object.specs.declared.value.Value.TheVariants.{Pointer, Odd}

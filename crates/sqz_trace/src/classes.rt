@@ -1,15 +1,13 @@
 //! The class of an object.
 
-ghost use Rattle.std.specs.Prelude.{◌≡◌, ◌<◌, ◌≤◌, length, IfSome};
-ghost use Rattle.sqz_object.specs.Chunk.{fields};
+ghost use Rattle.std.specs.Prelude.{◌≡◌, ◌<◌, IfSome};
 ghost use Rattle.sqz_image.specs.declared.slot.Slot.TheVariants.{ClassWord};
 ghost use Rattle.sqz_image.specs.Objects.{object_count};
 ghost use Rattle.sqz_trace.specs.Targets.{named_in};
-ghost use Rattle.sqz_trace.specs.Strong.{strong_by_word, compact_classes, compact_class, class_of};
+ghost use Rattle.sqz_trace.specs.Strong.{compact_class, class_of};
 
-use crate::fixed::{fixed_of, is_weak};
 use crate::out_edges::OutEdges;
-use crate::slots::{class_address, named_by, traced_fields};
+use crate::slots::{class_address, named_by};
 use crate::weak::Weak;
 use sqz_image::{Heap, Object, Slot};
 use sqz_object::{Kind, ObjectIndex, base_of};
@@ -39,32 +37,13 @@ pub fn compact_class(heap: &Heap, weak: Weak, index: u32) -> Option<ObjectIndex>
     ensures inside { IfSome result (λ class. class < object_count heap.now) }
 {
     let field = index.checked_sub(1)?;
-    OutEdges::by_class_word(heap, weak, compact_classes(heap, weak)?).target(Slot::Field(field))
-}
-
-/// Returns the array of compact classes, if there is one.
-fn compact_classes(heap: &Heap, weak: Weak) -> Option<ObjectIndex>
-    ensures array { result ≡ compact_classes heap.now weak }
-    ensures inside { IfSome result (λ array. array < object_count heap.now) }
-{
-    OutEdges::by_class_word(heap, weak, heap.special()).target(Slot::Field(COMPACT_CLASSES))
-}
-
-/// Returns the number of strong fields of an object, taking as its class what its class word
-/// points to.
-pub(crate) fn strong_by_word(heap: &Heap, weak: Weak, object: &Object<'_>) -> u32
-    ensures strong { result ≡ strong_by_word heap.now weak object.now }
-    ensures inside { result ≤ length (fields object.now) }
-{
-    if is_weak(weak, object) {
-        fixed_of(heap, class_named(heap, object), object)
-    } else {
-        traced_fields(object)
-    }
+    let special = OutEdges::by_class_word(heap, weak, heap.special());
+    let classes = special.target(Slot::Field(COMPACT_CLASSES))?;
+    OutEdges::by_class_word(heap, weak, classes).target(Slot::Field(field))
 }
 
 /// Returns the object that the class word of an object points to, if its header has one.
-fn class_named(heap: &Heap, object: &Object<'_>) -> Option<ObjectIndex>
+pub(crate) fn class_named(heap: &Heap, object: &Object<'_>) -> Option<ObjectIndex>
     ensures class { result ≡ named_in heap.now object.now ClassWord }
     ensures inside { IfSome result (λ class. class < object_count heap.now) }
 {

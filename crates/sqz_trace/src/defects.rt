@@ -1,11 +1,13 @@
 //! The defects of an object.
 
-ghost use Rattle.std.specs.Prelude.{◌≡◌, ◌<◌};
+ghost use Rattle.std.specs.Prelude.{◌≡◌, ◌<◌, length, IfSome};
+ghost use Rattle.sqz_object.specs.Chunk.{fields};
 ghost use Rattle.sqz_object.specs.Value.{value_of};
 ghost use Rattle.sqz_image.specs.Objects.{object_count, object_at};
 ghost use Rattle.sqz_trace.specs.Slots.{traced, field_slots};
+ghost use Rattle.sqz_trace.specs.Strong.{fixed_by};
 ghost use Rattle.sqz_trace.specs.Defects.{lacks_class, states_too_many, is_bad_method};
-ghost use Rattle.sqz_trace.specs.Defects.{is_bad_context, is_bad_weak, is_bad_value};
+ghost use Rattle.sqz_trace.specs.Defects.{is_bad_context, is_bad_value};
 ghost use Rattle.sqz_trace.specs.Defects.{first_bad, bad_slot, defect, lacks_nil};
 
 use crate::classes::class_of;
@@ -36,7 +38,7 @@ pub fn defect(heap: &Heap, weak: Weak, object: ObjectIndex) -> Option<Fault>
     if is_bad_context(&chunk) {
         return Some(Fault::BadContext { address });
     }
-    if is_bad_weak(heap, weak, &chunk) {
+    if is_weak(weak, &chunk) && states_bad_count(heap, class_of(heap, weak, &chunk), &chunk) {
         return Some(Fault::BadWeak { address });
     }
     let slot = bad_slot(heap, &chunk)?;
@@ -71,16 +73,13 @@ fn is_bad_context(object: &Object<'_>) -> bool
         && states_too_many(context_fields(&fields), fields.len() as u32)
 }
 
-/// Returns whether the object has weak slots that are cleared, and its class states no number of
-/// fixed fields, or more than it has.
-fn is_bad_weak(heap: &Heap, weak: Weak, object: &Object<'_>) -> bool
-    ensures { result ≡ is_bad_weak heap.now weak object.now }
+/// Returns whether the class of an object states no number of fixed fields, or more than the
+/// object has.
+fn states_bad_count(heap: &Heap, class: Option<ObjectIndex>, object: &Object<'_>) -> bool
+    requires { IfSome class (λ class. class < object_count heap.now) }
+    ensures { result ≡ states_too_many (fixed_by heap.now class) (length (fields object.now)) }
 {
-    is_weak(weak, object)
-        && states_too_many(
-            fixed_by(heap, class_of(heap, weak, object)),
-            object.fields().len() as u32,
-        )
+    states_too_many(fixed_by(heap, class), object.fields().len() as u32)
 }
 
 /// Returns whether no number is stated, or a number above this count.

@@ -3,7 +3,7 @@
 ghost use Rattle.std.specs.Prelude.{◌≡◌, ℕ, ◌+◌, ◌<◌, ◌≤◌, length, Some};
 ghost use Rattle.sqz_image.specs.Objects.{object_count};
 ghost use Rattle.sqz_trace.specs.declared.shades.Shade.TheVariants.{Grey};
-ghost use Rattle.sqz_trace.specs.Edges.{edge_target, HasEdge};
+ghost use Rattle.sqz_trace.specs.Edges.{edge_target, strong_slots, IsTargetAmong};
 ghost use Rattle.sqz_trace.specs.Reachability.{IsReachability};
 ghost use Rattle.sqz_trace.specs.Shades.{AreLawfulOf, shade_at};
 ghost use Rattle.sqz_trace.specs.Greying.{Blackens, Greys, IsLowest};
@@ -31,7 +31,7 @@ pub fn finish(heap: &Heap, weak: Weak, mut shades: Shades) -> Marks
     let mut object = 0;
     while object < heap.len() {
         object = match shades[object as usize] {
-            Shade::Grey => blacken(heap, weak, object, &mut shades),
+            Shade::Grey => blacken(&OutEdges::of(heap, weak, object), object, &mut shades),
             Shade::White | Shade::Black => object + 1,
         };
     }
@@ -40,18 +40,18 @@ pub fn finish(heap: &Heap, weak: Weak, mut shades: Shades) -> Marks
 
 /// Makes the white targets of a grey object grey, and the object black. Returns the lowest of
 /// these targets or the next object, whichever is lower.
-fn blacken(heap: &Heap, weak: Weak, object: ObjectIndex, shades: &mut [Shade]) -> ObjectIndex
-    requires object { object < object_count heap.now }
-    requires sized { length shades.old ≡ object_count heap.now }
+fn blacken(edges: &OutEdges<'_>, object: ObjectIndex, shades: &mut [Shade]) -> ObjectIndex
+    requires object { object < 4294967295 }
+    requires inside { object < length shades.old }
+    requires sized { length shades.old ≡ object_count edges.now.memory }
     requires grey { shade_at shades.old object ≡ Grey }
-    ensures blackened { Blackens (HasEdge heap.now weak object) object shades.old shades.new }
+    ensures blackened { Blackens (IsTargetAmong edges.now (strong_slots edges.now)) object
+        shades.old shades.new }
     ensures lowest { IsLowest (object + 1) shades.old shades.new result }
 {
-    heap_bounds(heap); // fewer than 2^30 objects, so `object + 1` fits
-    let edges = OutEdges::of(heap, weak, object);
     let mut lowest = object + 1;
     for slot in edges.slots() {
-        lowest = grey_target(&edges, slot, shades, lowest);
+        lowest = grey_target(edges, slot, shades, lowest);
     }
     shades[object as usize] = Shade::Black;
     lowest

@@ -27,7 +27,7 @@ struct MarkedHeap<'a> {
 }
 
 impl MarkedHeap<'_> {
-    /// The defect of the lowest marked object that has one, among the objects `from..to`.
+    /// Returns the defect of the lowest marked object that has one, among the objects `from..to`.
     fn defect_in(&self, from: ObjectIndex, to: ObjectIndex) -> Option<Fault>
         requires { to ≤ object_count self.now.heap.now }
         ensures { result ≡ first_between
@@ -44,8 +44,8 @@ impl MarkedHeap<'_> {
         None
     }
 
-    /// The defect of the lowest marked object that has one, among the objects of the range with this
-    /// number.
+    /// Returns the defect of the lowest marked object that has one, among the objects of the range
+    /// with this number.
     fn defect_in_range(&self, range: u32) -> Option<Fault>
         requires { range * RANGE < object_count self.now.heap.now }
         ensures { result ≡ first_in_range
@@ -58,8 +58,8 @@ impl MarkedHeap<'_> {
     }
 }
 
-/// The defect of the lowest marked object that has one. Several threads look for it, each in ranges of
-/// thousands of objects. It takes no memory.
+/// Returns the defect of the lowest marked object that has one, or None. Several threads look for
+/// it, each in ranges of thousands of objects. It allocates no memory.
 pub fn first_defect<'a>(
     rt: &(impl Threads + Sync),
     heap: &'a Heap,

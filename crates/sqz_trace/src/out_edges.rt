@@ -4,9 +4,10 @@ ghost use Rattle.std.specs.Prelude.{◌≡◌, ◌^◌, ◌<◌, ◌≤◌, leng
 ghost use Rattle.sqz_image.specs.Objects.{object_count};
 ghost use Rattle.sqz_trace.specs.Edges.{out_edges, edges_by_word, strong_slots, edge_target, nil};
 
-use crate::classes::strong_by_word;
+use crate::classes::class_named;
 use crate::edge_slots::StrongSlots;
-use crate::slots::named_among;
+use crate::fixed::{fixed_of, is_weak};
+use crate::slots::{named_among, traced_fields};
 use crate::strong_slots::strong_fields;
 use crate::weak::Weak;
 use sqz_image::{Heap, Object, Slot};
@@ -62,7 +63,11 @@ impl<'a> OutEdges<'a> {
         ensures { result ≡ edges_by_word heap.now weak index }
     {
         let object = heap.object(index);
-        let strong = strong_by_word(heap, weak, &object);
+        let strong = if is_weak(weak, &object) {
+            fixed_of(heap, class_named(heap, &object), &object)
+        } else {
+            traced_fields(&object)
+        };
         OutEdges {
             heap,
             object,

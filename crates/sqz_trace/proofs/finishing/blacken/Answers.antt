@@ -9,14 +9,14 @@ loop-slot-preserved c =
     let so_far = c.loop-slot.invariant in
     let step = c.grey_target-lowest.ensures in
     record {
-      greyed = Greys-next_slot c.of-edges.result c.loop-slot.yielded c.in-Some.slot _ _ _ so_far.greyed step.greyed;
+      greyed = Greys-next_slot c.args.edges.now c.loop-slot.yielded c.in-Some.slot _ _ _ so_far.greyed step.greyed;
       lowest = IsLowest-then (c.args.object + 1) _ _ _ so_far.lowest _ _ _ _ so_far.greyed step.greyed step.lowest;
     }
 
 pub returns-clause-blackened : goal.returns-clause-blackened
 returns-clause-blackened c =
     let all =
-    slots_at_end (strong_slots c.of-edges.result) _ (c.into_iter-slot-iterator.ensures.into_iter_gives ∙ c.slots-slot-items.ensures)
+    slots_at_end (strong_slots c.args.edges.now) _ (c.into_iter-slot-iterator.ensures.into_iter_gives ∙ c.slots-slot-items.ensures)
     c.loop-slot.yielded _ c.loop-slot.yielded_by _ _ c.in-None.is c.next.ensures.steps in
-    Blackens-after_slots c.of-edges.result c.args.heap.now c.args.weak c.args.object c.of-edges.ensures c.loop-slot.yielded
-    all c.args.shades.now _ c.requires.object c.requires.sized c.loop-slot.invariant.greyed
+    Blackens-after_slots c.args.edges.now c.args.object c.loop-slot.yielded all c.args.shades.now _ c.requires.inside
+    c.loop-slot.invariant.greyed

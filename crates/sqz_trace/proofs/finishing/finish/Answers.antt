@@ -7,6 +7,7 @@ use Rattle.sqz_trace.specs.Edges.{HasEdge}
 use Rattle.sqz_trace.specs.Reachability.{graph_from}
 use Rattle.sqz_trace.specs.Shades.{shade_at}
 use Rattle.sqz_trace.proofs.MarkingLemmas.{whole_slice}
+use Rattle.sqz_trace.proofs.GreyingLemmas.{Blackens-edges}
 use Rattle.sqz_trace.proofs.ShadeLemmas.{grey-black}
 use Rattle.sqz_trace.proofs.LawLemmas.{AreLawful-blackened, MarksReachable-finished, none_grey}
 use Rattle.sqz_trace.proofs.FinishingLemmas.{unfinished_count, unfinished-blackened, less_to_do}
@@ -27,7 +28,11 @@ loop-object-smaller-in-Grey c =
     let object = c.loop-object.object in
     let old = c.loop-object.shades in
     let new = c.blacken-object.new.shades in
-    let step = rw c.deref_mut.ensures.value at c.blacken-object.ensures.blackened in
+    let blackened = rw c.deref_mut.ensures.value at c.blacken-object.ensures.blackened in
+    let step =
+    Blackens-edges c.of.result c.args.heap.now c.args.weak object c.of.ensures
+    (omega (arith, c.loop-object-test.true, c.len.ensures.objects)) old.items new blackened
+    in
     let less =
     unfinished-blackened (HasEdge c.args.heap.now c.args.weak object) object old.items new (is_there here) (is_grey here) step in
     rw (whole_slice old.len new old.items step.sized old.ok.0)
@@ -41,7 +46,11 @@ loop-object-preserved-in-Grey c =
     let so_far = c.loop-object.invariant in
     let law = so_far.lawful in
     let grey = is_grey (goal.at.loop-object-preserved-in-Grey c).In-Grey in
-    let step = rw c.deref_mut.ensures.value at c.blacken-object.ensures.blackened in
+    let blackened = rw c.deref_mut.ensures.value at c.blacken-object.ensures.blackened in
+    let step =
+    Blackens-edges c.of.result c.args.heap.now c.args.weak object c.of.ensures
+    (omega (arith, c.loop-object-test.true, c.len.ensures.objects)) old.items new blackened
+    in
     let lowest = rw c.deref_mut.ensures.value at c.blacken-object.ensures.lowest in
     rw (whole_slice old.len new old.items step.sized old.ok.0)
     (record {

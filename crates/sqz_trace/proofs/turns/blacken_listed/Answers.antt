@@ -1,7 +1,7 @@
 use Rattle.std.proofs.Common.{◌∙◌, arith}
 use Rattle.sqz_trace.specs.Edges.{strong_slots, IsTargetAmong}
 use Rattle.sqz_trace.proofs.TargetLemmas.{slots_at_end}
-use Rattle.sqz_trace.proofs.GreyingLemmas.{Greys-next_slot, Blackens-after_slots}
+use Rattle.sqz_trace.proofs.GreyingLemmas.{Greys-next_slot, Blackens-after_slots, Blackens-edges}
 use Rattle.sqz_trace.proofs.TurnLemmas.{IsListed-then, IsListed-room, IsListed-blackened}
 use Rattle.sqz_trace.proofs.turns.blacken_listed.Goals as goal
 
@@ -20,8 +20,10 @@ returns-clause-blackened c =
     let all =
     slots_at_end (strong_slots c.of-edges.result) _ (c.into_iter-slot-iterator.ensures.into_iter_gives ∙ c.slots-slot-items.ensures)
     c.loop-slot.yielded _ c.loop-slot.yielded_by _ _ c.in-None.is c.next.ensures.steps in
-    Blackens-after_slots c.of-edges.result c.args.heap.now c.args.weak c.args.object c.of-edges.ensures c.loop-slot.yielded
-    all c.args.shades.now _ c.requires.object c.requires.sized c.loop-slot.invariant.greyed
+    Blackens-edges c.of-edges.result c.args.heap.now c.args.weak c.args.object c.of-edges.ensures c.requires.object
+    c.args.shades.now _
+    (Blackens-after_slots c.of-edges.result c.args.object c.loop-slot.yielded all c.args.shades.now _
+    (omega (arith, c.requires.sized, c.requires.object)) c.loop-slot.invariant.greyed)
 
 pub returns-clause-listed : goal.returns-clause-listed
 returns-clause-listed c =
