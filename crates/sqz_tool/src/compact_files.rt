@@ -6,6 +6,7 @@ ghost use Rattle.sqz_tool.specs.FileRuns.{CompactsFiles, StopsFiles};
 ghost use Rattle.sqz_tool.specs.Plans.{IsWorkers, IsRegion};
 ghost use Rattle.sqz_trace.specs.WeakSlots.{weak_of};
 
+use crate::file_views::FileViews;
 use crate::opened::Opened;
 use crate::summary::Summary;
 use sqz_cli::OutputFile;
@@ -34,11 +35,7 @@ pub fn compact<'a, T: Files + Threads + Sync, C: Sink, G: Gate>(
     ensures planned { IfOk result (λ _.
         IsWorkers arguments.now.workers × IsRegion arguments.now.region_words) }
     ensures compacts { IfOk result (λ summary.
-        CompactsFiles (record {
-          left = T.File.remaining;
-          state = ⟦<OutputFile<'a, T> as Sink>⟧.state;
-          path = λ sink. sink.path.now;
-        })
+        CompactsFiles ⟦<OutputFile<'a, T> as FileViews<T::File>>⟧.views
         arguments.now.output.now (weak_of arguments.now.clear_weak) arguments.now.census (C.state
         out.old) (C.state out.new) summary) }
     ensures workers { IfErr result (λ fault.
@@ -46,12 +43,7 @@ pub fn compact<'a, T: Files + Threads + Sync, C: Sink, G: Gate>(
     ensures cut { IfErr result (λ fault. (fault ≡ BadCut)
         ↔ (IsWorkers arguments.now.workers × (IsRegion arguments.now.region_words → ⊥))) }
     ensures refuses { IfErr result (λ fault. fault ≢ BadWorkers → fault ≢ BadCut → StopsFiles
-        (record {
-          left = T.File.remaining;
-          state = ⟦<OutputFile<'a, T> as Sink>⟧.state;
-          path = λ
-              sink. sink.path.now;
-        })
+        ⟦<OutputFile<'a, T> as FileViews<T::File>>⟧.views
         arguments.now.output.now (weak_of arguments.now.clear_weak) arguments.now.census (C.state
         out.old) (C.state out.new) fault) }
     ensures unused { arguments.now.census ≡ false → C.state out.new ≡ C.state out.old }

@@ -10,6 +10,7 @@ ghost use Rattle.sqz_tool.specs.Endings.{AreTaken, EndsFaulty, EndsWhole};
 ghost use Rattle.sqz_tool.specs.Plans.{AsksForCensus, AsksForPlan};
 
 use crate::compact_files::compact;
+use crate::file_views::FileViews;
 use crate::summary::Summary;
 use sqz_cli::{DONE, OutputFile, explain, refuse};
 use sqz_compact_args::read_arguments;
@@ -26,11 +27,11 @@ use std::thread::Threads;
 ///
 /// The words are parsed first, then the number of workers and the size of a region are checked,
 /// and then the image is read. The output file is created, or truncated, only when the first bytes
-/// of the compacted image are there. The census is printed on `out` after the image is written. A
+/// of the compacted image can be written. The census is printed on `out` after the image is written. A
 /// fault is printed as one line on `err`, and the help on `out`. If `err` fails, or `out` while
 /// the help is printed, the exit code is the same.
-pub fn program<T: Files + Threads + Sync, C: Sink, E: Sink>(
-    rt: &T,
+pub fn program<'a, T: Files + Threads + Sync, C: Sink, E: Sink>(
+    rt: &'a T,
     alloc: Global,
     words: &[String],
     out: &mut C,
@@ -45,18 +46,10 @@ pub fn program<T: Files + Threads + Sync, C: Sink, E: Sink>(
         → (AsksForPlan (matches_of command_line (map string_bytes words.now)) → ⊥) → (result ≡ 2)
         ⊎ (result ≡ 4) }
     ensures whole { AreTaken (map string_bytes words.now) → result ≡ 0
-        → EndsWhole (record {
-          left = T.File.remaining;
-          state = ⟦<OutputFile<'static, T> as Sink>⟧.state;
-          path = λ sink. sink.path.now;
-        })
+        → EndsWhole ⟦<OutputFile<'a, T> as FileViews<T::File>>⟧.views
         (map string_bytes words.now) (C.state out.old) (C.state out.new) }
     ensures faulty { AreTaken (map string_bytes words.now) → 0 < result
-        → EndsFaulty (record {
-          left = T.File.remaining;
-          state = ⟦<OutputFile<'static, T> as Sink>⟧.state;
-          path = λ sink. sink.path.now;
-        })
+        → EndsFaulty ⟦<OutputFile<'a, T> as FileViews<T::File>>⟧.views
         (map string_bytes words.now) result (C.state out.old) (C.state out.new) (E.state err.old)
         (E.state err.new) }
     ensures unused { AreTaken (map string_bytes words.now)

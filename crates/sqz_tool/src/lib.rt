@@ -5,6 +5,7 @@
 mod compact_files;
 mod compaction;
 mod entry_point;
+mod file_views;
 pub mod laws;
 mod observer;
 mod opened;
@@ -15,6 +16,7 @@ mod summary;
 
 pub use compact_files::compact;
 pub use entry_point::program;
+pub use file_views::FileViews;
 pub use observer::{NoObserver, Stage, StageObserver};
 pub use plan::Plan;
 pub use running::{run, run_observed};
