@@ -22,7 +22,6 @@ const LEAST_ROOM: usize = 1 << 20;
 ///
 /// Fails with `OutOfMemory`, or with `ReadFailed` if a read fails or 2^32 reads do not reach the
 /// end. The bytes read so far are then lost.
-/// end. The bytes that were read are then lost.
 pub fn read_all<R: Source>(alloc: Global, source: &mut R) -> Result<Vec<u8>, Fault>
     ensures whole { IfOk result (λ file.
         ReadsWhole R.gives_all (R.state source.old) (R.state source.new) file.items) }
