@@ -1,3 +1,6 @@
 pub mod SearchLemmas
 pub mod PathLemmas
 pub mod MemberLemmas
+pub mod RangeLemmas
+pub mod ReferrerLemmas
+pub mod AllDefectLemmas

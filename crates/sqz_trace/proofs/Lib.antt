@@ -5,6 +5,7 @@ pub mod CompactClassLemmas
 pub mod EdgeLemmas
 pub mod ReachabilityLemmas
 pub mod MarkingLemmas
+pub mod AvoidingLemmas
 pub mod DefectLemmas
 pub mod FirstDefectLemmas
 pub mod FinishingLemmas

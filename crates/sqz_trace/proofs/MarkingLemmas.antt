@@ -3,20 +3,14 @@
 -- `marking::mark_targets` and `LawLemmas`; `table::MarkTable::close` of `sqz_marks`;
 -- `locked_marking::LockedMarking::turn` of `sqz_workers`.
 use Rattle.std.proofs.Common.{◌≡◌, ℕ, zero, suc, ◌+◌, ◌<◌, ◌⊎◌, Bool, true, false, List, [], ◌∷◌, ◌++◌, length, set}
-use Rattle.std.proofs.Common.{Some, take, drop, refl, sym, ap, subst, ◌∙◌, arith, inl, inr}
+use Rattle.std.proofs.Common.{take, drop, refl, sym, ap, subst, ◌∙◌, arith, inl, inr}
 use Rattle.std.specs.Prelude.{replicate, Contains}
 use Rattle.std.proofs.lemmas.List.Elements.{Contains-push, Contains-push_cases}
 use Rattle.std.proofs.lemmas.List.Elements.{Contains-append_left}
 use Rattle.std.proofs.lemmas.List.{length-set, length-append, length-replicate, get_or-set_same, take_at}
-use Rattle.sqz_image.specs.declared.slot.Slot.{Slot}
-use Rattle.sqz_image.specs.Objects.{Memory, object_count}
-use Rattle.sqz_trace.specs.declared.weak.Weak.{Weak}
-use Rattle.sqz_trace.specs.Edges.{OutEdges, out_edges, strong_slots, edge_target, IsTargetAmong, HasEdge}
 use Rattle.sqz_trace.specs.Graph.{Graph, IsReachable, is_marked, MarksReachable}
 use Rattle.sqz_trace.proofs.ReachabilityLemmas.{IsReachable-next, MarksReachable-from_tracing}
 use Rattle.sqz_trace.specs.Marking.{unmarked_count, MarksTargets}
-use Rattle.sqz_trace.proofs.TargetLemmas.{IsTargetAmong-next, IsTargetAmong-before, IsTargetAmong-last}
-use Rattle.sqz_trace.proofs.TargetLemmas.{IsTargetAmong-edge, HasEdge-among}
 
 -- ---- marks
 
@@ -32,7 +26,7 @@ unmarked_count-set (false ∷ marks) (suc i) lt e =
     omega (arith, rest)
 
 -- what is marked after a mark more was marked before, or got the mark
-is_marked-set : (marks : List Bool) (i j : ℕ)
+pub is_marked-set : (marks : List Bool) (i j : ℕ)
     → is_marked (set marks i true) j ≡ true → (j ≡ i) ⊎ (is_marked marks j ≡ true)
 is_marked-set [] i j e = inr e
 is_marked-set (mark ∷ marks) zero zero e = inl refl
@@ -45,7 +39,7 @@ is_marked-set (mark ∷ marks) (suc i) (suc j) e =
     ]
 
 -- a mark more takes no mark away
-is_marked-keeps : (marks : List Bool) (i j : ℕ) → is_marked marks j ≡ true → is_marked (set marks i true) j ≡ true
+pub is_marked-keeps : (marks : List Bool) (i j : ℕ) → is_marked marks j ≡ true → is_marked (set marks i true) j ≡ true
 is_marked-keeps [] i j e = e
 is_marked-keeps (mark ∷ marks) zero zero e = refl
 is_marked-keeps (mark ∷ marks) zero (suc j) e = e
@@ -137,39 +131,6 @@ module _ (IsFirst IsSecond IsTarget : ℕ → Type 0)
         ];
         measure = second.measure ∙ first.measure;
       }
-
--- ---- the targets of slots
-
-module _ (edges : OutEdges) (old marks new : List Bool) (queue worklist longer : List ℕ) where
-  -- the targets of the slots before are marked, and then that of the next slot
-  pub MarksTargets-next_slot : (slots : List Slot) (slot : Slot) → MarksTargets (IsTargetAmong edges slots) old queue marks worklist
-      → MarksTargets (λ index. edge_target edges slot ≡ Some index) marks worklist new longer
-      → MarksTargets (IsTargetAmong edges (slots ++ slot ∷ [])) old queue new longer
-  MarksTargets-next_slot slots slot =
-      MarksTargets-then (IsTargetAmong edges slots) (λ index. edge_target edges slot ≡ Some index)
-      (IsTargetAmong edges (slots ++ slot ∷ [])) (IsTargetAmong-next edges slots slot) (IsTargetAmong-before edges slots slot)
-      (IsTargetAmong-last edges slots slot) old marks new queue worklist longer
-
--- the targets of all strong slots are those of the edges
-pub MarksTargets-edges : (memory : Memory) (weak : Weak) (object : ℕ) (edges : OutEdges) → edges ≡ out_edges memory weak object
-    → object < object_count memory → (old new : List Bool) (queue longer : List ℕ)
-    → MarksTargets (IsTargetAmong edges (strong_slots edges)) old queue new longer
-    → MarksTargets (HasEdge memory weak object) old queue new longer
-MarksTargets-edges memory weak object edges its inside old new queue longer step =
-    record {
-      sized = step.sized;
-      keeps = step.keeps;
-      targets = λ index edge.
-          step.targets index (IsTargetAmong-edge memory weak object edges its (strong_slots edges) refl index edge);
-      only = λ index marked. elim (step.only index marked) [
-        | inl before ↦ inl before
-        | inr (target, there) ↦
-            inr (HasEdge-among memory weak object edges its (strong_slots edges) index inside target, there)
-      ];
-      queued = step.queued;
-      added = step.added;
-      measure = step.measure;
-    }
 
 -- ---- between two steps
 

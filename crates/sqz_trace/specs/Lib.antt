@@ -6,6 +6,7 @@ pub mod CompactClasses
 pub mod Graph
 pub mod Reachability
 pub mod Marking
+pub mod Avoiding
 pub mod Live
 pub mod Defects
 pub mod Ranges

@@ -1,6 +1,7 @@
 //! What the objects of an image point to, which of them are reachable, and which have a defect.
 #![tactic(auto)]
 
+mod avoided;
 mod classes;
 mod contexts;
 mod defects;
@@ -26,7 +27,7 @@ pub use edge_slots::StrongSlots;
 pub use finishing::finish;
 pub use fixed::is_weak;
 pub use lowest_defect::first_defect;
-pub use marking::mark_plain;
+pub use marking::{mark_plain, reachable_without};
 pub use marks::Marks;
 pub use out_edges::{OutEdges, nil};
 pub use shades::{Shade, Shades, first_shades};

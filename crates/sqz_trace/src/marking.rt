@@ -1,13 +1,15 @@
-//! Marking: the objects to which a path leads from the special objects array.
+//! Marking in one thread: the objects to which a path leads from the special objects array.
 
 ghost use Rattle.std.specs.Prelude.{◌≡◌, ◌<◌, length, IfOk, IfErr, OnOk, Some};
 ghost use Rattle.sqz_image.specs.declared.fault.Fault.TheVariants.{OutOfMemory};
 ghost use Rattle.sqz_image.specs.Objects.{object_count};
+ghost use Rattle.sqz_trace.specs.Avoiding.{IsReachabilityWithout, Outside};
 ghost use Rattle.sqz_trace.specs.Edges.{strong_slots, edge_target, IsTargetAmong};
 ghost use Rattle.sqz_trace.specs.Reachability.{IsReachability};
 ghost use Rattle.sqz_trace.specs.Marking.{MarksTargets};
 ghost use Rattle.sqz_trace.specs.Shades.{marks_of};
 
+use crate::avoided::{Avoided, Nothing};
 use crate::marks::{Marks, has_mark};
 use crate::out_edges::OutEdges;
 use crate::shades::{Shade, first_shades};
@@ -16,55 +18,98 @@ use sqz_image::{Fault, Heap, Slot};
 use sqz_object::ObjectIndex;
 use std::alloc::{AllocError, Global};
 
-/// Marks the object that a strong slot points to, and adds it to the worklist if it had no mark.
-fn mark_target(
-    edges: &OutEdges<'_>,
-    slot: Slot,
-    shades: &mut [Shade],
-    worklist: &mut Vec<ObjectIndex>,
-) -> Result<(), AllocError>
-    requires { length shades.old ≡ object_count edges.now.memory }
-    ensures { OnOk result (MarksTargets (λ index. edge_target edges.now slot ≡ Some index)
-        (marks_of shades.old) worklist.old.items (marks_of shades.new) worklist.new.items) }
-{
-    if let Some(found) = edges.target(slot) {
-        if !has_mark(shades[found as usize]) {
-            worklist.push(found)?;
-            shades[found as usize] = Shade::Grey;
-        }
-    }
-    Ok(())
-}
-
-/// Marks the objects that the strong slots of an object point to, and adds those that had no mark
-/// to the worklist.
-fn mark_targets(
-    edges: &OutEdges<'_>,
-    shades: &mut [Shade],
-    worklist: &mut Vec<ObjectIndex>,
-) -> Result<(), AllocError>
-    requires { length shades.old ≡ object_count edges.now.memory }
-    ensures { OnOk result (MarksTargets (IsTargetAmong edges.now (strong_slots edges.now))
-        (marks_of shades.old) worklist.old.items (marks_of shades.new) worklist.new.items) }
-{
-    for slot in edges.slots() {
-        mark_target(edges, slot, shades, worklist)?;
-    }
-    Ok(())
-}
-
 /// Returns the reachable objects of a heap: one mark per object. It runs in one thread and needs
 /// no mark table; a run marks with workers instead. Fails only if out of memory.
 pub fn mark_plain(alloc: Global, heap: &Heap, weak: Weak) -> Result<Marks, Fault>
     ensures reachable { IfOk result (λ marks. IsReachability heap.now weak marks) }
     ensures refused { IfErr result (λ fault. fault ≡ OutOfMemory) }
 {
+    mark_without(alloc, heap, weak, &Nothing)
+}
+
+/// Returns the objects that a path reaches which goes through no object of a set: one mark per
+/// object. The special objects array is on every path, and the object itself on each path to it,
+/// so no object of the set is marked, and none at all if the set has the special objects array.
+///
+/// What is reachable, and not reachable without a set, is what the set retains. Fails only if out
+/// of memory.
+pub fn reachable_without(
+    alloc: Global,
+    heap: &Heap,
+    weak: Weak,
+    set: &Marks,
+) -> Result<Marks, Fault>
+    ensures reachable { IfOk result (λ marks.
+        IsReachabilityWithout heap.now weak set.now marks) }
+    ensures refused { IfErr result (λ fault. fault ≡ OutOfMemory) }
+{
+    mark_without(alloc, heap, weak, set)
+}
+
+/// Returns the objects that a path reaches which goes through none of the avoided objects.
+fn mark_without<A: Avoided>(
+    alloc: Global,
+    heap: &Heap,
+    weak: Weak,
+    avoided: &A,
+) -> Result<Marks, Fault>
+    ensures reachable { IfOk result (λ marks.
+        IsReachabilityWithout heap.now weak (A.set avoided.now) marks) }
+    ensures refused { IfErr result (λ fault. fault ≡ OutOfMemory) }
+{
+    let special = heap.special();
+    if avoided.contains(special) {
+        let none = Marks::listed(alloc, heap, &[])?;
+        return Ok(none);
+    }
     let mut shades = first_shades(alloc, heap)?;
     let mut worklist = Vec::new(alloc);
-    worklist.push(heap.special())?;
+    worklist.push(special)?;
     while let Some(object) = worklist.pop() {
         let edges = OutEdges::of(heap, weak, object);
-        mark_targets(&edges, &mut shades, &mut worklist)?;
+        mark_targets(&edges, avoided, &mut shades, &mut worklist)?;
     }
     Ok(Marks::new(shades))
+}
+
+/// Marks the objects that the strong slots of an object point to, but for the avoided ones, and
+/// adds those that had no mark to the worklist.
+fn mark_targets<A: Avoided>(
+    edges: &OutEdges<'_>,
+    avoided: &A,
+    shades: &mut [Shade],
+    worklist: &mut Vec<ObjectIndex>,
+) -> Result<(), AllocError>
+    requires { length shades.old ≡ object_count edges.now.memory }
+    ensures { OnOk result (MarksTargets
+        (Outside (A.set avoided.now) (IsTargetAmong edges.now (strong_slots edges.now)))
+        (marks_of shades.old) worklist.old.items (marks_of shades.new) worklist.new.items) }
+{
+    for slot in edges.slots() {
+        mark_target(edges, slot, avoided, shades, worklist)?;
+    }
+    Ok(())
+}
+
+/// Marks the object that a strong slot points to, unless it is avoided, and adds it to the
+/// worklist if it had no mark.
+fn mark_target<A: Avoided>(
+    edges: &OutEdges<'_>,
+    slot: Slot,
+    avoided: &A,
+    shades: &mut [Shade],
+    worklist: &mut Vec<ObjectIndex>,
+) -> Result<(), AllocError>
+    requires { length shades.old ≡ object_count edges.now.memory }
+    ensures { OnOk result (MarksTargets
+        (Outside (A.set avoided.now) (λ index. edge_target edges.now slot ≡ Some index))
+        (marks_of shades.old) worklist.old.items (marks_of shades.new) worklist.new.items) }
+{
+    if let Some(found) = edges.target(slot) {
+        if !has_mark(shades[found as usize]) && !avoided.contains(found) {
+            worklist.push(found)?;
+            shades[found as usize] = Shade::Grey;
+        }
+    }
+    Ok(())
 }

@@ -1,11 +1,15 @@
 //! A mark for each object.
 
-ghost use Rattle.std.specs.Prelude.{◌≡◌, ◌<◌, ◌^◌, length, count_by, vec_len};
+ghost use Rattle.std.specs.Prelude.{◌≡◌, ◌<◌, ◌^◌, count_by, vec_len, IfOk};
+ghost use Rattle.sqz_image.specs.Objects.{object_count};
+ghost use Rattle.sqz_trace.specs.Avoiding.{MarksListed};
 ghost use Rattle.sqz_trace.specs.Graph.{is_marked};
 ghost use Rattle.sqz_trace.specs.Shades.{has_mark, marks_of};
 
 use crate::shades::{Shade, Shades};
+use sqz_image::Heap;
 use sqz_object::ObjectIndex;
+use std::alloc::{AllocError, Global};
 use std::marker::Model;
 
 /// One mark per object of a heap. Contracts see the list of the marks, by index.
@@ -38,12 +42,25 @@ impl Marks {
         Marks { shades, count }
     }
 
-    /// Returns whether the object is marked.
+    /// Returns marks for the objects of a heap: an object is marked if the list has its index.
+    pub fn listed(alloc: Global, heap: &Heap, objects: &[ObjectIndex]) -> Result<Marks, AllocError>
+        ensures { IfOk result (λ marks.
+            MarksListed (object_count heap.now) objects.now marks) }
+    {
+        let mut shades = vec![in alloc; Shade::White; heap.len() as usize]?;
+        for object in objects {
+            if (*object as usize) < shades.len() {
+                shades[*object as usize] = Shade::Black;
+            }
+        }
+        Ok(Marks::new(shades))
+    }
+
+    /// Returns whether the object is marked; false if there are fewer objects.
     pub fn has(&self, object: ObjectIndex) -> bool
-        requires { object < length self.now }
         ensures { result ≡ is_marked self.now object }
     {
-        has_mark(self.shades[object as usize])
+        (object as usize) < self.shades.len() && has_mark(self.shades[object as usize])
     }
 
     /// Returns the number of marked objects.

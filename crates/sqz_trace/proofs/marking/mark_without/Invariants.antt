@@ -3,13 +3,14 @@ use Rattle.sqz_image.specs.Objects.{find}
 use Rattle.sqz_trace.specs.Reachability.{graph_from}
 use Rattle.sqz_trace.specs.Shades.{marks_of}
 use Rattle.sqz_trace.specs.Marking.{unmarked_count}
+use Rattle.sqz_trace.proofs.AvoidingLemmas.{without}
 use Rattle.sqz_trace.proofs.MarkingLemmas.{IsMarking}
-use Rattle.sqz_trace.proofs.marking.mark_plain.Given as goal
+use Rattle.sqz_trace.proofs.marking.mark_without.Given as goal
 
 abbrev pub invariant-loop-object : goal.invariant-loop-object
-invariant-loop-object l =
+invariant-loop-object g l =
     (start : ℕ) → find l.heap l.heap.special ≡ Some start
-    → IsMarking (graph_from start l.heap l.weak) (marks_of l.shades.items) l.worklist.items
+    → IsMarking (without (graph_from start l.heap l.weak) (g.A.Avoided.set l.avoided)) (marks_of l.shades.items) l.worklist.items
 
 abbrev pub decreases-loop-object : goal.decreases-loop-object
-decreases-loop-object l = unmarked_count (marks_of l.shades.items) + vec_len l.worklist
+decreases-loop-object g l = unmarked_count (marks_of l.shades.items) + vec_len l.worklist

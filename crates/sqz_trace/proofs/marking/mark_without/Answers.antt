@@ -1,0 +1,69 @@
+use Rattle.std.proofs.Common.{◌≡◌, [], ◌∷◌, ◌++◌, sym, ◌∙◌, arith}
+use Rattle.std.proofs.lemmas.Option.{same_Some}
+use Rattle.std.proofs.lemmas.List.Elements.{Contains-push}
+use Rattle.std.proofs.lemmas.List.{nil_from_length, map-set}
+use Rattle.sqz_trace.specs.Reachability.{graph_from}
+use Rattle.sqz_trace.specs.Shades.{marks_of}
+use Rattle.sqz_trace.proofs.ShadeLemmas.{marks_of-replicate, length-marks_of, same_length}
+use Rattle.sqz_trace.proofs.MarkingLemmas.{IsMarking-start, IsMarking-step, IsMarking-inside}
+use Rattle.sqz_trace.proofs.AvoidingLemmas.{without, MarksTargets-edges, MarksReachableWithout-from}
+use Rattle.sqz_trace.proofs.MarkingLemmas.{MarksReachable-from_marking, whole_slice}
+use Rattle.sqz_trace.proofs.marking.mark_without.Goals as goal
+
+pub loop-object-init : goal.loop-object-init
+loop-object-init g c start is_special =
+    let first = c.in_ok-shades.ensures.first in
+    let begins : first.start ≡ start = same_Some _ _ (sym first.is_special ∙ is_special) in
+    let same : c.special-special.result ≡ start = same_Some _ _ (sym c.special-special.ensures.special ∙ is_special) in
+    rw (first.are, c.in_ok-push.ensures.items, c.new-worklist.ensures.items, map-set, marks_of-replicate, begins, same)
+    (IsMarking-start (without (graph_from start c.args.heap.now c.args.weak) (g.A.Avoided.set c.args.avoided.now)) (omega (arith, same, c.special-special.ensures.inside)))
+
+pub of-edges-requires : goal.of-edges-requires
+of-edges-requires g c =
+    IsMarking-inside (without (graph_from c.special-special.result c.args.heap.now c.args.weak) (g.A.Avoided.set c.args.avoided.now))
+    (marks_of c.loop-object.shades.items) c.loop-object.worklist.items
+    c.in-Some.object (c.loop-object.invariant c.special-special.result c.special-special.ensures.special)
+    (rw c.in-Some.ensures.items (Contains-push c.pop.new.self.items c.in-Some.object))
+
+pub mark_targets-requires : goal.mark_targets-requires
+mark_targets-requires g c =
+    let marking = c.loop-object.invariant c.special-special.result c.special-special.ensures.special in
+    rw (c.deref_mut.ensures.value, c.of-edges.ensures) (sym (length-marks_of c.loop-object.shades.items) ∙ marking.sized)
+
+pub new-requires : goal.new-requires
+new-requires g c =
+    let marking = c.loop-object.invariant c.special-special.result c.special-special.ensures.special in
+    let sized = (c.in_ok-shades.ensures.lawful c.args.weak).lawful.sized in
+    omega (arith, c.loop-object.shades.ok.0, length-marks_of c.loop-object.shades.items, marking.sized, sized, c.in_ok-shades.ensures.few)
+
+pub loop-object-preserved : goal.loop-object-preserved
+loop-object-preserved g c start is_special =
+    let marking = rw c.in-Some.ensures.items at (c.loop-object.invariant start is_special) in
+    let inside =
+    IsMarking-inside (without (graph_from start c.args.heap.now c.args.weak) (g.A.Avoided.set c.args.avoided.now)) (marks_of c.loop-object.shades.items)
+    (c.pop.new.self.items ++ c.in-Some.object ∷ []) c.in-Some.object marking
+    (Contains-push c.pop.new.self.items c.in-Some.object) in
+    let step =
+    MarksTargets-edges (g.A.Avoided.set c.args.avoided.now) c.args.heap.now c.args.weak c.in-Some.object c.of-edges.result c.of-edges.ensures inside _ _ _ _
+    (rw c.deref_mut.ensures.value at c.in_ok-mark_targets.ensures) in
+    let next =
+    IsMarking-step (without (graph_from start c.args.heap.now c.args.weak) (g.A.Avoided.set c.args.avoided.now)) c.in-Some.object (marks_of c.loop-object.shades.items)
+    (marks_of c.mark_targets.new.shades) c.pop.new.self.items c.mark_targets.new.worklist.items marking step
+    in
+    let size = same_length c.mark_targets.new.shades c.loop-object.shades.items step.sized in
+    rw (whole_slice c.loop-object.shades.len c.mark_targets.new.shades c.loop-object.shades.items size c.loop-object.shades.ok.0) next
+
+pub returns-clause-reachable : goal.returns-clause-reachable
+returns-clause-reachable g c =
+    let graph = graph_from c.special-special.result c.args.heap.now c.args.weak in
+    let set = g.A.Avoided.set c.args.avoided.now in
+    let none = nil_from_length c.loop-object.worklist.items (omega (arith, c.in_default.ensures.cases.0, c.loop-object.worklist.ok.0)) in
+    rw c.new.ensures
+    (record {
+      start = c.special-special.result;
+      is_special = c.special-special.ensures.special;
+      reached = MarksReachableWithout-from graph set (marks_of c.loop-object.shades.items)
+          (sym c.contains.ensures ∙ c.if-contains.false)
+          (MarksReachable-from_marking (without graph set) (marks_of c.loop-object.shades.items)
+          (rw none at (c.loop-object.invariant c.special-special.result c.special-special.ensures.special)));
+    })
