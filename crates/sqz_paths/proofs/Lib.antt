@@ -4,3 +4,7 @@ pub mod MemberLemmas
 pub mod RangeLemmas
 pub mod ReferrerLemmas
 pub mod AllDefectLemmas
+pub mod DominatorLemmas
+pub mod TreeLemmas
+pub mod OrderLemmas
+pub mod ImmediateLemmas

@@ -4,3 +4,6 @@ pub mod Searching
 pub mod Members
 pub mod Referrers
 pub mod AllDefects
+pub mod Dominators
+pub mod Trees
+pub mod Treeing
