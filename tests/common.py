@@ -1,5 +1,6 @@
 """What the test scripts share: where things are, files, C libraries for LD_PRELOAD, and counts of what passed."""
 
+import glob
 import os
 import subprocess
 import sys
@@ -20,6 +21,12 @@ def read(path):
 def write(path, data):
     with open(path, "wb") as file:
         file.write(data)
+
+
+def image_path(name):
+    """The path of a file in one of the folders of images/."""
+    (path,) = glob.glob(os.path.join(IMAGES, "*", name))
+    return path
 
 
 def compiled(name):

@@ -31,7 +31,7 @@ import subprocess
 import sys
 import tempfile
 
-from common import IMAGES, NO_MEMORY, OLD, PROGRAM, ROOT, Tests, compiled, read, write
+from common import NO_MEMORY, OLD, PROGRAM, ROOT, Tests, compiled, image_path, read, write
 from requesters import OTHER, PUSH, START, Functions, requester
 
 # What a run may take, in seconds. None that ends as it must takes a twentieth of that.
@@ -152,14 +152,14 @@ def ends_by_requester(run, library, functions):
 
 def runs_over(name):
     """The runs over an image: by one worker and by two, in regions of 8 words, with a census, by each policy on weak slots."""
-    image = read(os.path.join(IMAGES, f"{name}.image"))
+    path = image_path(f"{name}.image").removesuffix(".image")
+    image = read(f"{path}.image")
     for weak, workers in itertools.product(((), ("--clear-weak",)), WORKERS):
-        cleared = os.path.join(IMAGES, "cleared", name)
-        plain = os.path.join(IMAGES, f"{name}.compacted")
-        differs = weak and os.path.exists(f"{cleared}.image")
-        answer = read(f"{cleared if differs else plain}.image")
+        cleared = f"{path}.cleared"
+        differs = weak and os.path.exists(f"{cleared}.out.image")
+        answer = read(f"{cleared if differs else path}.out.image")
         counted = os.path.exists(f"{cleared}.census") if weak else False
-        census = read(f"{cleared}.census" if counted else os.path.join(IMAGES, f"{name}.census"))
+        census = read(f"{cleared if counted else path}.census")
         yield Run((*weak, "--workers", workers, "--region-words", "8", "--census"), image, answer, census)
 
 
@@ -287,7 +287,7 @@ def try_looks(tests, memory, calls):
     failed = {"FAILED_ERROR": str(errno.EIO)}
     functions = Functions(LOOK)
     for image, *rest in QUESTIONS:
-        words = (LOOK, os.path.join(IMAGES, image), *rest)
+        words = (LOOK, image_path(image), *rest)
         answer = subprocess.run(words, capture_output=True, timeout=SECONDS, check=True).stdout
         ends = collections.Counter()
         for it in ends_of(memory, words):

@@ -1,8 +1,6 @@
 #!/usr/bin/env bash
 # Runs the program on the files of images/, and looks at what it writes, what it prints and how it
-# ends. NAME.image is to become NAME.compacted.image, or is refused with the line of NAME.fault, and
-# NAME.census is what is printed of it where a census is asked for. The folder images/cleared has what differs
-# from that where weak slots are cleared. The last line is 'N passed, M failed', or 'N passed, M failed, K skipped'.
+# ends. images/README.md says what each file is for. The last line is 'N passed, M failed', or 'N passed, M failed, K skipped'.
 set -u
 shopt -s nullglob
 
@@ -492,37 +490,34 @@ if ! "$root/sqzcompact" --help >printed; then
 fi
 
 # What was written is compacted to itself, here and where weak slots are cleared, by whatever plan.
-for answer in "$images"/*.compacted.image; do
-  name=$(basename "$answer" .compacted.image)
-  case_of "compacts $name" compacts "$images/$name.image" "$answer"
-  case_of "compacts $name twice" compacts "$answer" "$answer" --workers 1 --region-words 3
-done
-for census in "$images"/*.census; do
-  name=$(basename "$census" .census)
-  image=$images/$name.image
-  answer=$images/$name.compacted.image
-  case_of "counts $name" counts "$image" "$answer" "$census"
-  case_of "counts $name by one worker" counts "$image" "$answer" "$census" --workers 1
-  case_of "counts $name by 64 workers" counts "$image" "$answer" "$census" --workers 64
-  case_of "counts $name in regions of a word" counts "$image" "$answer" "$census" --region-words 1
-done
-for fault in "$images"/*.fault; do
-  name=$(basename "$fault" .fault)
-  case_of "refuses $name" refuses "$images/$name.image" "$fault"
-  case_of "refuses $name and makes nothing" refuses_and_makes_nothing "$images/$name.image" "$fault"
-  case_of "refuses $name and prints no census" refuses "$images/$name.image" "$fault" --census
-done
-
-# Where weak slots are cleared, what becomes of an image is what a file of images/cleared says, and else the same.
-for image in "$images"/*.image; do
-  name=$(basename "$image" .image)
-  answer=$images/$name.compacted.image
-  fault=$images/$name.fault
-  if [ -e "$images/cleared/$name.image" ]; then
-    answer=$images/cleared/$name.image
-  elif [ -e "$images/cleared/$name.fault" ]; then
+for image in "$images"/{accepted,weak,defects,unreadable}/*.image; do
+  [[ $image = *.out.image ]] && continue
+  path=${image%.image}
+  name=$(basename "$path")
+  answer=$path.out.image
+  census=$path.census
+  fault=$path.fault
+  if [ -e "$answer" ]; then
+    case_of "compacts $name" compacts "$image" "$answer"
+    case_of "compacts $name twice" compacts "$answer" "$answer" --workers 1 --region-words 3
+  fi
+  if [ -e "$census" ]; then
+    case_of "counts $name" counts "$image" "$answer" "$census"
+    case_of "counts $name by one worker" counts "$image" "$answer" "$census" --workers 1
+    case_of "counts $name by 64 workers" counts "$image" "$answer" "$census" --workers 64
+    case_of "counts $name in regions of a word" counts "$image" "$answer" "$census" --region-words 1
+  fi
+  if [ -e "$fault" ]; then
+    case_of "refuses $name" refuses "$image" "$fault"
+    case_of "refuses $name and makes nothing" refuses_and_makes_nothing "$image" "$fault"
+    case_of "refuses $name and prints no census" refuses "$image" "$fault" --census
+  fi
+  # Where weak slots are cleared, what becomes of an image is what a file for that says, and else the same.
+  if [ -e "$path.cleared.out.image" ]; then
+    answer=$path.cleared.out.image
+  elif [ -e "$path.cleared.fault" ]; then
     answer=
-    fault=$images/cleared/$name.fault
+    fault=$path.cleared.fault
   fi
   if [ -e "$answer" ]; then
     case_of "compacts $name with weak slots cleared" compacts "$image" "$answer" --clear-weak
@@ -530,20 +525,19 @@ for image in "$images"/*.image; do
   elif [ -e "$fault" ]; then
     case_of "refuses $name with weak slots cleared" refuses "$image" "$fault" --clear-weak
   fi
-done
-for census in "$images"/cleared/*.census; do
-  name=$(basename "$census" .census)
-  case_of "counts $name with weak slots cleared" counts "$images/$name.image" "$images/cleared/$name.image" "$census" --clear-weak
+  if [ -e "$path.cleared.census" ]; then
+    case_of "counts $name with weak slots cleared" counts "$image" "$answer" "$path.cleared.census" --clear-weak
+  fi
 done
 
-image=$images/dead_array.image
-answer=$images/dead_array.compacted.image
-census=$images/dead_array.census
+image=$images/accepted/dead_array.image
+answer=$images/accepted/dead_array.out.image
+census=$images/accepted/dead_array.census
 for workers in 1 2 64; do
   case_of "compacts in place by workers $workers" compacts_in_place "$image" "$answer" --workers "$workers"
 done
-case_of 'compacts in place behind 512 bytes' compacts_in_place "$images/behind_512_bytes.image" \
-  "$images/behind_512_bytes.compacted.image"
+case_of 'compacts in place behind 512 bytes' compacts_in_place "$images/accepted/behind_512_bytes.image" \
+  "$images/accepted/behind_512_bytes.out.image"
 case_of 'empties an old file' empties_old_file "$image" "$answer"
 case_of 'reports a missing input' reports_missing_input
 case_of 'reports a folder as input' reports_folder_as_input
@@ -553,7 +547,7 @@ case_of 'reports a full device' reports_full_device "$image"
 case_of 'reports a full device for a census' reports_full_device_for_census "$image" "$answer"
 case_of 'counts where options come last' counts_with_options_last "$image" "$answer" "$census"
 case_of 'counts in place' counts_in_place "$image" "$answer" "$census"
-other=$images/dead_cycle.image
+other=$images/accepted/dead_cycle.image
 for spaced in "in " " in" $'in\n' $'\tin'; do
   case_of "reads the path as it is given: ${spaced@Q}" reads_path_as_given "$spaced" "$image" "$answer" "$other"
   case_of "misses the path as it is given: ${spaced@Q}" reports_missing_input_beside_path "$spaced" "$image"
@@ -590,9 +584,9 @@ case_of 'compacts between pipes' compacts_between_pipes "$image" "$answer"
 case_of 'keeps the mode of a file that is there' keeps_mode "$image" "$answer"
 case_of 'gives a new file the mode of new files' has_mode_of_new_files "$image" "$answer"
 case_of 'writes a dozen classes as it times them' writes_as_it_times \
-  "$images/dozen_classes.image" "$images/dozen_classes.compacted.image"
+  "$images/accepted/dozen_classes.image" "$images/accepted/dozen_classes.out.image"
 case_of 'writes a cleared weak array as it times it' writes_as_it_times \
-  "$images/weak_array.image" "$images/cleared/weak_array.image" --clear-weak
+  "$images/weak/weak_array.image" "$images/weak/weak_array.cleared.out.image" --clear-weak
 run_without_rights --help
 if [ "$status" -eq 0 ]; then
   case_of 'reports an input without the right to read it' reports_input_without_right "$image"

@@ -3,8 +3,8 @@
 
 Usage: tests/look.py [--seed N]
 
-A file of images/look/ is a question and what is to come of it: its first line has the words, of which the first is an image of
-images/ where it ends in `.image`; then comes what is printed, on standard error too, and in the last line the exit. Of the real image,
+A file of images/inspect/ is a question and what is to come of it: its first line has the words, with paths from images/; then
+comes what is printed, on standard error too, and in the last line the exit. Of the real image,
 the one that tests/real_image.py takes, answers are worked out without the program: its facts, a path to each of some objects, and
 the objects of some classes.
 
@@ -26,25 +26,24 @@ from common import IMAGES, ROOT, Tests, read, write
 from object_memory import Image
 
 PROGRAM = os.path.join(ROOT, "sqzlook")
-LOOKS = os.path.join(IMAGES, "look")
+LOOKS = os.path.join(IMAGES, "inspect")
 SECONDS = 60
 PATHS, CLASSES = 60, 20
 # The forms in which the real image is asked about.
 FORMS = ("as it is", "in the other order", "with garbage", "held weakly and kept", "held weakly and cleared")
 
 
-def look(*words):
+def look(*words, folder=None):
     """The exit of a question, and what was printed."""
-    ended = subprocess.run([PROGRAM, *words], capture_output=True, timeout=SECONDS, check=False)
+    ended = subprocess.run([PROGRAM, *words], cwd=folder, capture_output=True, timeout=SECONDS, check=False)
     return ended.returncode, (ended.stdout + ended.stderr).decode()
 
 
 def try_stored(tests):
-    """Asks what the files of images/look/ ask."""
+    """Asks what the files of images/inspect/ ask."""
     for name in sorted(os.listdir(LOOKS)):
         first, _, wanted = read(os.path.join(LOOKS, name)).decode().partition("\n")
-        words = [os.path.join(IMAGES, word) if word.endswith(".image") else word for word in first.split()]
-        status, text = look(*words)
+        status, text = look(*first.split(), folder=IMAGES)
         tests.add(name, f"{text}exit {status}\n" == wanted)
 
 

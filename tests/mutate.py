@@ -13,6 +13,7 @@ The last line is 'N passed, M failed'. With --keep the files of those that faile
 """
 
 import argparse
+import glob
 import os
 import random
 import re
@@ -161,7 +162,7 @@ def main():
     parser.add_argument("--keep")
     options = parser.parse_args()
     generator = random.Random(options.seed)
-    names = sorted(name for name in os.listdir(IMAGES) if name.endswith(".image"))
+    names = sorted(glob.glob(os.path.join("*", "*.image"), root_dir=IMAGES))
     images = [read(os.path.join(IMAGES, name)) for name in names]
     accepted = 0
     tests = Tests()
