@@ -1,7 +1,9 @@
 //! The chunks of an image, by the parts of their headers.
 
-ghost use Rattle.std.specs.Prelude.{◌≡◌, ◌%◌, ◌<◌};
+ghost use Rattle.std.specs.Prelude.{◌≡◌, ◌%◌, ◌<◌, ◌++◌, ◌∷◌, OnOk};
 ghost use Rattle.sqz_object.specs.Value.{base_of};
+ghost use Rattle.sqz_fixtures.specs.Words.{base_header_of, count, short_words, long_array_words};
+ghost use Rattle.sqz_fixtures.specs.Words.{chunk_words};
 
 use std::alloc::AllocError;
 
@@ -95,7 +97,8 @@ const OF_ONE: u32 = 3;
 /// are dropped.
 fn base_header(kind: u32, compact: u32, format: u32, size: u32) -> u32
     requires { kind < 4 }
-    ensures { base_of result ≡ record {
+    ensures word { result ≡ base_header_of kind compact format size }
+    ensures parts { base_of result ≡ record {
       kind = kind;
       size_field = size % 64;
       format = format % 16;
@@ -106,9 +109,13 @@ fn base_header(kind: u32, compact: u32, format: u32, size: u32) -> u32
     kind + size % 64 * 4 + format % 16 * 256 + compact % 32 * 4096
 }
 
+/// The fields of an array of 29 but the last: integers 0.
+const ZEROS: [u32; 28] = [1; 28];
+
 /// The number of words. It is at most 999, which no test image exceeds.
 pub(crate) fn count_of(words: &[u32]) -> u32
-    ensures { result < 1000 }
+    ensures bound { result < 1000 }
+    ensures number { result ≡ count words.now }
 {
     words.len().min(999) as u32
 }
@@ -119,24 +126,28 @@ fn put_short(
     compact: u32,
     format: u32,
     fields: &[u32],
-) -> Result<(), AllocError> {
+) -> Result<(), AllocError>
+    ensures { OnOk result (words.new.items ≡ words.old.items ++ short_words compact format fields.now) }
+{
     words.push(base_header(OF_ONE, compact, format, 1 + count_of(fields)))?;
     words.extend_from_slice(fields)
 }
 
 /// Puts the words of an array of 29 fields at the end of words.
-fn put_long_array(words: &mut Vec<u32>, first: &[u32], last: u32) -> Result<(), AllocError> {
+fn put_long_array(words: &mut Vec<u32>, first: &[u32], last: u32) -> Result<(), AllocError>
+    ensures { OnOk result (words.new.items ≡ words.old.items ++ long_array_words first.now last) }
+{
     words.push(base_header(OF_ONE, 3, 2, 30))?;
     words.extend_from_slice(first)?;
-    for _ in first.len()..28 {
-        words.push(1)?;
-    }
+    words.extend_from_slice(&ZEROS[first.len().min(28)..])?;
     words.push(last)?;
     Ok(())
 }
 
 /// Puts the words of a chunk at the end of words.
-pub(crate) fn put_chunk(words: &mut Vec<u32>, chunk: &Chunk) -> Result<(), AllocError> {
+pub(crate) fn put_chunk(words: &mut Vec<u32>, chunk: &Chunk) -> Result<(), AllocError>
+    ensures { OnOk result (words.new.items ≡ words.old.items ++ chunk_words chunk.now) }
+{
     match *chunk {
         Chunk::Short {
             compact,

@@ -1,5 +1,8 @@
 //! What an image of a test is, and the words of one.
 
+ghost use Rattle.std.specs.Prelude.{◌≡◌, IfOk};
+ghost use Rattle.sqz_fixtures.specs.Words.{data_words};
+
 use super::accepted::ACCEPTED;
 use super::chunks::{Chunk, put_chunk};
 use super::with_defects::WITH_DEFECTS;
@@ -12,6 +15,12 @@ use std::alloc::{AllocError, Global};
 pub struct TestImage {
     /// Its byte order.
     pub order: Order,
+    /// Its version.
+    pub version: u32,
+    /// The size of its header, in bytes, as the header states it.
+    pub header_size: u32,
+    /// The size of its data, in bytes, as its header states it; none if it is that of the words.
+    pub data_size: Option<u32>,
     /// The address of its first data word.
     pub base: u32,
     /// Its chunks, in the order of their addresses.
@@ -35,6 +44,9 @@ pub struct Change {
 /// objects array are 0x1000.
 pub const EMPTY: TestImage = TestImage {
     order: Order::Little,
+    version: 6502,
+    header_size: 64,
+    data_size: None,
     base: 0x1000,
     chunks: &[],
     special: 0x1000,
@@ -54,15 +66,17 @@ pub const fn with_word(image: TestImage, index: usize, word: u32) -> TestImage {
 }
 
 /// The data words of an image.
-pub fn words_of(alloc: Global, image: &TestImage) -> Result<Vec<u32>, AllocError> {
+pub fn words_of(alloc: Global, image: &TestImage) -> Result<Vec<u32>, AllocError>
+    ensures { IfOk result (λ words. words.items ≡ data_words image.now) }
+{
     let mut words = Vec::new(alloc);
     for chunk in image.chunks {
         put_chunk(&mut words, chunk)?;
     }
     if let Some(change) = image.changed
-        && let Some(word) = words.get_mut(change.index)
+        && change.index < words.len()
     {
-        *word = change.word;
+        words[change.index] = change.word;
     }
     Ok(words)
 }

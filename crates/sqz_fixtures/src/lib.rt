@@ -15,5 +15,7 @@ pub mod with_formats;
 pub mod with_weak_objects;
 
 pub use chunks::{Chunk, LEAF, NIL, ODD};
-pub use files::{file_in, file_of, image_of, put_header, put_words};
+pub use files::{
+    Before, PLAIN, TestFile, bytes_of, file_in, file_of, image_of, put_header, put_words,
+};
 pub use images::{Change, EMPTY, IMAGES, TestImage, with_word, words_of};
