@@ -17,7 +17,7 @@ size_of (Some size) words = size
 abbrev pub header_words : TestImage → List ℕ
 header_words image =
     image.version ∷ image.header_size ∷ size_of image.data_size (data_words image) ∷ image.base ∷ image.special
-    ∷ replicate 11 0
+    ∷ image.others
 
 -- the bytes of an image's header and data
 abbrev pub image_bytes_of : TestImage → List ℕ

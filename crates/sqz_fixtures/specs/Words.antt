@@ -3,7 +3,7 @@ use Rattle.std.specs.Prelude.{ℕ, ◌+◌, ◌*◌, ◌%◌, min, bit_or, List,
 use Rattle.std.specs.Prelude.{slice_set, Option, None, Some}
 use Rattle.std.specs.List.{flat_map}
 use Rattle.sqz_fixtures.specs.declared.chunks.Chunk.{Chunk}
-use Rattle.sqz_fixtures.specs.declared.chunks.Chunk.TheVariants.{Short, Fixed, Array, LongArray, Classed, Long}
+use Rattle.sqz_fixtures.specs.declared.chunks.Chunk.TheVariants.{Short, Each, Fixed, Array, LongArray, Classed, Long}
 use Rattle.sqz_fixtures.specs.declared.chunks.Chunk.TheVariants.{Free, Words}
 use Rattle.sqz_fixtures.specs.declared.images.Change.{Change}
 use Rattle.sqz_fixtures.specs.declared.images.TestImage.{TestImage}
@@ -20,6 +20,10 @@ count words = min (length words) 999
 abbrev pub short_words : ℕ → ℕ → List ℕ → List ℕ
 short_words compact format fields = base_header_of 3 compact format (1 + count fields) ∷ fields
 
+-- objects that differ in compact index and format alone
+abbrev pub each_words : List (ℕ × ℕ) → List ℕ → List ℕ
+each_words kinds fields = flat_map (λ kind. short_words kind.0 kind.1 fields) kinds
+
 -- an array of 29 fields
 abbrev pub long_array_words : List ℕ → ℕ → List ℕ
 long_array_words first last =
@@ -28,6 +32,7 @@ long_array_words first last =
 -- the words of a chunk
 abbrev pub chunk_words : Chunk → List ℕ
 chunk_words (Short compact format fields) = short_words compact format fields.now
+chunk_words (Each kinds fields) = each_words kinds.now fields.now
 chunk_words (Fixed fields) = short_words 1 1 fields.now
 chunk_words (Array fields) = short_words 3 2 fields.now
 chunk_words (LongArray first last) = long_array_words first.now last

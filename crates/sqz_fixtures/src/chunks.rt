@@ -2,8 +2,8 @@
 
 ghost use Rattle.std.specs.Prelude.{◌≡◌, ◌%◌, ◌<◌, ◌++◌, ◌∷◌, OnOk};
 ghost use Rattle.sqz_object.specs.Value.{base_of};
-ghost use Rattle.sqz_fixtures.specs.Words.{base_header_of, count, short_words, long_array_words};
-ghost use Rattle.sqz_fixtures.specs.Words.{chunk_words};
+ghost use Rattle.sqz_fixtures.specs.Words.{base_header_of, count, short_words, each_words};
+ghost use Rattle.sqz_fixtures.specs.Words.{long_array_words, chunk_words};
 
 use std::alloc::AllocError;
 
@@ -18,6 +18,13 @@ pub enum Chunk {
         /// Its format.
         format: u32,
         /// The words of its fields.
+        fields: &'static [u32],
+    },
+    /// Objects with headers of one word that differ in nothing else.
+    Each {
+        /// The compact index and the format of each.
+        kinds: &'static [(u32, u32)],
+        /// The words of the fields of each.
         fields: &'static [u32],
     },
     /// An object of compact index 1 and format 1, with a header of one word: the words of its
@@ -133,6 +140,16 @@ fn put_short(
     words.extend_from_slice(fields)
 }
 
+/// Puts the words of objects that differ in compact index and format alone at the end of words.
+fn put_each(words: &mut Vec<u32>, kinds: &[(u32, u32)], fields: &[u32]) -> Result<(), AllocError>
+    ensures { OnOk result (words.new.items ≡ words.old.items ++ each_words kinds.now fields.now) }
+{
+    for (compact, format) in kinds {
+        put_short(words, *compact, *format, fields)?;
+    }
+    Ok(())
+}
+
 /// Puts the words of an array of 29 fields at the end of words.
 fn put_long_array(words: &mut Vec<u32>, first: &[u32], last: u32) -> Result<(), AllocError>
     ensures { OnOk result (words.new.items ≡ words.old.items ++ long_array_words first.now last) }
@@ -154,6 +171,7 @@ pub(crate) fn put_chunk(words: &mut Vec<u32>, chunk: &Chunk) -> Result<(), Alloc
             format,
             fields,
         } => put_short(words, compact, format, fields),
+        Chunk::Each { kinds, fields } => put_each(words, kinds, fields),
         Chunk::Fixed(fields) => put_short(words, 1, 1, fields),
         Chunk::Array(fields) => put_short(words, 3, 2, fields),
         Chunk::LongArray { first, last } => put_long_array(words, first, last),

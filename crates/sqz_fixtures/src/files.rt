@@ -76,25 +76,15 @@ fn put_image(alloc: Global, file: &mut Vec<u8>, image: &TestImage) -> Result<(),
         Some(size) => size,
         None => 4 * count_of(&words),
     };
-    let header = [
+    let stated = [
         image.version,
         image.header_size,
         size,
         image.base,
         image.special,
-        0,
-        0,
-        0,
-        0,
-        0,
-        0,
-        0,
-        0,
-        0,
-        0,
-        0,
     ];
-    put_words(file, image.order, &header)?;
+    put_words(file, image.order, &stated)?;
+    put_words(file, image.order, &image.others)?;
     put_words(file, image.order, &words)
 }
 

@@ -3,10 +3,7 @@
 ghost use Rattle.std.specs.Prelude.{◌≡◌, IfOk};
 ghost use Rattle.sqz_fixtures.specs.Words.{data_words};
 
-use super::accepted::ACCEPTED;
 use super::chunks::{Chunk, put_chunk};
-use super::with_defects::WITH_DEFECTS;
-use super::with_weak_objects::WITH_WEAK_OBJECTS;
 use sqz_object::Order;
 use std::alloc::{AllocError, Global};
 
@@ -27,6 +24,8 @@ pub struct TestImage {
     pub chunks: &'static [Chunk],
     /// The address of its special objects array.
     pub special: u32,
+    /// The header words after that address.
+    pub others: [u32; 11],
     /// The change that is made to its data words after the chunks, if any.
     pub changed: Option<Change>,
 }
@@ -50,12 +49,18 @@ pub const EMPTY: TestImage = TestImage {
     base: 0x1000,
     chunks: &[],
     special: 0x1000,
+    others: [0; 11],
     changed: None,
 };
 
-/// The images of the folder `images/` that can be read, since a test cannot read that folder: those
-/// that are accepted, without and with weak objects, and those in which an object has a defect.
-pub const IMAGES: [&[TestImage]; 3] = [&ACCEPTED, &WITH_WEAK_OBJECTS, &WITH_DEFECTS];
+/// An image, and what it is compacted to.
+#[derive(Clone, Copy)]
+pub struct Compaction {
+    /// The image.
+    pub image: TestImage,
+    /// What it is compacted to.
+    pub answer: TestImage,
+}
 
 /// The image with the data word at `index` changed to `word`, and no other.
 pub const fn with_word(image: TestImage, index: usize, word: u32) -> TestImage {

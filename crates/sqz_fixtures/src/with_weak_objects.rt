@@ -1,30 +1,10 @@
 //! Images with weak objects that are accepted, at least if weak slots are kept.
 
-use super::answers::WEAK_FIELDS_CLEARED;
 use super::chunks::Chunk::{Array, Classed, Fixed, Long, LongArray, Short};
 use super::chunks::{LEAF, NIL};
+use super::cleared::WEAK_FIELDS_CLEARED;
 use super::images::{Change, EMPTY, TestImage};
 use sqz_object::Order;
-
-/// All of these.
-pub const WITH_WEAK_OBJECTS: [TestImage; 16] = [
-    WEAK_FIELDS,
-    WEAK_SLOT_BIG_ENDIAN,
-    WEAK_SLOT_OF_LIVE_OBJECT,
-    WEAK_FIXED_FIELD,
-    WEAK_SIXTY_FOUR_FIXED,
-    WEAK_COMPACT_CLASS,
-    WEAK_OWN_CLASS,
-    WEAK_WEAK_CLASS,
-    WEAK_SPECIAL_WITH_CLASS_WORD,
-    WEAK_SPECIAL,
-    WEAK_BAD_CLASS,
-    WEAK_SMALL_CLASS,
-    WEAK_NEGATIVE_FIXED,
-    WEAK_TOO_MANY_FIXED,
-    WEAK_COMPACT_CLASSES,
-    WEAK_ARRAY,
-];
 
 /// A weak object whose only slot points to an object to which nothing else points. Its class, whose
 /// field 2 is data word 4, states no fixed field.

@@ -83,40 +83,6 @@ const INDEX_OF_CONTEXT: TestImage = TestImage {
     ..EMPTY
 };
 
-/// The fields of a method: a header that states one literal, with all bits set that do not count
-/// literals, that literal, and a word after it.
-const ONE_LITERAL: &[u32] = &[0xFFFC_07FF, 0x1000, 0x1002];
-
-/// They are a method in the lowest format of one.
-const LOWEST_METHOD_FORMAT: TestImage = TestImage {
-    chunks: &[
-        NIL,
-        Short {
-            compact: 5,
-            format: 12,
-            fields: ONE_LITERAL,
-        },
-        Array(&[0x1000, 0x1004]),
-    ],
-    special: 0x1014,
-    ..EMPTY
-};
-
-/// They are a method in the highest.
-const HIGHEST_METHOD_FORMAT: TestImage = TestImage {
-    chunks: &[
-        NIL,
-        Short {
-            compact: 5,
-            format: 15,
-            fields: ONE_LITERAL,
-        },
-        Array(&[0x1000, 0x1004]),
-    ],
-    special: 0x1014,
-    ..EMPTY
-};
-
 #[test]
 fn same_as_it_was(rt: HostRuntime) -> Result<(), Fail> {
     for image in &[
@@ -167,13 +133,6 @@ const DEAD_BAD_CLASS_WORD_OF_THREE: TestImage = TestImage {
     ..EMPTY
 };
 
-/// A free chunk may have one word.
-const FREE_WORD: TestImage = TestImage {
-    chunks: &[NIL, Free(&[]), Array(&[0x1000])],
-    special: 0x1008,
-    ..EMPTY
-};
-
 #[test]
 fn dead_object_of_any_kind(rt: HostRuntime) -> Result<(), Fail> {
     for image in &[
@@ -191,30 +150,10 @@ fn dead_object_of_any_kind(rt: HostRuntime) -> Result<(), Fail> {
     Ok(())
 }
 
-/// What `HIGHEST_BASE` is compacted to.
-const HIGHEST_BASE_ANSWER: TestImage = TestImage {
-    base: 0xFFFF_FFE8,
-    chunks: &[NIL, Array(&[0xFFFF_FFE8])],
-    special: 0xFFFF_FFEC,
-    ..EMPTY
-};
-
 #[test]
 fn highest_base(rt: HostRuntime) -> Result<(), Fail> {
     assert_left(&rt, &HIGHEST_BASE, &HIGHEST_BASE_ANSWER)
 }
-
-/// What `CLASS_EDGE_OF_THREE_WORDS` is compacted to.
-const CLASS_EDGE_OF_THREE_WORDS_ANSWER: TestImage = TestImage {
-    chunks: &[
-        NIL,
-        LEAF,
-        Words(&[8, 0x1004, 0x3FC, 1]),
-        Array(&[0x1000, 0x1014]),
-    ],
-    special: 0x101C,
-    ..EMPTY
-};
 
 #[test]
 fn class_words_that_move(rt: HostRuntime) -> Result<(), Fail> {
@@ -223,102 +162,12 @@ fn class_words_that_move(rt: HostRuntime) -> Result<(), Fail> {
     assert_left(&rt, &CLASS_EDGE_OF_THREE_WORDS, answer)
 }
 
-/// The fields of the context of `CONTEXT_STACK`. The one on the stack points to an object that has
-/// moved.
-const MOVED_STACK: &[u32] = &[0x1000, 1, 3, 0x1000, 0x1000, 0x1000, 0x1004, 0x1014, 2, ODD];
-
-/// What `CONTEXT_STACK` is compacted to.
-const CONTEXT_STACK_ANSWER: TestImage = TestImage {
-    chunks: &[
-        NIL,
-        LEAF,
-        Short {
-            compact: 13,
-            format: 3,
-            fields: MOVED_STACK,
-        },
-        Array(&[0x1000, 0x100C]),
-    ],
-    special: 0x1038,
-    ..EMPTY
-};
-
-/// The fields of the context of `CONTEXT_WITH_CLASS_WORD`, with the address of the object that has
-/// moved.
-const MOVED_STACK_BELOW_ODD: &[u32] = &[0x1000, 1, 3, 0x1000, 0x1000, 0x1000, 0x1004, 0x1002];
-
-/// What `CONTEXT_WITH_CLASS_WORD` is compacted to.
-const CONTEXT_WITH_CLASS_WORD_ANSWER: TestImage = TestImage {
-    chunks: &[
-        NIL,
-        LEAF,
-        Classed {
-            class: 0x1004,
-            compact: 14,
-            format: 3,
-            fields: MOVED_STACK_BELOW_ODD,
-        },
-        Array(&[0x1000, 0x1010]),
-    ],
-    special: 0x1034,
-    ..EMPTY
-};
-
 #[test]
 fn contexts(rt: HostRuntime) -> Result<(), Fail> {
     assert_left(&rt, &CONTEXT_STACK, &CONTEXT_STACK_ANSWER)?;
     let answer = &CONTEXT_WITH_CLASS_WORD_ANSWER;
     assert_left(&rt, &CONTEXT_WITH_CLASS_WORD, answer)
 }
-
-/// What `METHOD_LITERALS` is compacted to.
-const METHOD_LITERALS_ANSWER: TestImage = TestImage {
-    chunks: &[
-        NIL,
-        LEAF,
-        Short {
-            compact: 5,
-            format: 12,
-            fields: &[0x801, 0x1004, 0x1000, 0x100C],
-        },
-        Array(&[0x1000, 0x100C]),
-    ],
-    special: 0x1020,
-    ..EMPTY
-};
-
-/// A method of literals to its end.
-const LITERALS_ALONE: TestImage = TestImage {
-    chunks: &[
-        NIL,
-        LEAF,
-        LEAF,
-        Short {
-            compact: 5,
-            format: 12,
-            fields: &[0x801, 0x100C, 0x1000],
-        },
-        Array(&[0x1000, 0x1014]),
-    ],
-    special: 0x1024,
-    ..EMPTY
-};
-
-/// What it is compacted to.
-const LITERALS_ALONE_ANSWER: TestImage = TestImage {
-    chunks: &[
-        NIL,
-        LEAF,
-        Short {
-            compact: 5,
-            format: 12,
-            fields: &[0x801, 0x1004, 0x1000],
-        },
-        Array(&[0x1000, 0x100C]),
-    ],
-    special: 0x101C,
-    ..EMPTY
-};
 
 #[test]
 fn methods(rt: HostRuntime) -> Result<(), Fail> {

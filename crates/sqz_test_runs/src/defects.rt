@@ -52,13 +52,6 @@ fn assert_bad_slots<R: Threads + Wait + Sync + Abort + AllocGlobal>(
     Ok(())
 }
 
-/// The first of two bad fields counts.
-const TWO_ODD_FIELDS: TestImage = TestImage {
-    chunks: &[NIL, Array(&[0x1000, 0x1002, 0x1006])],
-    special: 0x1004,
-    ..EMPTY
-};
-
 /// Images with a bad field, and the address of the object that has it.
 const BAD_FIELDS: &[(TestImage, u32, Slot)] = &[
     (FIELD_NAMES_FREE_CHUNK, 0x1010, Slot::Field(0)),
@@ -84,38 +77,6 @@ fn bad_fields(rt: HostRuntime) -> Result<(), Fail> {
     assert_bad_slots(&rt, BAD_FIELDS)
 }
 
-/// A class word in a header of three words with an address at which no object is.
-const BAD_CLASS_WORD_OF_THREE: TestImage = TestImage {
-    chunks: &[
-        NIL,
-        Long {
-            class: 0x1004,
-            compact: 0,
-            format: 2,
-            first: &[1],
-            others: &[],
-        },
-        Array(&[0x1000, 0x100C]),
-    ],
-    special: 0x1014,
-    ..EMPTY
-};
-
-/// That an object has no class counts before its bad field.
-const NO_CLASS_BEFORE_FIELD: TestImage = TestImage {
-    chunks: &[
-        NIL,
-        Short {
-            compact: 0,
-            format: 2,
-            fields: &[0x1002],
-        },
-        Array(&[0x1000, 0x1004]),
-    ],
-    special: 0x100C,
-    ..EMPTY
-};
-
 /// Images with a bad class word, and the address of the object that has it.
 const BAD_CLASS_WORDS: &[(TestImage, u32, Slot)] = &[
     (BAD_CLASS_WORD, 0x101C, Slot::ClassWord),
@@ -137,15 +98,6 @@ fn bad_or_missing_classes(rt: HostRuntime) -> Result<(), Fail> {
     assert_all_refused(&rt, MISSING_CLASSES)
 }
 
-/// A method whose field 0 is neither an integer nor an address.
-const ODD_METHOD_HEADER: TestImage = TestImage {
-    changed: Some(Change {
-        index: 2,
-        word: 0x1002,
-    }),
-    ..METHOD_HEADER
-};
-
 /// Images with a bad method, and the fault of each.
 const BAD_METHODS: &[(TestImage, Fault)] = &[
     (METHOD_HEADER, Fault::BadMethod { address: 0x1004 }),
@@ -160,21 +112,6 @@ fn bad_methods(rt: HostRuntime) -> Result<(), Fail> {
     assert_all_refused(&rt, BAD_METHODS)?;
     assert_image_refused(&rt, Weak::Keep, &BAD_LITERAL, bad_field(0x1004, 1))
 }
-
-/// A context of two fields, without a stack pointer.
-const CONTEXT_OF_TWO_FIELDS: TestImage = TestImage {
-    chunks: &[
-        NIL,
-        Short {
-            compact: 13,
-            format: 3,
-            fields: &[1, 1],
-        },
-        Array(&[0x1000, 0x1004]),
-    ],
-    special: 0x1010,
-    ..EMPTY
-};
 
 #[test]
 fn short_contexts(rt: HostRuntime) -> Result<(), Fail> {

@@ -1,9 +1,8 @@
-//! Images in which a method or a context is bad, or one of its fields.
+//! Images in which a method is bad, or one of its fields.
 
 use super::chunks::Chunk::{Array, Classed, Short, Words};
 use super::chunks::NIL;
 use super::images::{Change, EMPTY, TestImage};
-use super::with_formats::CONTEXT_STACK;
 
 /// A method whose field 0 is no integer.
 pub const METHOD_HEADER: TestImage = TestImage {
@@ -86,14 +85,23 @@ pub const ALL_ONES: TestImage = TestImage {
     ..EMPTY
 };
 
-/// A context without a stack pointer.
-pub const SHORT_CONTEXT: TestImage = TestImage {
+/// A method whose field 0 is neither an integer nor an address.
+pub const ODD_METHOD_HEADER: TestImage = TestImage {
+    changed: Some(Change {
+        index: 2,
+        word: 0x1002,
+    }),
+    ..METHOD_HEADER
+};
+
+/// A method of the highest format whose field 0 is no integer.
+pub const BAD_METHOD_OF_HIGHEST_FORMAT: TestImage = TestImage {
     chunks: &[
         NIL,
         Short {
-            compact: 13,
-            format: 3,
-            fields: &[1],
+            compact: 5,
+            format: 15,
+            fields: &[0x1000],
         },
         Array(&[0x1000, 0x1004]),
     ],
@@ -101,72 +109,58 @@ pub const SHORT_CONTEXT: TestImage = TestImage {
     ..EMPTY
 };
 
-/// A context without its six fixed fields. Its stack pointer is data word 4.
-pub const CONTEXT_OF_FIVE_FIELDS: TestImage = TestImage {
-    chunks: &[
-        NIL,
-        Short {
-            compact: 13,
-            format: 3,
-            fields: &[0x1000, 1, 1, 0x1000, 0x1000],
-        },
-        Array(&[0x1000, 0x1004]),
-    ],
-    special: 0x101C,
-    ..EMPTY
-};
-
-/// A bad context with a class word, and the other compact index.
-pub const BAD_CONTEXT_WITH_CLASS_WORD: TestImage = TestImage {
+/// That a method is bad counts before its bad class word.
+pub const METHOD_BEFORE_CLASS_WORD: TestImage = TestImage {
     chunks: &[
         NIL,
         Classed {
-            class: 0x1000,
-            compact: 14,
-            format: 3,
-            fields: &[1, 1, 0xFFFF_FFFF],
+            class: 0x2000,
+            compact: 5,
+            format: 12,
+            fields: &[0x1000],
         },
         Array(&[0x1000, 0x1008]),
+    ],
+    special: 0x1010,
+    ..EMPTY
+};
+
+/// A method that states too many literals is traced, here to an object without a class.
+pub const THROUGH_BAD_METHOD: TestImage = TestImage {
+    chunks: &[
+        NIL,
+        Short {
+            compact: 0,
+            format: 1,
+            fields: &[1],
+        },
+        Short {
+            compact: 5,
+            format: 12,
+            fields: &[0xFC01, 0x1004],
+        },
+        Array(&[0x1000, 0x100C]),
     ],
     special: 0x1018,
     ..EMPTY
 };
 
-/// A stack pointer that is neither an integer nor an address.
-pub const ODD_STACK_POINTER: TestImage = TestImage {
+/// A method whose field 0 is no integer is not traced, here to an object without a class.
+pub const NOT_THROUGH_METHOD_HEADER: TestImage = TestImage {
     chunks: &[
         NIL,
         Short {
-            compact: 13,
-            format: 3,
-            fields: &[0x1000, 1, 0x1002, 0x1000, 0x1000, 0x1000],
+            compact: 0,
+            format: 1,
+            fields: &[1],
         },
-        Array(&[0x1000, 0x1004]),
+        Short {
+            compact: 5,
+            format: 12,
+            fields: &[0x1004],
+        },
+        Array(&[0x1000, 0x100C]),
     ],
-    special: 0x1020,
+    special: 0x1014,
     ..EMPTY
-};
-
-/// A negative stack pointer.
-pub const NEGATIVE_STACK: TestImage = TestImage {
-    changed: Some(Change {
-        index: 10,
-        word: 0xFFFF_FFFF,
-    }),
-    ..CONTEXT_STACK
-};
-
-/// A stack that does not end within its context.
-pub const STACK_PAST_END: TestImage = TestImage {
-    changed: Some(Change {
-        index: 10,
-        word: 11,
-    }),
-    ..CONTEXT_STACK
-};
-
-/// A stack that ends with the last field, which is a bad pointer, as the one before it.
-pub const STACK_TO_END: TestImage = TestImage {
-    changed: Some(Change { index: 10, word: 9 }),
-    ..CONTEXT_STACK
 };
