@@ -3,8 +3,8 @@ use Rattle.std.specs.Prelude.{ℕ, ◌+◌, ◌*◌, ◌%◌, min, bit_or, List,
 use Rattle.std.specs.Prelude.{slice_set, Option, None, Some}
 use Rattle.std.specs.List.{flat_map}
 use Rattle.sqz_fixtures.specs.declared.chunks.Chunk.{Chunk}
-use Rattle.sqz_fixtures.specs.declared.chunks.Chunk.TheVariants.{Short, Each, Fixed, Array, LongArray, Classed, Long}
-use Rattle.sqz_fixtures.specs.declared.chunks.Chunk.TheVariants.{Free, Words}
+use Rattle.sqz_fixtures.specs.declared.chunks.Chunk.TheVariants.{Short, Each, Fixed, Array, LongArray, Classed, Instance}
+use Rattle.sqz_fixtures.specs.declared.chunks.Chunk.TheVariants.{Weak, Long, Free, Words}
 use Rattle.sqz_fixtures.specs.declared.images.Change.{Change}
 use Rattle.sqz_fixtures.specs.declared.images.TestImage.{TestImage}
 
@@ -19,6 +19,11 @@ count words = min (length words) 999
 -- a chunk with a header of one word
 abbrev pub short_words : ℕ → ℕ → List ℕ → List ℕ
 short_words compact format fields = base_header_of 3 compact format (1 + count fields) ∷ fields
+
+-- a chunk with a header of two words
+abbrev pub classed_words : ℕ → ℕ → ℕ → List ℕ → List ℕ
+classed_words class compact format fields =
+    bit_or class 1 ∷ base_header_of 1 compact format (1 + count fields) ∷ fields
 
 -- objects that differ in compact index and format alone
 abbrev pub each_words : List (ℕ × ℕ) → List ℕ → List ℕ
@@ -36,8 +41,9 @@ chunk_words (Each kinds fields) = each_words kinds.now fields.now
 chunk_words (Fixed fields) = short_words 1 1 fields.now
 chunk_words (Array fields) = short_words 3 2 fields.now
 chunk_words (LongArray first last) = long_array_words first.now last
-chunk_words (Classed class compact format fields) =
-    bit_or class 1 ∷ base_header_of 1 compact format (1 + count fields.now) ∷ fields.now
+chunk_words (Classed class compact format fields) = classed_words class compact format fields.now
+chunk_words (Instance class fields) = classed_words class 0 1 fields.now
+chunk_words (Weak class fields) = classed_words class 0 4 fields.now
 chunk_words (Long class compact format first others) =
     (4 * (1 + count first.now + count others.now)) ∷ class ∷ base_header_of 0 compact format 0 ∷ (first.now ++ others.now)
 chunk_words (Free others) = bit_or (4 * (1 + count others.now)) 2 ∷ others.now

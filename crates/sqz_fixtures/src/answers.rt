@@ -2,7 +2,7 @@
 //! `NIL_ALONE`.
 
 use super::accepted::NIL_ALONE;
-use super::chunks::Chunk::{Array, Classed, Fixed, Long, Words};
+use super::chunks::Chunk::{Array, Classed, Fixed, Instance, Long, Words};
 use super::chunks::{LEAF, NIL};
 use super::images::{EMPTY, TestImage};
 use sqz_object::Order;
@@ -30,10 +30,8 @@ pub const CLASS_EDGE_ANSWER: TestImage = TestImage {
     chunks: &[
         NIL,
         LEAF,
-        Classed {
+        Instance {
             class: 0x1004,
-            compact: 0,
-            format: 1,
             fields: &[1],
         },
         Array(&[0x1000, 0x1010]),

@@ -2,8 +2,8 @@
 
 ghost use Rattle.std.specs.Prelude.{◌≡◌, ◌%◌, ◌<◌, ◌++◌, ◌∷◌, OnOk};
 ghost use Rattle.sqz_object.specs.Value.{base_of};
-ghost use Rattle.sqz_fixtures.specs.Words.{base_header_of, count, short_words, each_words};
-ghost use Rattle.sqz_fixtures.specs.Words.{long_array_words, chunk_words};
+ghost use Rattle.sqz_fixtures.specs.Words.{base_header_of, count, short_words, classed_words};
+ghost use Rattle.sqz_fixtures.specs.Words.{each_words, long_array_words, chunk_words};
 
 use std::alloc::AllocError;
 
@@ -49,6 +49,20 @@ pub enum Chunk {
         compact: u32,
         /// Its format.
         format: u32,
+        /// The words of its fields.
+        fields: &'static [u32],
+    },
+    /// An object of format 1 with a header of two words.
+    Instance {
+        /// The address of its class.
+        class: u32,
+        /// The words of its fields.
+        fields: &'static [u32],
+    },
+    /// A weak object with a header of two words.
+    Weak {
+        /// The address of its class.
+        class: u32,
         /// The words of its fields.
         fields: &'static [u32],
     },
@@ -140,6 +154,21 @@ fn put_short(
     words.extend_from_slice(fields)
 }
 
+/// Puts the words of a chunk with a header of two words at the end of words.
+fn put_classed(
+    words: &mut Vec<u32>,
+    class: u32,
+    compact: u32,
+    format: u32,
+    fields: &[u32],
+) -> Result<(), AllocError>
+    ensures { OnOk result (words.new.items ≡ words.old.items ++ classed_words class compact format fields.now) }
+{
+    let base = base_header(OF_TWO, compact, format, 1 + count_of(fields));
+    words.extend_from_slice(&[class | OF_TWO, base])?;
+    words.extend_from_slice(fields)
+}
+
 /// Puts the words of objects that differ in compact index and format alone at the end of words.
 fn put_each(words: &mut Vec<u32>, kinds: &[(u32, u32)], fields: &[u32]) -> Result<(), AllocError>
     ensures { OnOk result (words.new.items ≡ words.old.items ++ each_words kinds.now fields.now) }
@@ -180,11 +209,9 @@ pub(crate) fn put_chunk(words: &mut Vec<u32>, chunk: &Chunk) -> Result<(), Alloc
             compact,
             format,
             fields,
-        } => {
-            let base = base_header(OF_TWO, compact, format, 1 + count_of(fields));
-            words.extend_from_slice(&[class | OF_TWO, base])?;
-            words.extend_from_slice(fields)
-        }
+        } => put_classed(words, class, compact, format, fields),
+        Chunk::Instance { class, fields } => put_classed(words, class, 0, 1, fields),
+        Chunk::Weak { class, fields } => put_classed(words, class, 0, 4, fields),
         Chunk::Long {
             class,
             compact,

@@ -1,6 +1,6 @@
 //! What is left of images with weak objects if weak slots are cleared.
 
-use super::chunks::Chunk::{Array, Classed, Fixed, Long, LongArray, Short};
+use super::chunks::Chunk::{Array, Fixed, Long, LongArray, Short, Weak};
 use super::chunks::{LEAF, NIL};
 use super::images::{EMPTY, TestImage};
 use sqz_object::Order;
@@ -10,10 +10,8 @@ pub const WEAK_FIELDS_CLEARED: TestImage = TestImage {
     chunks: &[
         NIL,
         Fixed(&[1, 1, 0x405]),
-        Classed {
+        Weak {
             class: 0x1004,
-            compact: 0,
-            format: 4,
             fields: &[0x1000],
         },
         Array(&[0x1000, 0x1018]),
@@ -34,10 +32,8 @@ pub const WEAK_SLOT_OF_LIVE_OBJECT_ANSWER: TestImage = TestImage {
         NIL,
         Fixed(&[1, 1, 0x405]),
         LEAF,
-        Classed {
+        Weak {
             class: 0x1004,
-            compact: 0,
-            format: 4,
             fields: &[0x1014],
         },
         Array(&[0x1000, 0x1020, 0x1014]),
@@ -52,10 +48,8 @@ pub const WEAK_FIXED_FIELD_CLEARED: TestImage = TestImage {
         NIL,
         Fixed(&[1, 1, 0x409]),
         LEAF,
-        Classed {
+        Weak {
             class: 0x1004,
-            compact: 0,
-            format: 4,
             fields: &[0x1014, 0x1000],
         },
         Array(&[0x1000, 0x1020]),
@@ -107,10 +101,8 @@ pub const WEAK_COMPACT_CLASS_CLEARED: TestImage = TestImage {
 pub const WEAK_OWN_CLASS_CLEARED: TestImage = TestImage {
     chunks: &[
         NIL,
-        Classed {
+        Weak {
             class: 0x1008,
-            compact: 0,
-            format: 4,
             fields: &[1, 0x1000, 0x409],
         },
         Array(&[0x1000, 0x1008]),
@@ -124,16 +116,12 @@ pub const WEAK_WEAK_CLASS_CLEARED: TestImage = TestImage {
     chunks: &[
         NIL,
         Fixed(&[1, 1, 0x405]),
-        Classed {
+        Weak {
             class: 0x1004,
-            compact: 0,
-            format: 4,
             fields: &[1, 0x1000, 0x405],
         },
-        Classed {
+        Weak {
             class: 0x1018,
-            compact: 0,
-            format: 4,
             fields: &[0x1000],
         },
         Array(&[0x1000, 0x102C]),
@@ -157,10 +145,8 @@ pub const WEAK_ARRAY_CLEARED: TestImage = TestImage {
             format: 0,
             fields: &[3],
         },
-        Classed {
+        Weak {
             class: 0x1004,
-            compact: 0,
-            format: 4,
             fields: &[0x1000, 0x1034],
         },
         Array(&[0x1000, 0x1040, 0x1034]),

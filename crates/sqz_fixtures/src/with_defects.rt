@@ -1,7 +1,7 @@
 //! Images in which an object has a defect, or which lack nil although it is needed.
 
 use super::accepted::NIL_ALONE;
-use super::chunks::Chunk::{Array, Classed, Fixed, Free, Long, Short};
+use super::chunks::Chunk::{Array, Fixed, Free, Instance, Long, Short, Weak};
 use super::chunks::NIL;
 use super::cleared::WEAK_FIELDS_CLEARED;
 use super::images::{Change, EMPTY, TestImage};
@@ -153,10 +153,8 @@ pub const BAD_CLASS_WORD_OF_THREE: TestImage = TestImage {
 pub const CLASS_WORD_BEFORE_FIELD: TestImage = TestImage {
     chunks: &[
         NIL,
-        Classed {
+        Instance {
             class: 0x2000,
-            compact: 0,
-            format: 1,
             fields: &[0x1002],
         },
         Array(&[0x1000, 0x1008]),
@@ -199,10 +197,8 @@ pub const WEAK_BAD_BEFORE_FIELD: TestImage = TestImage {
     chunks: &[
         NIL,
         Fixed(&[1, 1, 0x1000]),
-        Classed {
+        Weak {
             class: 0x1004,
-            compact: 0,
-            format: 4,
             fields: &[0x1002],
         },
         Array(&[0x1000, 0x1018]),

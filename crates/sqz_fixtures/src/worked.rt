@@ -66,3 +66,10 @@ impl Contents {
         }
     }
 }
+
+impl Outcome {
+    /// Whether the file is accepted.
+    pub fn is_accepted(&self) -> bool {
+        matches!(self, Outcome::Compacted(_))
+    }
+}

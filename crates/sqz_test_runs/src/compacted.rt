@@ -2,17 +2,24 @@
 
 use super::prefixes::assert_array_left_out;
 use super::runs::assert_compacts;
-use sqz_fixtures::Chunk::{Array, Classed, Free, Long, Short, Words};
+use sqz_fixtures::Chunk::{Array, Instance, Long, Short};
 use sqz_fixtures::accepted::{
-    DEAD_BAD_CONTEXT, DEAD_BAD_METHOD, DEAD_BAD_POINTER, DEAD_WITHOUT_CLASS, FREE_CHUNK,
+    DEAD_BAD_CONTEXT, DEAD_BAD_METHOD, DEAD_BAD_POINTER, DEAD_WITHOUT_CLASS, FREE_CHUNK, FREE_WORD,
     HIGHEST_BASE, INTEGERS, NIL_ALONE,
 };
-use sqz_fixtures::answers::CLASS_EDGE_ANSWER;
+use sqz_fixtures::answers::{
+    CLASS_EDGE_ANSWER, CLASS_EDGE_OF_THREE_WORDS_ANSWER, HIGHEST_BASE_ANSWER,
+};
+use sqz_fixtures::answers_of_formats::{
+    CONTEXT_STACK_ANSWER, CONTEXT_WITH_CLASS_WORD_ANSWER, LITERALS_ALONE_ANSWER,
+    METHOD_LITERALS_ANSWER,
+};
 use sqz_fixtures::with_classes::{CLASS_EDGE, CLASS_EDGE_OF_THREE_WORDS, CLASS_NAMES};
 use sqz_fixtures::with_formats::{
-    CONTEXT_STACK, CONTEXT_WITH_CLASS_WORD, CONTEXT_WITHOUT_STACK_POINTER, METHOD_LITERALS,
+    CONTEXT_STACK, CONTEXT_WITH_CLASS_WORD, CONTEXT_WITHOUT_STACK_POINTER, HIGHEST_METHOD_FORMAT,
+    LIKE_CONTEXTS, LITERALS_ALONE, LOWEST_METHOD_FORMAT, METHOD_LITERALS,
 };
-use sqz_fixtures::{EMPTY, LEAF, NIL, ODD, TestImage, with_word};
+use sqz_fixtures::{EMPTY, NIL, TestImage, with_word};
 use sqz_object::Order;
 use sqz_trace::Weak;
 use std::process::Abort;
@@ -35,62 +42,12 @@ fn numbers_of_a_run(rt: HostRuntime) -> Result<(), Fail> {
     assert_array_left_out(&rt, 0, Order::Little, Weak::Keep)
 }
 
-/// The fields of what would be a bad context, since the stack pointer is negative.
-const NEGATIVE_STACK: &[u32] = &[1, 1, 0xFFFF_FFFF];
-
-/// Format 3 with compact index 4 is no context.
-const FORMAT_OF_CONTEXT: TestImage = TestImage {
-    chunks: &[
-        NIL,
-        Short {
-            compact: 4,
-            format: 3,
-            fields: NEGATIVE_STACK,
-        },
-        Array(&[0x1000, 0x1004]),
-    ],
-    special: 0x1014,
-    ..EMPTY
-};
-
-/// Nor is it with compact index 12.
-const INDEX_BEFORE_CONTEXT: TestImage = TestImage {
-    chunks: &[
-        NIL,
-        Short {
-            compact: 12,
-            format: 3,
-            fields: NEGATIVE_STACK,
-        },
-        Array(&[0x1000, 0x1004]),
-    ],
-    special: 0x1014,
-    ..EMPTY
-};
-
-/// Nor is format 2 with compact index 13.
-const INDEX_OF_CONTEXT: TestImage = TestImage {
-    chunks: &[
-        NIL,
-        Short {
-            compact: 13,
-            format: 2,
-            fields: NEGATIVE_STACK,
-        },
-        Array(&[0x1000, 0x1004]),
-    ],
-    special: 0x1014,
-    ..EMPTY
-};
-
 #[test]
 fn same_as_it_was(rt: HostRuntime) -> Result<(), Fail> {
     for image in &[
         INTEGERS,
         CONTEXT_WITHOUT_STACK_POINTER,
-        FORMAT_OF_CONTEXT,
-        INDEX_BEFORE_CONTEXT,
-        INDEX_OF_CONTEXT,
+        LIKE_CONTEXTS,
         LOWEST_METHOD_FORMAT,
         HIGHEST_METHOD_FORMAT,
         CLASS_NAMES,
@@ -104,10 +61,8 @@ fn same_as_it_was(rt: HostRuntime) -> Result<(), Fail> {
 const DEAD_BAD_CLASS_WORD: TestImage = TestImage {
     chunks: &[
         NIL,
-        Classed {
+        Instance {
             class: 0x2000,
-            compact: 0,
-            format: 1,
             fields: &[1],
         },
         Array(&[0x1000]),

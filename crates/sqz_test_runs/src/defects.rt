@@ -2,18 +2,21 @@
 //! defect.
 
 use super::runs::assert_image_refused;
-use sqz_fixtures::Chunk::{Array, Long, Short};
 use sqz_fixtures::accepted::NIL_ALONE;
-use sqz_fixtures::with_bad_formats::{
-    ALL_ONES, BAD_LITERAL, CONTEXT_OF_FIVE_FIELDS, METHOD_HEADER, METHOD_WITHOUT_CLASS,
-    METHOD_WITHOUT_FIELDS, SHORT_CONTEXT, TOO_MANY_LITERALS,
+use sqz_fixtures::with_bad_contexts::{
+    CONTEXT_OF_FIVE_FIELDS, CONTEXT_OF_TWO_FIELDS, FIVE_FIELDS_WITHOUT_STACK_POINTER, SHORT_CONTEXT,
+};
+use sqz_fixtures::with_bad_methods::{
+    ALL_ONES, BAD_LITERAL, METHOD_HEADER, METHOD_WITHOUT_CLASS, METHOD_WITHOUT_FIELDS,
+    ODD_METHOD_HEADER, TOO_MANY_LITERALS,
 };
 use sqz_fixtures::with_defects::{
-    BAD_CLASS_WORD, CLASS_WORD_BEFORE_FIELD, FIELD_NAMES_CLASS_WORD, FIELD_NAMES_FREE_CHUNK,
-    LOWER_IS_NAMED, LOWER_OF_TWO, NO_CLASS,
+    BAD_CLASS_WORD, BAD_CLASS_WORD_OF_THREE, CLASS_WORD_BEFORE_FIELD, FIELD_NAMES_CLASS_WORD,
+    FIELD_NAMES_FREE_CHUNK, LOWER_IS_NAMED, LOWER_OF_TWO, NO_CLASS, NO_CLASS_BEFORE_FIELD,
+    TWO_ODD_FIELDS,
 };
 use sqz_fixtures::with_formats::CONTEXT_STACK;
-use sqz_fixtures::{Change, EMPTY, NIL, TestImage, with_word};
+use sqz_fixtures::{TestImage, with_word};
 use sqz_image::{Fault, Slot};
 use sqz_trace::Weak;
 use std::process::Abort;
@@ -120,7 +123,7 @@ fn short_contexts(rt: HostRuntime) -> Result<(), Fail> {
         (SHORT_CONTEXT, fault),
         (CONTEXT_OF_TWO_FIELDS, fault),
         (CONTEXT_OF_FIVE_FIELDS, fault),
-        (with_word(CONTEXT_OF_FIVE_FIELDS, 4, 0x1000), fault),
+        (FIVE_FIELDS_WITHOUT_STACK_POINTER, fault),
     ];
     assert_all_refused(&rt, &some)
 }

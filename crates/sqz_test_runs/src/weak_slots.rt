@@ -2,13 +2,16 @@
 //! kept.
 
 use super::runs::assert_compacts;
-use sqz_fixtures::Chunk::{Array, Classed, Fixed, Long, LongArray, Short};
-use sqz_fixtures::answers::WEAK_FIELDS_CLEARED;
+use sqz_fixtures::TestImage;
+use sqz_fixtures::cleared::{
+    WEAK_COMPACT_CLASS_CLEARED, WEAK_FIELDS_CLEARED, WEAK_FIXED_FIELD_CLEARED,
+    WEAK_OWN_CLASS_CLEARED, WEAK_SIXTY_FOUR_FIXED_CLEARED, WEAK_SLOT_OF_LIVE_OBJECT_ANSWER,
+    WEAK_WEAK_CLASS_CLEARED,
+};
 use sqz_fixtures::with_weak_objects::{
     WEAK_COMPACT_CLASS, WEAK_FIELDS, WEAK_FIXED_FIELD, WEAK_OWN_CLASS, WEAK_SIXTY_FOUR_FIXED,
     WEAK_SLOT_OF_LIVE_OBJECT, WEAK_SPECIAL_WITH_CLASS_WORD, WEAK_WEAK_CLASS,
 };
-use sqz_fixtures::{EMPTY, LEAF, NIL, TestImage};
 use sqz_trace::Weak;
 use std::process::Abort;
 use std::sync::Wait;
@@ -29,9 +32,9 @@ fn assert_cleared<R: Threads + Wait + Sync + Abort + AllocGlobal>(
 /// Images with weak objects, and what is left of each if weak slots are cleared.
 const CLEARED: &[(TestImage, TestImage)] = &[
     (WEAK_FIELDS, WEAK_FIELDS_CLEARED),
-    (WEAK_FIXED_FIELD, FIXED_FIELD_CLEARED),
-    (WEAK_OWN_CLASS, OWN_CLASS_CLEARED),
-    (WEAK_WEAK_CLASS, WEAK_CLASS_CLEARED),
+    (WEAK_FIXED_FIELD, WEAK_FIXED_FIELD_CLEARED),
+    (WEAK_OWN_CLASS, WEAK_OWN_CLASS_CLEARED),
+    (WEAK_WEAK_CLASS, WEAK_WEAK_CLASS_CLEARED),
     (WEAK_SPECIAL_WITH_CLASS_WORD, WEAK_SPECIAL_WITH_CLASS_WORD),
 ];
 
@@ -46,17 +49,22 @@ fn cleared_and_kept(rt: HostRuntime) -> Result<(), Fail> {
 #[test]
 fn weak_slot_of_live_object(rt: HostRuntime) -> Result<(), Fail> {
     for weak in [Weak::Keep, Weak::Clear] {
-        assert_compacts(&rt, weak, &WEAK_SLOT_OF_LIVE_OBJECT, &LIVE_OBJECT_ANSWER)?;
+        assert_compacts(
+            &rt,
+            weak,
+            &WEAK_SLOT_OF_LIVE_OBJECT,
+            &WEAK_SLOT_OF_LIVE_OBJECT_ANSWER,
+        )?;
     }
     Ok(())
 }
 
 #[test]
 fn sixty_four_fixed_fields(rt: HostRuntime) -> Result<(), Fail> {
-    assert_cleared(&rt, &WEAK_SIXTY_FOUR_FIXED, &SIXTY_FOUR_FIXED_CLEARED)
+    assert_cleared(&rt, &WEAK_SIXTY_FOUR_FIXED, &WEAK_SIXTY_FOUR_FIXED_CLEARED)
 }
 
 #[test]
 fn weak_object_of_compact_class(rt: HostRuntime) -> Result<(), Fail> {
-    assert_cleared(&rt, &WEAK_COMPACT_CLASS, &COMPACT_CLASS_CLEARED)
+    assert_cleared(&rt, &WEAK_COMPACT_CLASS, &WEAK_COMPACT_CLASS_CLEARED)
 }

@@ -92,7 +92,7 @@ fn write_all<R: Files>(rt: &R, alloc: Global, top: &str) -> Result<()> {
 fn main(rt: HostRuntime) -> Result<ExitCode> {
     let words: Vec<String> = env::args(&rt)?.collect(rt.alloc())?;
     match words.as_slice() {
-        [_, folder] => {
+        [_, folder] if !folder.starts_with("--") => {
             write_all(&rt, rt.alloc(), folder.as_str())?;
             Ok(ExitCode::SUCCESS)
         }
