@@ -1,16 +1,13 @@
-/* A library for LD_PRELOAD: of a program's requests for memory it refuses the one whose number stands in REFUSED_REQUEST,
- * counted from 1. It then writes a line for each caller to a file of the name `refused`, the innermost
- * caller first: the file that the caller was loaded from, the address after the call, counted from
- * where that file was loaded, and the caller's name, or `-` if it is not exported. */
-#define _GNU_SOURCE
+/* Fails MOST_REFUSED allocations of a program (1 if it is not set), from allocation FIRST_REFUSED on,
+ * counted from 1. The file `refused` has their number, in one word.
+ *
+ * The file `callers` has a line for each caller of the first of them, the innermost first: the file
+ * that the caller was loaded from, the address after the call, counted from where that file was
+ * loaded, and the caller's name, or `-` if it is not exported. */
+#include "preload.h"
 #include <dlfcn.h>
-#include <errno.h>
 #include <execinfo.h>
-#include <fcntl.h>
-#include <stdatomic.h>
 #include <stdio.h>
-#include <stdlib.h>
-#include <unistd.h>
 
 enum { MOST_CALLERS = 16 };
 
@@ -19,36 +16,42 @@ extern void *__libc_calloc(size_t count, size_t size);
 extern void *__libc_realloc(void *block, size_t size);
 extern void *__libc_memalign(size_t alignment, size_t size);
 
-/* How many requests there are yet up to the one that is refused; 0 or less where none is. */
-static atomic_long left;
+/* Until the program begins, no allocation fails. */
+static atomic_long *refused;
+static atomic_long requests;
+static long first;
+static long most;
 
-/* What the loader needs before the program begins is not counted, nor what the first walk over
- * callers loads. */
+/* Allocations of the loader and of the first backtrace are not counted. */
 __attribute__((constructor)) static void begin(void) {
-  const char *number = getenv("REFUSED_REQUEST");
   void *caller;
   backtrace(&caller, 1);
-  atomic_store(&left, number ? atol(number) : 0);
+  first = number("FIRST_REFUSED");
+  most = getenv("MOST_REFUSED") ? number("MOST_REFUSED") : 1;
+  refused = mapped_words("refused", 1);
+  atomic_store(&requests, 0);
 }
 
-static void tell_callers(void) {
-  int file = open("refused", O_CREAT | O_WRONLY, 0600);
+static void write_callers(void) {
+  int file = open("callers", O_CREAT | O_TRUNC | O_WRONLY, 0600);
   void *callers[MOST_CALLERS];
   int count = backtrace(callers, MOST_CALLERS);
   for (int at = 0; at < count; at++) {
     Dl_info found;
     if (dladdr(callers[at], &found)) {
       unsigned long distance = (char *)callers[at] - (char *)found.dli_fbase;
-      dprintf(file, "%s %lx %s\n", found.dli_fname, distance, found.dli_sname ? found.dli_sname : "-");
+      const char *name = found.dli_sname ? found.dli_sname : "-";
+      dprintf(file, "%s %lx %s\n", found.dli_fname, distance, name);
     }
   }
   close(file);
 }
 
 static int is_refused(void) {
-  if (atomic_load(&left) <= 0 || atomic_fetch_sub(&left, 1) != 1)
+  if (refused == NULL || !is_chosen(&requests, first, most))
     return 0;
-  tell_callers();
+  if (atomic_fetch_add(refused, 1) == 0)
+    write_callers();
   errno = ENOMEM;
   return 1;
 }

@@ -1,0 +1,56 @@
+"""Runs programs with a library for LD_PRELOAD that fails or counts their calls."""
+
+import os
+import pathlib
+import struct
+import subprocess
+import tempfile
+import unittest
+
+from tests.running import ProgramTest
+
+FOLDER = pathlib.Path(__file__).resolve().parent
+
+
+def compiled(name, folder):
+    """The library built from a C file of this folder. Skips the test without a C compiler, except
+    in CI, where the test fails."""
+    library = pathlib.Path(folder) / f"{name}.so"
+    try:
+        subprocess.run(["cc", "-shared", "-fPIC", "-o", library, FOLDER / f"{name}.c"], check=True)
+    except FileNotFoundError as missing:
+        if os.environ.get("CI"):
+            raise
+        raise unittest.SkipTest("no C compiler") from missing
+    return library
+
+
+class PreloadTest(ProgramTest):
+    """A test that runs programs with one of the libraries."""
+
+    @classmethod
+    def setUpClass(cls):
+        super().setUpClass()
+        libraries = tempfile.TemporaryDirectory()
+        cls.addClassCleanup(libraries.cleanup)
+        cls.fail_calls = compiled("fail_calls", libraries.name)
+        cls.refuse_memory = compiled("refuse_memory", libraries.name)
+
+    def run_with(self, library, program, *args, **variables):
+        """Runs a program in the folder of this test, with a library and numbers in its
+        variables."""
+        for name in ("failed", "refused", "callers", "counted"):
+            (self.folder / name).unlink(missing_ok=True)
+        env = {"LD_PRELOAD": str(library)}
+        env.update((name.upper(), str(value)) for name, value in variables.items())
+        return self.run_here(program, *args, env=env)
+
+    def counts(self, name):
+        """The words of 64 bits in a file that a library wrote."""
+        return [count for (count,) in struct.iter_unpack("q", self.read(name))]
+
+    def has_failed(self):
+        """Whether the library failed a read, a write or an allocation of the last run."""
+        refused = self.folder / "refused"
+        is_refused = refused.exists() and any(self.counts("refused"))
+        return is_refused or (self.folder / "failed").exists()
