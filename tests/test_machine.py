@@ -35,10 +35,11 @@ WIDTH, HEIGHT = 1024, 768
 PROJECT = pathlib.Path("Projects", "Games", "1 GuessingGame.sb")
 KEEP = os.environ.get("SQZ_KEEP")
 COUNT = 20_000
-# A screen counts that has been the same at so many looks, which are half a second apart.
-LOOKS, PAUSE = 6, 0.5
+# A screen counts that has been the same at so many looks, half a second apart. There are more of
+# them if no screen is expected, since an image may pause while it starts.
+LOOKS, FIRST_LOOKS, PAUSE = 6, 20, 0.5
 # The most seconds until a screen stands still, or is the expected one.
-SECONDS = 60
+SECONDS = 90
 
 
 def screen_in(path):
@@ -105,18 +106,20 @@ def running(machine, image, project):
             yield process, pathlib.Path(home, "Xvfb_screen0")
 
 
-def standing_screen(process, path, expected=None):
-    """The screen once it stands still and is the expected one, if one is given.
+def standing_screen(process, path, expected):
+    """The screen once it stands still and is the expected one, if that is not None.
 
-    Returns the last screen if the machine ends, or if there is no more time."""
+    Returns the last screen if there is no more time, and nothing if the machine ends."""
     end, screen, looks = time.monotonic() + SECONDS, b"", 0
-    while process.poll() is None and time.monotonic() < end:
+    enough = FIRST_LOOKS if expected is None else LOOKS
+    while process.poll() is None:
         time.sleep(PAUSE)
         last, screen = screen, screen_in(path)
-        looks = looks + 1 if screen == last and screen == (expected or screen) else 0
-        if looks >= LOOKS and not is_blank(screen):
-            break
-    return screen
+        is_still = screen == last and expected in (None, screen)
+        looks = looks + 1 if is_still and not is_blank(screen) else 0
+        if looks >= enough or time.monotonic() > end:
+            return screen
+    return b""
 
 
 class MachineTest(SqueakImageTest):
