@@ -62,8 +62,7 @@ class Compared(typing.NamedTuple):
 
 
 def apart(function, *arguments):
-    """The result of a function in a process of its own, which does not add to the memory of this
-    one."""
+    """The result of a function in a process of its own, so that the memory of this one stays."""
     with concurrent.futures.ProcessPoolExecutor(1) as pool:
         return pool.submit(function, *arguments).result()
 
@@ -84,15 +83,13 @@ def measure(words, printed=os.devnull):
 
 
 def measure_in_turn(commands, image, run):
-    """What is measured of each command over an image. In each second run the last one goes
-    first."""
+    """What is measured of each command over an image. In odd runs the last one goes first."""
     step = 1 if run % 2 == 0 else -1
     return [measure([*it.words, image, it.answer], it.printed) for it in commands[::step]][::step]
 
 
 def check_census(command):
-    """Ends the script if the total of a class histogram is not that of its rows and of the
-    image."""
+    """Ends the script unless the total of a class histogram is that of its rows and the image."""
     lines = command.printed.read_text().splitlines()
     *rows, total = [tuple(int(word) for word in line.split(None, 2)[:2]) for line in lines]
     sums = tuple(sum(column) for column in zip(*rows))
@@ -110,8 +107,7 @@ def columns(size, it):
 
 
 def print_titles(second):
-    """Prints the two lines over the table. `second` is the title of a second command, if there is
-    one."""
+    """Prints the two lines over the table, with the title of a second command if there is one."""
     titles = ["sqzcompact", *([second] if second else []), "cp"]
     print(f"{'':>24} " + "  ".join(f"{title:<28}" for title in titles).rstrip())
     print(f"{'part':>8} {'MiB':>5} {'MiB out':>9} " + "  ".join(TITLES for _ in titles))

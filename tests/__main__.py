@@ -66,8 +66,7 @@ def run_module(name):
 
 
 def counts_of(text, status):
-    """The counts in the last line of a module's output. A module without it counts as one
-    failure."""
+    """The counts in the last line of a module's output, or one failure without that line."""
     *_, last = text.splitlines() or [""]
     found = LAST_LINE.match(last)
     if not found or (status != 0) != (int(found[2]) > 0):
@@ -76,8 +75,7 @@ def counts_of(text, status):
 
 
 def run_alone(name):
-    """Runs a module in a process of its own. Returns its output, its counts, and how long it
-    took."""
+    """Runs a module in a process of its own. Returns its output, counts and seconds."""
     begin = time.monotonic()
     words = [sys.executable, "-m", "tests", name]
     ended = subprocess.run(

@@ -76,8 +76,7 @@ def dead_anything(generator, _):
 
 
 def dead_copy(generator, image):
-    """What a machine leaves: a copy of an array or a byte object of the image, with its
-    pointers."""
+    """What a machine leaves: a copy of an array or a byte object, with its pointers."""
     while True:
         number = generator.randrange(len(image.objects))
         it = image.objects[number]
@@ -124,8 +123,7 @@ def put_dead(generator, image, words, placed, addresses, is_wild):
 
 
 def put_cycles(generator, image, words, placed):
-    """Makes cycles of one to five dead arrays, each of which points to the next with its first
-    field."""
+    """Makes cycles of one to five dead arrays. The first field of each points to the next."""
     arrays = [
         it for it in placed if it[0].base is not None and (it[0].base + 1, None) in it[0].pointers
     ]

@@ -157,8 +157,7 @@ def data_of(frames, has_dead, base):
 
 
 def census_of(frames, base):
-    """The class histogram. Objects with a class word are of the class at the base, without a
-    name."""
+    """The class histogram. Objects with a class word have the unnamed class at the base."""
     listed = len(frames.listed) * (1 if frames.of_first else frames.count)
     sums = {None: (1, 4 * (listed + 3)), 1: (1, 4), 3: (0, 0)}
     groups = [(frames.count, chunk) for chunk in frames.chunks if chunk.is_live]
@@ -186,8 +185,7 @@ def made(frames, base=BASE, order="little", prefix=b""):
 
 
 def wide(count):
-    """Live objects of one word, with an array that points to all, and half as many dead ones
-    between."""
+    """Live objects of one word that an array points to, and half as many dead ones between."""
     return Frames((live(0x1007), live(0x2007), dead(0x1007)), count // 2, (0, 1))
 
 
@@ -197,8 +195,7 @@ def chain(count):
 
 
 def pairs(count):
-    """Objects that an array points to, each of which points to another that nothing else points
-    to."""
+    """Objects that an array points to, each of which alone points to another one."""
     return Frames((live(0x1007), live(0x210B, ZERO)), count, (1,), (Link(1, 1, 0, 0),))
 
 

@@ -29,8 +29,7 @@ class Object(typing.NamedTuple):
 
 
 class Pointer(typing.NamedTuple):
-    """A slot that points to an object: its data word, and the numbers of its owner and its
-    target."""
+    """A slot that points to an object: its data word, and the numbers of owner and target."""
 
     place: int
     owner: int
@@ -79,8 +78,7 @@ def traced_end(words, it):
 
 
 class Image:
-    """An image: its header, its data words, their byte order in the file, and the bytes before
-    it."""
+    """An image: header, data words, their byte order in the file, and the bytes before it."""
 
     def __init__(self, header, words, order="little", prefix=b""):
         self.header, self.words, self.order, self.prefix = header, words, order, prefix
@@ -221,8 +219,8 @@ class Image:
     def in_other_order(self):
         """This image as a machine of the other byte order saves it.
 
-        Byte objects, and what follows the literals of a method, keep their bytes. The rest keeps
-        its words."""
+        Byte objects, and what follows the literals of a method, keep their bytes; the rest, its
+        words."""
         words = self.words[:]
         for it in self.objects:
             if format_of(words[it.base]) >= 8:

@@ -31,8 +31,7 @@ def succeeds(words, folder):
 
 
 def downloads(folder):
-    """Whether the package manager puts the package into a folder, after an update if it needs
-    one."""
+    """Whether the package manager puts the package into a folder. Updates its lists if needed."""
     apt = (*APT, *WITHOUT_DELAY)
     fetch = (*apt, "download", PACKAGE)
     with open(__file__, encoding="utf-8") as lock:
@@ -44,8 +43,7 @@ def downloads(folder):
 
 
 def unpacked(folder):
-    """The image of the package, unpacked in a folder and not installed; None if that is
-    impossible."""
+    """The image of the package, unpacked in a folder and not installed, if that is possible."""
     if os.geteuid() != 0 or not shutil.which("apt-get") or not shutil.which("dpkg-deb"):
         return None
     if not downloads(folder):

@@ -20,7 +20,7 @@ import unittest
 
 from tests.made_images import zigzag_chain
 from tests.preload import PreloadTest
-from tests.requesters import OTHER, PUSH, START, Functions, requester
+from tests.requesters import OTHER, PUSH, START, Functions
 from tests.running import (
     NO_MEMORY,
     NOT_READ,
@@ -83,8 +83,7 @@ FAULT = "the fault"
 
 @dataclasses.dataclass(frozen=True)
 class Run:
-    """A run of `sqzcompact`: the file of an image, its options, and what it must write and
-    print."""
+    """A run of `sqzcompact`: IN, what it must write and print, and its options."""
 
     image: bytes
     answer: bytes
@@ -98,8 +97,7 @@ class Run:
 
 
 def runs_over(name):
-    """Runs over a worked image with a census: by one worker and two, with weak references kept and
-    cleared."""
+    """Runs over a worked image: weak references kept and cleared, by one worker and by two."""
     for clear_weak, workers in itertools.product((False, True), WORKERS):
         it = worked_image(name, clear_weak)
         options = ("--workers", workers, "--region-words", "8", "--census")
@@ -107,22 +105,14 @@ def runs_over(name):
         yield Run(it.image, it.answer, it.census, (*weak, *options))
 
 
-class FaultTest(PreloadTest):
-    """A test that runs a program again and again, with the next failure in each run."""
+class CompactionTest(PreloadTest):
+    """A test that runs `sqzcompact` again and again, with the next failure in each run."""
 
     def compact(self, it, library, **variables):
         """The outcome of a run with a library."""
         self.write("in", it.image)
         self.put_old()
         return self.run_with(library, SQZCOMPACT, *it.options, "in", "out", **variables)
-
-    def failing(self, library, program, *args, failure="first_refused", **variables):
-        """The outcomes of runs with failure 1, 2 and so on, as long as there is one."""
-        for number in itertools.count(1):
-            outcome = self.run_with(library, program, *args, **{failure: number}, **variables)
-            if not self.has_failed():
-                return
-            yield outcome
 
     def failing_compactions(self, it, library, failure, **variables):
         """As `failing`, over a run of `sqzcompact`. The run without a failure must do all."""
@@ -133,16 +123,12 @@ class FaultTest(PreloadTest):
                 return
             yield outcome
 
-    def requester(self, functions):
-        """Who made the allocation that failed in the last run."""
-        return requester(self.read("callers").decode(), functions)
-
     def assert_whole(self, outcome, it):
         self.assert_ends(outcome, it.whole)
         self.assert_holds("out", it.answer)
 
 
-class AllocationsTest(FaultTest):
+class AllocationsTest(CompactionTest):
     """A run ends with the fault, or does without the memory for a push or a start."""
 
     @classmethod
@@ -184,7 +170,7 @@ class AllocationsTest(FaultTest):
         return ends
 
 
-class DevicesTest(FaultTest):
+class DevicesTest(CompactionTest):
     """A run ends with the fault of a read or a write that failed."""
 
     def test_failed_reads(self):
@@ -236,8 +222,7 @@ class DevicesTest(FaultTest):
         self.assertGreaterEqual(faults, least)
 
     def assert_cut(self, outcome, it):
-        """Checks that a prefix of OUT was written, and a prefix of the census only after all of
-        OUT."""
+        """Checks that a prefix of OUT was written, or all of it and a prefix of the census."""
         written = self.read("out")
         ended = Outcome(outcome.status, stderr=outcome.stderr)
         self.assert_ends(ended, NOT_WRITTEN)
@@ -247,7 +232,7 @@ class DevicesTest(FaultTest):
             self.assert_holds("out", it.answer)
 
 
-class CallsAgainTest(FaultTest):
+class CallsAgainTest(PreloadTest):
     """A call that ran out of memory serves when it is repeated."""
 
     def test_each_call_serves_again(self):
@@ -275,7 +260,7 @@ class CallsAgainTest(FaultTest):
         self.assertTrue(program.exists(), f"{program} is missing: run `rt test` in its crate")
 
 
-class LooksTest(FaultTest):
+class LooksTest(PreloadTest):
     """`sqzlook` prints its whole answer, or ends with the fault."""
 
     def test_allocations(self):

@@ -63,8 +63,7 @@ class Expected:
         return slots
 
     def first_paths(self, clear_weak):
-        """For each reachable object the owner and the slot that a breadth-first search finds
-        first."""
+        """The owner and slot that a breadth-first search finds first, for each reachable object."""
         slots = self.slots(clear_weak)
         found = {self.image.special: None}
         queue = collections.deque(found)

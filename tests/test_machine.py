@@ -43,8 +43,7 @@ SECONDS = 90
 
 
 def screen_in(path):
-    """The points of the screen in the file that Xvfb keeps, four bytes each. The last says
-    nothing."""
+    """The points of the screen in the file that Xvfb keeps: four bytes each, the last unused."""
     data = path.read_bytes()
     if len(data) < 100:
         return b""

@@ -52,8 +52,7 @@ def put_word(generator, data, place, word):
 
 
 def change_word(generator, data):
-    """Gives a word another value: a limit, a small change of what it is, or another word of the
-    file."""
+    """Sets a word to a limit, to a number near its own, or to another word of the file."""
     place = random_word(generator, data)
     kind = generator.randrange(3)
     if kind == 0:

@@ -56,8 +56,7 @@ def plan_of(workers, region_words):
 
 
 def forms_of(image):
-    """The files of an image in both byte orders, alone and after 512 bytes, by the names of the
-    forms."""
+    """The files of an image in both byte orders, alone and after 512 bytes, by form."""
     other = image.in_other_order()
     return {
         "as it is": image.file(b""),

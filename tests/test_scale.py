@@ -31,8 +31,7 @@ class ScaleTest(ProgramTest):
                     self.check_compaction_of_file(source, answer)
 
     def check_compaction_of_file(self, source, answer):
-        """Compacts a file, prints how long it took and its peak of memory, and checks this and
-        OUT."""
+        """Compacts a file, prints the seconds and the peak of memory, and checks this and OUT."""
         out = self.folder / "out"
         it = measured([SQZCOMPACT, "--workers", WORKERS, source, out])
         size = source.stat().st_size

@@ -188,8 +188,7 @@ class ComputedMemoryTest(MemoryTest):
 
 
 def room_for(size):
-    """The room for the bytes of a file: a MiB more, or a quarter more, as long as it does not
-    suffice."""
+    """The room for the bytes of a file, which grows by a MiB or a quarter until it suffices."""
     room = 0
     while room < size:
         room += max(room // 4, MIB)

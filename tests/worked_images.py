@@ -2,7 +2,7 @@
 
 import dataclasses
 
-from tests.running import ROOT
+from tests.running import ROOT, SQZCOMPACT, ProgramTest
 
 IMAGES = ROOT / "images"
 # The end of the name of an expected OUT.
@@ -19,10 +19,6 @@ class WorkedImage:
     census: bytes | None
     fault: bytes | None
 
-    @property
-    def is_accepted(self):
-        return self.fault is None
-
 
 def bytes_at(path):
     """The bytes of a file, if it exists."""
@@ -30,8 +26,7 @@ def bytes_at(path):
 
 
 def read_worked(path, clear_weak=False):
-    """The worked image at this path, with what is expected if weak references are cleared or
-    not."""
+    """The worked image at this path, and what is expected if weak references are cleared or not."""
     stem = path.with_suffix("")
     cleared = stem.with_name(f"{stem.name}.cleared")
     differs = any(cleared.with_name(cleared.name + end).exists() for end in (OUT, ".fault"))
@@ -47,12 +42,31 @@ def worked_paths():
     return sorted(path for path in IMAGES.glob("*/*.image") if not path.name.endswith(OUT))
 
 
-def worked_images(clear_weak=False):
-    """All worked images."""
-    return [read_worked(path, clear_weak) for path in worked_paths()]
-
-
 def worked_image(name, clear_weak=False):
     """The worked image of this name."""
     (path,) = IMAGES.glob(f"*/{name}.image")
     return read_worked(path, clear_weak)
+
+
+def accepted_images(clear_weak=False):
+    """The worked images that are compacted."""
+    images = (read_worked(path, clear_weak) for path in worked_paths())
+    return [it for it in images if it.fault is None]
+
+
+def rejected_images(clear_weak=False):
+    """The worked images that are rejected."""
+    images = (read_worked(path, clear_weak) for path in worked_paths())
+    return [it for it in images if it.fault is not None]
+
+
+class DeadArrayTest(ProgramTest):
+    """A test on the worked image `dead_array`, which is in the file `in`."""
+
+    def setUp(self):
+        super().setUp()
+        self.worked = worked_image("dead_array")
+        self.write("in", self.worked.image)
+
+    def compact(self, *args, **how):
+        return self.run_here(SQZCOMPACT, *args, **how)

@@ -40,8 +40,7 @@ def can_be_class(chunk):
 
 
 def choose_classes(generator, objects, live, most):
-    """Which live objects are classes, in order: at most so many, and no more than have class
-    words."""
+    """Which live objects are classes, in order: at most so many, and no more than class words."""
     others = range(len(CLASSED_FIRSTS), len(objects))
     able = [index for index in others if live[index] and can_be_class(objects[index][0])]
     worded = sum(alive and chunk.before > 0 for (chunk, _), alive in zip(objects, live))
@@ -73,8 +72,7 @@ def put_names(data, objects, fields, addresses, live, classes):
 
 
 def put_words_of_classes(generator, data, objects, addresses, live, classes):
-    """Puts the class words, which point to one class after the other, those of live objects
-    first."""
+    """Puts the class words, those of live objects first, each with the next class."""
     worded = [index for index, (chunk, _) in enumerate(objects) if chunk.before > 0]
     worded.sort(key=lambda index: not live[index])
     named = itertools.cycle(generator.sample(classes, len(classes)))

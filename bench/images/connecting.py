@@ -30,8 +30,7 @@ def random_words(generator, count):
 
 
 def point_to_live_objects(generator, data, fields, addresses, live, far):
-    """Puts the address of each live object after the first two into a field of a live one before
-    it."""
+    """Puts the address of each live object but the first two into a live one before it."""
     unused = list(fields[1])
     for index in range(2, len(fields)):
         if not live[index] or not unused:

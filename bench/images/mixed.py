@@ -115,8 +115,7 @@ def put_method(generator, data, first, end):
 
 
 def put_context(generator, data, first, end):
-    """Puts the first fields of a context and what is above its stack. Returns the fields
-    between."""
+    """Puts the first fields of a context and what is above its stack. Returns the others."""
     top = below(generator, end - first - 5)
     data[first] = BASE
     data[first + 1] = generator.getrandbits(8) << 1 | 1

@@ -1,5 +1,6 @@
 """Runs programs with a library for LD_PRELOAD that fails or counts their calls."""
 
+import itertools
 import os
 import pathlib
 import struct
@@ -7,6 +8,7 @@ import subprocess
 import tempfile
 import unittest
 
+from tests.requesters import requester
 from tests.running import ProgramTest
 
 FOLDER = pathlib.Path(__file__).resolve().parent
@@ -37,8 +39,7 @@ class PreloadTest(ProgramTest):
         cls.refuse_memory = compiled("refuse_memory", libraries.name)
 
     def run_with(self, library, program, *args, **variables):
-        """Runs a program in the folder of this test, with a library and numbers in its
-        variables."""
+        """Runs a program in the folder of this test, with numbers in the library's variables."""
         for name in ("failed", "refused", "callers", "counted"):
             (self.folder / name).unlink(missing_ok=True)
         env = {"LD_PRELOAD": str(library)}
@@ -54,3 +55,15 @@ class PreloadTest(ProgramTest):
         refused = self.folder / "refused"
         is_refused = refused.exists() and any(self.counts("refused"))
         return is_refused or (self.folder / "failed").exists()
+
+    def failing(self, library, program, *args, failure="first_refused", **variables):
+        """The outcomes of runs with failure 1, 2 and so on, as long as there is one."""
+        for number in itertools.count(1):
+            outcome = self.run_with(library, program, *args, **{failure: number}, **variables)
+            if not self.has_failed():
+                return
+            yield outcome
+
+    def requester(self, functions):
+        """Who made the allocation that failed in the last run, of a program with these functions."""
+        return requester(self.read("callers").decode(), functions)
