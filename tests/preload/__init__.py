@@ -65,5 +65,5 @@ class PreloadTest(ProgramTest):
             yield outcome
 
     def requester(self, functions):
-        """Who made the allocation that failed in the last run, of a program with these functions."""
+        """Who made the allocation that failed in the last run, by the functions of the program."""
         return requester(self.read("callers").decode(), functions)

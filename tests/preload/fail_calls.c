@@ -1,8 +1,8 @@
 /* Counts the reads and the writes of a program, in two words of the file `counted`.
  *
- * FAILED_READ or FAILED_WRITE has the number of the call that fails, counted from 1, with the error
- * FAILED_ERROR. The file `failed` is then created. If MOST_BYTES is set, a call transfers at most so
- * many bytes. */
+ * FAILED_READ or FAILED_WRITE has the number of the call that fails, counted from 1, with the
+ * error FAILED_ERROR. The file `failed` is then created. If MOST_BYTES is set, a call transfers
+ * at most so many bytes. */
 #include "preload.h"
 #include <sys/syscall.h>
 

@@ -1,9 +1,9 @@
-/* Fails MOST_REFUSED allocations of a program (1 if it is not set), from allocation FIRST_REFUSED on,
- * counted from 1. The file `refused` has their number, in one word.
+/* Fails MOST_REFUSED allocations of a program (1 if it is not set), from allocation FIRST_REFUSED
+ * on, counted from 1. The file `refused` has their number, in one word.
  *
- * The file `callers` has a line for each caller of the first of them, the innermost first: the file
- * that the caller was loaded from, the address after the call, counted from where that file was
- * loaded, and the caller's name, or `-` if it is not exported. */
+ * The file `callers` has a line for each caller of the first of them, the innermost first: the
+ * file that the caller was loaded from, the address after the call, counted from where that file
+ * was loaded, and the caller's name, or `-` if it is not exported. */
 #include "preload.h"
 #include <dlfcn.h>
 #include <execinfo.h>
