@@ -34,7 +34,7 @@ def callers_in(text, functions):
     callers = []
     for loaded, distance, name in (line.rsplit(maxsplit=2) for line in text.splitlines()):
         is_own = os.path.realpath(loaded) == functions.program
-        if not loaded.endswith("refuse_memory.so"):
+        if not loaded.endswith("fail_allocations.so"):
             # a call may be the last instruction of its function: the address after it is in the
             # next
             callers.append((is_own, functions.name_at(int(distance, 16) - 1) if is_own else name))

@@ -85,11 +85,11 @@ class ListsTest(PreloadTest):
         for first in range(1, MOST_REQUESTS):
             self.put_old()
             words = ("--workers", workers, "in", "out")
-            numbers = {"first_refused": first, "most_refused": most}
-            outcome = self.run_with(self.refuse_memory, SQZCOMPACT, *words, **numbers)
+            numbers = {"first_failed": first, "most_failed": most}
+            outcome = self.run_with(self.fail_allocations, SQZCOMPACT, *words, **numbers)
             if outcome == SUCCESS:
                 self.assert_holds("out", self.made.answer)
-                self.assertEqual(self.counts("refused"), [most])
+                self.assertEqual(self.counts("failures"), [most])
                 return
             self.assert_ends(outcome, NO_MEMORY)
             self.assert_untouched()

@@ -157,7 +157,7 @@ class AllocationsTest(CompactionTest):
         """Fails each allocation. Counts the runs that end with the fault, and by whose allocation
         failed, those that do all."""
         ends = collections.Counter()
-        for outcome in self.failing_compactions(it, self.refuse_memory, "first_refused"):
+        for outcome in self.failing_compactions(it, self.fail_allocations, "first_failed"):
             if outcome.status == 0:
                 self.assert_whole(outcome, it)
                 ends[self.requester(self.functions)] += 1
@@ -240,7 +240,7 @@ class CallsAgainTest(PreloadTest):
         refused = set()
         for test in TESTS_AGAIN:
             with self.subTest(test):
-                outcomes = list(self.failing(self.refuse_memory, CALLS_AGAIN, test))
+                outcomes = list(self.failing(self.fail_allocations, CALLS_AGAIN, test))
                 self.assertEqual({outcome.status for outcome in outcomes}, {0})
                 for outcome in outcomes:
                     text = outcome.stdout.decode()
@@ -250,7 +250,7 @@ class CallsAgainTest(PreloadTest):
 
     def test_mark_table_closes_again(self):
         self.require(CLOSES_AGAIN)
-        outcomes = list(self.failing(self.refuse_memory, CLOSES_AGAIN, TEST_OF_CLOSING))
+        outcomes = list(self.failing(self.fail_allocations, CLOSES_AGAIN, TEST_OF_CLOSING))
         self.assertIn(0, {outcome.status for outcome in outcomes})
         for outcome in outcomes:
             if outcome.status != 0:
@@ -288,7 +288,7 @@ class LooksTest(PreloadTest):
         """Fails each allocation: only a start and the reservation of `collect` do without."""
         whole = Outcome(0, stdout=self.answer(args))
         ends = collections.Counter()
-        for outcome in self.failing_looks(self.refuse_memory, args, "first_refused"):
+        for outcome in self.failing_looks(self.fail_allocations, args, "first_failed"):
             if outcome == whole:
                 ends[self.requester(functions)] += 1
             else:

@@ -36,11 +36,11 @@ class PreloadTest(ProgramTest):
         libraries = tempfile.TemporaryDirectory()
         cls.addClassCleanup(libraries.cleanup)
         cls.fail_calls = compiled("fail_calls", libraries.name)
-        cls.refuse_memory = compiled("refuse_memory", libraries.name)
+        cls.fail_allocations = compiled("fail_allocations", libraries.name)
 
     def run_with(self, library, program, *args, **variables):
         """Runs a program in the folder of this test, with numbers in the library's variables."""
-        for name in ("failed", "refused", "callers", "counted"):
+        for name in ("failed", "failures", "callers", "counted"):
             (self.folder / name).unlink(missing_ok=True)
         env = {"LD_PRELOAD": str(library)}
         env.update((name.upper(), str(value)) for name, value in variables.items())
@@ -52,11 +52,11 @@ class PreloadTest(ProgramTest):
 
     def has_failed(self):
         """Whether the library failed a read, a write or an allocation of the last run."""
-        refused = self.folder / "refused"
-        is_refused = refused.exists() and any(self.counts("refused"))
-        return is_refused or (self.folder / "failed").exists()
+        failures = self.folder / "failures"
+        has_failures = failures.exists() and any(self.counts("failures"))
+        return has_failures or (self.folder / "failed").exists()
 
-    def failing(self, library, program, *args, failure="first_refused", **variables):
+    def failing(self, library, program, *args, failure="first_failed", **variables):
         """The outcomes of runs with failure 1, 2 and so on, as long as there is one."""
         for number in itertools.count(1):
             outcome = self.run_with(library, program, *args, **{failure: number}, **variables)

@@ -1,5 +1,5 @@
-/* Fails MOST_REFUSED allocations of a program (1 if it is not set), from allocation FIRST_REFUSED
- * on, counted from 1. The file `refused` has their number, in one word.
+/* Fails MOST_FAILED allocations of a program (1 if it is not set), from allocation FIRST_FAILED
+ * on, counted from 1. The file `failures` has their number, in one word.
  *
  * The file `callers` has a line for each caller of the first of them, the innermost first: the
  * file that the caller was loaded from, the address after the call, counted from where that file
@@ -17,7 +17,7 @@ extern void *__libc_realloc(void *block, size_t size);
 extern void *__libc_memalign(size_t alignment, size_t size);
 
 /* Until the program begins, no allocation fails. */
-static atomic_long *refused;
+static atomic_long *failures;
 static atomic_long requests;
 static long first;
 static long most;
@@ -26,9 +26,9 @@ static long most;
 __attribute__((constructor)) static void begin(void) {
   void *caller;
   backtrace(&caller, 1);
-  first = number("FIRST_REFUSED");
-  most = getenv("MOST_REFUSED") ? number("MOST_REFUSED") : 1;
-  refused = mapped_words("refused", 1);
+  first = number("FIRST_FAILED");
+  most = getenv("MOST_FAILED") ? number("MOST_FAILED") : 1;
+  failures = mapped_words("failures", 1);
   atomic_store(&requests, 0);
 }
 
@@ -47,29 +47,29 @@ static void write_callers(void) {
   close(file);
 }
 
-static int is_refused(void) {
-  if (refused == NULL || !is_chosen(&requests, first, most))
+static int fails(void) {
+  if (failures == NULL || !is_chosen(&requests, first, most))
     return 0;
-  if (atomic_fetch_add(refused, 1) == 0)
+  if (atomic_fetch_add(failures, 1) == 0)
     write_callers();
   errno = ENOMEM;
   return 1;
 }
 
 void *malloc(size_t size) {
-  return is_refused() ? NULL : __libc_malloc(size);
+  return fails() ? NULL : __libc_malloc(size);
 }
 
 void *calloc(size_t count, size_t size) {
-  return is_refused() ? NULL : __libc_calloc(count, size);
+  return fails() ? NULL : __libc_calloc(count, size);
 }
 
 void *realloc(void *block, size_t size) {
-  return is_refused() ? NULL : __libc_realloc(block, size);
+  return fails() ? NULL : __libc_realloc(block, size);
 }
 
 void *aligned_alloc(size_t alignment, size_t size) {
-  return is_refused() ? NULL : __libc_memalign(alignment, size);
+  return fails() ? NULL : __libc_memalign(alignment, size);
 }
 
 int posix_memalign(void **block, size_t alignment, size_t size) {
