@@ -2,7 +2,6 @@
 
 import os
 import re
-import unittest
 
 from tests.running import ROOT, SUCCESS, Outcome, run
 from tests.worked_images import DeadArrayTest, worked_image
@@ -107,7 +106,3 @@ class LaunchersTest(DeadArrayTest):
         outcome = run(ROOT / "sqzlook", ["--version"], folder=self.folder)
         self.assertEqual((outcome.status, outcome.stderr), (0, b""))
         self.assertRegex(outcome.stdout, rb"\Asqzlook \d+\.\d+\.\d+\n\Z")
-
-
-if __name__ == "__main__":
-    unittest.main()

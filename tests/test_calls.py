@@ -8,8 +8,6 @@ Workers that cannot grow their lists leave objects to the caller's thread. If th
 all objects for each of these, a run would not end in its time.
 """
 
-import unittest
-
 from tests.image_format import PREFIX
 from tests.made_images import blocks, made, pairs, varied
 from tests.preload import PreloadTest
@@ -94,7 +92,3 @@ class ListsTest(PreloadTest):
             self.assert_ends(outcome, NO_MEMORY)
             self.assert_untouched()
         self.fail("each run ended with the fault")
-
-
-if __name__ == "__main__":
-    unittest.main()

@@ -16,7 +16,6 @@ import dataclasses
 import errno
 import itertools
 import re
-import unittest
 
 from tests.made_images import zigzag_chain
 from tests.preload import PreloadTest
@@ -308,7 +307,3 @@ class LooksTest(PreloadTest):
         image, *rest = args
         words = (IMAGES / image, *rest)
         return self.failing(library, SQZLOOK, *words, failure=failure, failed_error=errno.EIO)
-
-
-if __name__ == "__main__":
-    unittest.main()

@@ -4,7 +4,6 @@ import os
 import shutil
 import stat
 import subprocess
-import unittest
 
 from tests.made_images import byte_object
 from tests.running import NOT_READ, NOT_WRITTEN, SQZCOMPACT, SUCCESS, Limits, Outcome
@@ -179,7 +178,3 @@ class SpacedPathsTest(DeadArrayTest):
                 self.assert_ends(self.compact("in", path), SUCCESS)
                 self.assert_holds(path, self.worked.answer)
                 self.assert_missing("out")
-
-
-if __name__ == "__main__":
-    unittest.main()

@@ -8,7 +8,6 @@ classes.
 
 import collections
 import random
-import unittest
 
 from tests import garbage
 from tests.object_memory import Image
@@ -183,7 +182,3 @@ class SqueakImageLooksTest(SqueakImageTest):
         self.assertEqual(lines[2], f"bytes           {expected.size(number)}")
         begin = next(at for at, line in enumerate(lines) if line.startswith("path "))
         self.assertEqual(lines[begin:], [*expected.path(number), "exit 0"])
-
-
-if __name__ == "__main__":
-    unittest.main()

@@ -22,7 +22,6 @@ import struct
 import subprocess
 import tempfile
 import time
-import unittest
 
 from tests import garbage
 from tests.image_format import PREFIX
@@ -192,7 +191,3 @@ class MachineTest(SqueakImageTest):
         self.assertFalse(is_blank(screen), "the screen is blank")
         if screen != expected:
             self.fail(points_that_differ(screen, expected))
-
-
-if __name__ == "__main__":
-    unittest.main()

@@ -14,7 +14,6 @@ import pathlib
 import random
 import re
 import struct
-import unittest
 
 from tests.image_format import HEADER_WORDS
 from tests.running import SEED, SQZCOMPACT, SUCCESS, Limits, ProgramTest
@@ -167,7 +166,3 @@ class MutatedImagesTest(ProgramTest):
 
     def compact(self, *args):
         return self.run_here(SQZCOMPACT, *args, limits=Limits(memory=MEMORY))
-
-
-if __name__ == "__main__":
-    unittest.main()

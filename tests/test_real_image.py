@@ -11,7 +11,6 @@ import functools
 import gc
 import itertools
 import random
-import unittest
 
 from tests import garbage
 from tests.image_format import PREFIX
@@ -236,7 +235,3 @@ class WeakTest(RealImageTest):
                 self.check_plan(file, answers[form], census, plan)
         with self.subTest("again"):
             self.check_plan(answer.file(), answer.file(), census, (*options, *CENSUS))
-
-
-if __name__ == "__main__":
-    unittest.main()

@@ -8,7 +8,6 @@ in `TMPDIR`.
 
 import filecmp
 import subprocess
-import unittest
 
 from tests.running import ROOT, SQZCOMPACT, ProgramTest, measured
 
@@ -41,7 +40,3 @@ class ScaleTest(ProgramTest):
         self.assertEqual(it.status, 0)
         self.assertTrue(filecmp.cmp(out, answer, shallow=False), "OUT is not the answer")
         self.assertLess(times, MOST)
-
-
-if __name__ == "__main__":
-    unittest.main()

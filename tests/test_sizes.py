@@ -6,7 +6,6 @@ that looks through all objects for each of them does not end in its time.
 """
 
 import itertools
-import unittest
 
 from tests.image_format import HEADER_WORDS, PREFIX
 from tests.made_images import blocks, byte_object, chain, classes, made, varied, wide
@@ -193,7 +192,3 @@ def room_for(size):
     while room < size:
         room += max(room // 4, MIB)
     return room
-
-
-if __name__ == "__main__":
-    unittest.main()

@@ -133,7 +133,3 @@ class StageTimesTest(ProgramTest):
         self.write("in", worked.image)
         self.assertEqual(self.run_here(STAGE_TIMES, *options, "in", "out").status, 0)
         self.assert_holds("out", worked.answer)
-
-
-if __name__ == "__main__":
-    unittest.main()
