@@ -1,10 +1,12 @@
 #!/usr/bin/env python3
-"""Counts what each crate has: lines of code, of definitions and of proofs, mutants and tests. Prints a table in Markdown.
+"""Counts what each crate has: lines of code, of definitions and of proofs, mutants and tests.
+Prints a table in Markdown.
 
 Usage: bench/count_lines.py
 
-A line counts unless it is blank or a comment alone. Code is `src/*.rt`, contracts among it; definitions are `specs/*.antt`, and
-proofs `proofs/**/*.antt`. A wrong body is an edit in `must-fail/`, and a test a function behind `#[test]`."""
+A line counts unless it is blank or a comment alone. Code is `src/*.rt`, contracts among it;
+definitions are `specs/*.antt`, and proofs `proofs/**/*.antt`. A wrong body is an edit in
+`must-fail/`, and a test a function behind `#[test]`."""
 
 import pathlib
 
@@ -14,7 +16,9 @@ COLUMNS = ("code", "definitions", "proofs", "mutants", "tests")
 
 def lines_of(paths, comment):
     """How many lines of these files are neither blank nor a comment."""
-    lines = (line.strip() for path in paths for line in path.read_text(encoding="utf-8").splitlines())
+    lines = (
+        line.strip() for path in paths for line in path.read_text(encoding="utf-8").splitlines()
+    )
     return sum(1 for line in lines if line and not line.startswith(comment))
 
 
@@ -30,13 +34,19 @@ def counts_of(crate):
 
 
 def main():
-    names = [line.split(":")[0] for line in (ROOT / "crates.txt").read_text(encoding="utf-8").splitlines() if ":" in line]
+    names = [
+        line.split(":")[0]
+        for line in (ROOT / "crates.txt").read_text(encoding="utf-8").splitlines()
+        if ":" in line
+    ]
     rows = [(name, counts_of(ROOT / "crates" / name)) for name in names]
     rows.append(("all", tuple(map(sum, zip(*(counts for _, counts in rows))))))
     print("| crate | " + " | ".join(COLUMNS) + " |")
     print("|---|" + "---:|" * len(COLUMNS))
     for name, counts in rows:
-        print(f"| {name if name == 'all' else f'`{name}`'} | " + " | ".join(map(str, counts)) + " |")
+        print(
+            f"| {name if name == 'all' else f'`{name}`'} | " + " | ".join(map(str, counts)) + " |"
+        )
 
 
 if __name__ == "__main__":

@@ -1,32 +1,37 @@
-#!/usr/bin/env python3
-"""Measures what is in an image, and in the mixed and the fitted one that bench/compare.py makes, side by side.
+"""Prints statistics of an image, next to a generated mixed and a fitted one.
 
-Usage: bench/measure_image.py [IMAGE]
+Usage: python3 -m bench.measure_image [IMAGE]
 
-The image is that of Debian's package `scratch` where none is named; tests/real_image.py says where it comes from. Measured are the
-live objects, once they are compacted: the words of their headers, their sizes, their formats, what is in their traced fields,
-and how far pointers go, in bytes from the object that holds them to the object that they name. Class words are not among these.
+The image is that of Debian's package `scratch` if none is named. Measured are its live objects,
+once they are compacted: the words of their headers, their sizes and formats, what their traced
+fields hold, and how far pointers go, in bytes from the object that holds them to their target.
+Class words do not count as pointers.
 """
 
 import collections
-import os
+import pathlib
 import statistics
 import sys
 import tempfile
 
-import compare
+from bench.images import MIB, make_image
+from tests.object_memory import (
+    CONTEXT_INDEXES,
+    WEAK,
+    Image,
+    compact_index,
+    format_of,
+    has_bytes,
+    traced_end,
+)
+from tests.squeak_image import find_image
 
-sys.path.insert(0, os.path.join(compare.ROOT, "tests"))
-
-import scratch
-from object_memory import CONTEXT_INDEXES, WEAK, Image, compact_index, format_of, has_bytes, traced_end
-
-MIB = 4
+SIZE = 4 * MIB
 KINDS = ("pointers", "contexts", "weak", "words", "bytes", "methods")
 
 
 def kind_of(header):
-    """What an object with this base header is."""
+    """The kind of an object with this base header."""
     kind = format_of(header)
     if kind == 3 and compact_index(header) in CONTEXT_INDEXES:
         return "contexts"
@@ -42,7 +47,7 @@ def percent(part, whole):
 
 
 def of_sizes(image):
-    """Lines of what headers and objects have."""
+    """Rows about headers and sizes of objects."""
     headers = collections.Counter(it.base - it.first + 1 for it in image.objects)
     for words in (1, 2, 3):
         yield f"headers of {words} words", percent(headers[words], len(image.objects))
@@ -54,7 +59,7 @@ def of_sizes(image):
 
 
 def of_kinds(image):
-    """Lines of how many objects are of each kind, and how many of the words."""
+    """Rows about the share of each kind in objects and in words."""
     objects, words = collections.Counter(), collections.Counter()
     for it in image.objects:
         kind = kind_of(image.words[it.base])
@@ -66,11 +71,13 @@ def of_kinds(image):
 
 
 def of_pointers(image):
-    """Lines of what traced fields hold, and of how far pointers go."""
+    """Rows about what traced fields hold, and how far pointers go."""
     traced = sum(traced_end(image.words, it) - it.base - 1 for it in image.objects)
     objects, nil = image.objects, image.field(image.special, 0)
     fields = [it for it in image.pointers if it.place > objects[it.owner].base]
-    far = [4 * (objects[it.named].base - objects[it.owner].base) for it in fields if it.named != nil]
+    far = [
+        4 * (objects[it.target].base - objects[it.owner].base) for it in fields if it.target != nil
+    ]
     yield "traced, of words", percent(traced, len(image.words))
     yield "pointers, of traced", percent(len(fields), traced)
     yield "nil, of traced", percent(len(fields) - len(far), traced)
@@ -83,10 +90,9 @@ def of_pointers(image):
             yield f"{name}, percentile {part}", f"{distances[len(distances) * part // 100]:,} bytes"
 
 
-def lines_of(path):
-    """What is measured of an image."""
-    with open(path, "rb") as file:
-        image = Image.read(file.read())[0].compacted()
+def rows_of(path):
+    """What is measured of an image, by the name of the row."""
+    image = Image.read(path.read_bytes())[0].compacted()
     return {
         "bytes of data": f"{image.header[2]:,}",
         "objects": f"{len(image.objects):,}",
@@ -98,17 +104,17 @@ def lines_of(path):
 
 def main():
     with tempfile.TemporaryDirectory() as folder:
-        path = sys.argv[1] if len(sys.argv) > 1 else scratch.find_image(folder)
+        path = pathlib.Path(sys.argv[1]) if len(sys.argv) > 1 else find_image(folder)
         if path is None:
-            return 1
-        columns = {"image": lines_of(path)}
+            return "name an image, or install the package scratch"
+        columns = {"image": rows_of(path)}
         for part in ("mixed", "fitted"):
-            made = os.path.join(folder, part)
-            compare.make_image(made, MIB * compare.MIB, compare.PARTS[part])
-            columns[part] = lines_of(made)
+            generated = pathlib.Path(folder, part)
+            make_image(generated, SIZE, part)
+            columns[part] = rows_of(generated)
     print(f"{'':30}" + "".join(f" {name:>18}" for name in columns))
     for name in columns["image"]:
-        print(f"{name:30}" + "".join(f" {lines[name]:>18}" for lines in columns.values()))
+        print(f"{name:30}" + "".join(f" {rows[name]:>18}" for rows in columns.values()))
     return 0
 
 

@@ -1,18 +1,16 @@
-#!/usr/bin/env python3
 """Draws a small image and what it is compacted to, word by word, as an SVG on standard output.
 
-Usage: docs/draw_compaction.py [IN OUT] >compaction.svg
+Usage: python3 -m docs.draw_compaction [IN OUT] >docs/compaction.svg
 
-Where no image is named it is one of nil, a dead array, two free words, and the special objects array.
+If no image is named, it has nil, a dead array, two free words, and the special objects array.
 """
 
 import array
-import os
+import pathlib
 import sys
 
-sys.path.insert(0, os.path.join(os.path.dirname(os.path.dirname(os.path.realpath(__file__))), "tests"))
-
-from object_memory import Image, traced_end
+from tests.image_format import image_file
+from tests.object_memory import Image, traced_end
 
 # The place of the first word, and a word's width and height; the tops of the two rows; and the picture's height.
 LEFT, WIDE, HIGH = 70, 80, 34
@@ -78,7 +76,7 @@ def draw_object(image, number, is_live, top):
 
 def arc(image, pointer, top):
     """An arrow from a field to the object that it points to, above the words of the first row and below those of the second."""
-    begin, end = middle(pointer.place) + 24, middle(image.objects[pointer.named].first) + 28
+    begin, end = middle(pointer.place) + 24, middle(image.objects[pointer.target].first) + 28
     edge, far = (top - 3, top - 56) if top == TOPS[0] else (top + HIGH + 3, top + HIGH + 72)
     return (
         f'<path d="M{begin} {edge} C{begin} {far} {end} {far} {end} {edge}" fill="none" stroke="{LIVE}" '
@@ -128,16 +126,11 @@ def draw(before, after):
 
 
 def main():
-    images = []
-    for path in sys.argv[1:3]:
-        with open(path, "rb") as file:
-            images.append(Image.read(file.read())[0])
-    if not images:
-        special = BASE + 4 * (len(WORDS) - 2)
-        header = array.array("I", [6502, 64, 4 * len(WORDS), BASE, special, *[0] * 11])
-        image = Image(header, array.array("I", WORDS))
-        images = [image, image.compacted()]
-    print("\n".join(draw(*images)))
+    files = [pathlib.Path(path).read_bytes() for path in sys.argv[1:3]]
+    if not files:
+        files = [image_file(array.array("I", WORDS), BASE + 4 * (len(WORDS) - 2), base=BASE)]
+    images = [Image.read(file)[0] for file in files]
+    print("\n".join(draw(images[0], images[1] if len(images) > 1 else images[0].compacted())))
 
 
 if __name__ == "__main__":

@@ -1,12 +1,14 @@
-/* Makes an image of any size, and beside it what it is compacted to.
+/* Makes an image of any size, and what it is compacted to.
  *
  * Usage: make_large BYTES BASE IMAGE ANSWER
  *
- * The data have so many bytes, of which BASE is the first address. Behind nil and the special objects array come frames
- * of 64 words, each with the same chunks: an object with a class word, a dead array, an array, a byte object, a free chunk and
- * an object with three header words. The first object of a frame names that of the next frame and the others of its own, so
- * that all but the dead arrays are reachable. Other fields name objects near and far, or are integers. A free chunk fills what is left
- * behind the last frame. Both files are little-endian. */
+ * The data have so many bytes, and BASE is their first address. After nil and the special
+ * objects array come frames of 64 words, each with the same chunks: an object with a class word,
+ * a dead array, an array, a byte object, a free chunk and an object with three header words. The
+ * first object of a frame points to that of the next frame and to the others of its own, so that
+ * all but the dead arrays are reachable. Other fields point to objects near and far, or are
+ * SmallIntegers. A free chunk fills what is left after the last frame. Both files are
+ * little-endian. */
 #include <stdint.h>
 #include <stdio.h>
 #include <stdlib.h>
@@ -14,11 +16,12 @@
 enum { CLASSED, DEAD, ARRAY, BYTES, FREE, LARGE, KINDS };
 enum { HEADER_WORDS = 16, FIRST_WORDS = 4, NEAR = 50, FRAMES_OF_A_CLASS = 500 };
 
-/* Of each kind of chunk: its words, and how many of them are header words. */
+/* The words of each kind of chunk, and how many of them are header words. */
 static const uint32_t lengths[KINDS] = {8, 12, 10, 12, 5, 17};
 static const uint32_t headers[KINDS] = {2, 1, 1, 1, 1, 3};
 
-/* An image that is written: its file, the address of its first data word, its frames, and whether it has what is dead. */
+/* An image that is written: its file, the address of its first data word, its frames, and
+ * whether it has the dead chunks. */
 typedef struct {
   FILE *file;
   uint32_t base;
@@ -42,7 +45,7 @@ static uint32_t address(const image *it, uint32_t frame, int kind) {
   return it->base + 4 * (first + headers[kind] - 1);
 }
 
-/* A number that is the same each time, of a word of a chunk of a frame. */
+/* A number for a word of a chunk of a frame, the same in each run. */
 static uint64_t mixed(uint32_t frame, int kind, uint32_t word) {
   uint64_t it = ((uint64_t)frame << 16 | (uint64_t)kind << 8 | word) + 0x9E3779B97F4A7C15u;
   it = (it ^ it >> 30) * 0xBF58476D1CE4E5B9u;
@@ -50,19 +53,20 @@ static uint64_t mixed(uint32_t frame, int kind, uint32_t word) {
   return it ^ it >> 31;
 }
 
-/* An integer, or the address of an object: one in ten of these is anywhere. Live objects name live ones alone. */
+/* A SmallInteger, or the address of an object: one in ten of these is anywhere. Live objects
+ * point to live objects alone. */
 static uint32_t field(const image *it, uint32_t frame, int kind, uint32_t word) {
   static const int live[] = {CLASSED, ARRAY, BYTES, LARGE, DEAD};
   uint64_t number = mixed(frame, kind, word);
   uint32_t other = (uint32_t)(number >> 32);
   if (number % 10 < 4)
     return other | 1;
-  int named = live[number / 10 % (kind == DEAD ? 5 : 4)];
+  int target = live[number / 10 % (kind == DEAD ? 5 : 4)];
   if (number / 64 % 10 == 0)
-    return address(it, other % it->frames, named);
+    return address(it, other % it->frames, target);
   uint32_t lowest = frame < NEAR ? 0 : frame - NEAR;
   uint32_t highest = it->frames - frame <= NEAR ? it->frames - 1 : frame + NEAR;
-  return address(it, lowest + other % (highest - lowest + 1), named);
+  return address(it, lowest + other % (highest - lowest + 1), target);
 }
 
 static void put(const image *it, uint32_t word) {
@@ -73,7 +77,8 @@ static void put(const image *it, uint32_t word) {
   }
 }
 
-/* The header words of a chunk: the size, where it has three, its class, where it has two, and the base header. */
+/* The header words of a chunk: the size if it has three, its class if it has two or three, and the
+ * base header. */
 static void put_headers(const image *it, uint32_t frame, int kind) {
   static const uint32_t types[] = {0, 3, 1, 0};
   static const uint32_t formats[KINDS] = {1, 2, 2, 8, 0, 2};
@@ -86,10 +91,12 @@ static void put_headers(const image *it, uint32_t frame, int kind) {
     put(it, 4 * size | type);
   if (headers[kind] >= 2)
     put(it, address(it, frame - frame % FRAMES_OF_A_CLASS, CLASSED) | type);
-  put(it, (uint32_t)(mixed(frame, kind, 0) & 0xFFF) << 17 | 3 << 12 | formats[kind] << 8 | (headers[kind] == 3 ? 0 : size << 2) | type);
+  uint32_t hash = mixed(frame, kind, 0) & 0xFFF, sized = headers[kind] == 3 ? 0 : size << 2;
+  put(it, hash << 17 | 3 << 12 | formats[kind] << 8 | sized | type);
 }
 
-/* What the first object of a frame names: that of the next frame, and the live ones of its own. */
+/* What the first object of a frame points to: that of the next frame, and the live ones of its
+ * own. */
 static uint32_t linked(const image *it, uint32_t frame, uint32_t field) {
   static const int own[] = {ARRAY, BYTES, LARGE};
   if (field > 0)
@@ -145,7 +152,8 @@ int main(int count, char **words) {
     fprintf(stderr, "usage: make_large BYTES BASE IMAGE ANSWER\n");
     return 2;
   }
-  uint32_t data = (uint32_t)(strtoull(words[1], NULL, 0) / 4), base = (uint32_t)strtoull(words[2], NULL, 0);
+  uint32_t data = (uint32_t)(strtoull(words[1], NULL, 0) / 4);
+  uint32_t base = (uint32_t)strtoull(words[2], NULL, 0);
   image whole = {NULL, base, 0, 1};
   uint32_t frames = (data - FIRST_WORDS) / words_below(&whole, KINDS);
   uint32_t rest = (data - FIRST_WORDS) % words_below(&whole, KINDS);

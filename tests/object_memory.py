@@ -1,43 +1,39 @@
-"""Reads images as docs/FORMAT.md says, without the program: their objects and pointers, what is live, what an image is compacted
-to, and its census. It takes images that have no fault; what is dead in them may have any words."""
+"""Parses images as docs/FORMAT.md says, independently of the programs: objects, pointers, what is
+live, what an image is compacted to, and its class histogram. Images must have no fault; dead
+objects may hold any words."""
 
 import array
 import collections
 import functools
-import sys
+import typing
 
-from made import HEADER_WORDS, Row, report
+from tests.image_format import HEADER_WORDS, PREFIX, VERSION, bytes_of, image_file, words_of
+from tests.made_images import Row, report
 
-VERSION = 6502
-PREFIX = 512
-# An object, counted in data words: where its header begins, its base header, and where it ends.
-Object = collections.namedtuple("Object", "first base end")
-# A slot that names an object: its data word, the number of the object that it is of, and that of the one it names.
-Pointer = collections.namedtuple("Pointer", "place owner named")
 CONTEXT_INDEXES = (13, 14)
 WEAK = 4
-# The field of the special objects array that names the compact classes, and the fields of a class.
+# The field of the special objects array that points to the compact classes, and the fields of a
+# class.
 COMPACT_CLASSES = 28
 LAYOUT, INSTANCE, NAME = 2, 5, 6
-# So many bytes of a name are printed.
-LONGEST = 40
+# At most so many bytes of a name are printed.
+LONGEST_NAME = 40
 
 
-def words_of(data, order):
-    """The words of these bytes."""
-    words = array.array("I")
-    words.frombytes(data)
-    if sys.byteorder != order:
-        words.byteswap()
-    return words
+class Object(typing.NamedTuple):
+    """Data words of an object: the first of its header, its base header, and its end."""
+
+    first: int
+    base: int
+    end: int
 
 
-def bytes_of(words, order):
-    """The bytes of these words."""
-    if sys.byteorder != order:
-        words = words[:]
-        words.byteswap()
-    return words.tobytes()
+class Pointer(typing.NamedTuple):
+    """A slot that points to an object: its data word, and the numbers of owner and target."""
+
+    place: int
+    owner: int
+    target: int
 
 
 def objects_of(words):
@@ -64,12 +60,12 @@ def compact_index(header):
 
 
 def has_bytes(header):
-    """Whether this base header is that of a byte object."""
+    """Whether this is the base header of a byte object."""
     return 8 <= format_of(header) <= 11
 
 
 def traced_end(words, it):
-    """The data word behind the traced fields of an object."""
+    """The data word after the traced fields of an object."""
     header, first = words[it.base], it.base + 1
     end = it.end
     if format_of(header) >= 12:
@@ -82,7 +78,7 @@ def traced_end(words, it):
 
 
 class Image:
-    """An image: the bytes before its header, the order of the bytes in its words, its header, and its data words."""
+    """An image: header, data words, their byte order in the file, and the bytes before it."""
 
     def __init__(self, header, words, order="little", prefix=b""):
         self.header, self.words, self.order, self.prefix = header, words, order, prefix
@@ -90,19 +86,29 @@ class Image:
 
     @classmethod
     def read(cls, file):
-        """The image of a file, and the bytes behind its data."""
-        for begin in (0, PREFIX):
+        """The image of a file, and the bytes after its data."""
+        for begin in (0, len(PREFIX)):
             for order in ("little", "big"):
                 if file[begin : begin + 4] == VERSION.to_bytes(4, order):
                     header = words_of(file[begin : begin + 4 * HEADER_WORDS], order)
                     data = begin + 4 * HEADER_WORDS
                     end = data + header[2]
-                    return cls(header, words_of(file[data:end], order), order, file[:begin]), file[end:]
+                    return (
+                        cls(header, words_of(file[data:end], order), order, file[:begin]),
+                        file[end:],
+                    )
         raise ValueError("no image of this version")
 
     def file(self, prefix=None):
-        """The bytes of the file, behind these bytes where some are given."""
-        return (self.prefix if prefix is None else prefix) + bytes_of(self.header + self.words, self.order)
+        """The file, after these bytes, or else after those that it was read with."""
+        return image_file(
+            self.words,
+            self.header[4],
+            base=self.base,
+            order=self.order,
+            prefix=self.prefix if prefix is None else prefix,
+            rest=self.header[5:],
+        )
 
     def address(self, it):
         return self.base + 4 * it.base
@@ -123,7 +129,7 @@ class Image:
 
     @functools.cached_property
     def pointers(self):
-        """All slots that name objects, in order."""
+        """All slots that point to objects, in order."""
         found, words, numbers = [], self.words, self.numbers
         for owner, it in enumerate(self.objects):
             if it.base > it.first:
@@ -131,10 +137,10 @@ class Image:
             for place in range(it.base + 1, traced_end(words, it)):
                 if not words[place] & 1:
                     found.append(Pointer(place, owner, numbers.get(words[place])))
-        return [it for it in found if it.named is not None]
+        return [it for it in found if it.target is not None]
 
     def field(self, number, field):
-        """The number of the object that a field names; None where the object has no such field, or an integer there."""
+        """The number of the object that a field points to, if it exists and is no SmallInteger."""
         place = self.objects[number].base + 1 + field
         if place >= traced_end(self.words, self.objects[number]):
             return None
@@ -144,7 +150,7 @@ class Image:
         return self.words[self.objects[number].base]
 
     def class_of(self, number):
-        """The number of an object's class; None where it has none."""
+        """The number of an object's class, if it has one."""
         it = self.objects[number]
         if it.base > it.first:
             return self.numbers[self.words[it.base - 1] & ~3]
@@ -154,41 +160,50 @@ class Image:
         return self.field(compact_classes, compact_index(self.words[it.base]) - 1)
 
     def first_weak(self, number):
-        """The data word of an object's first weak field; None where it is not weak."""
+        """The data word of an object's first weak field, if it is a weak object."""
         if format_of(self.header_of(number)) != WEAK:
             return None
         layout = self.words[self.objects[self.class_of(number)].base + 1 + LAYOUT]
         return self.objects[number].base + (layout >> 17 & 3) * 64 + (layout >> 2 & 63)
 
+    def strong_pointers(self, clear_weak=False):
+        """All pointers, or if weak references are cleared, those that are not weak."""
+        if not clear_weak:
+            return self.pointers
+        weak = [self.first_weak(number) for number in range(len(self.objects))]
+        return [it for it in self.pointers if weak[it.owner] is None or it.place < weak[it.owner]]
+
     def live(self, clear_weak=False):
-        """Which objects are reachable, where weak slots are cleared or are not."""
-        named, weak = [[] for _ in self.objects], [None] * len(self.objects)
-        if clear_weak:
-            weak = [self.first_weak(number) for number in range(len(self.objects))]
-        for place, owner, target in self.pointers:
-            if weak[owner] is None or place < weak[owner]:
-                named[owner].append(target)
+        """For each object whether it is reachable, if weak references are cleared or are not."""
+        targets = [[] for _ in self.objects]
+        for pointer in self.strong_pointers(clear_weak):
+            targets[pointer.owner].append(pointer.target)
         found, left = [False] * len(self.objects), [self.special]
         while left:
             number = left.pop()
             if not found[number]:
                 found[number] = True
-                left.extend(named[number])
+                left.extend(targets[number])
         return found
 
     def laid_out(self, firsts, size):
-        """This image in so many words, where objects begin at these; those that begin at None are left out, and what names them
-        names nil."""
-        shifts = [None if first is None else first - it.first for it, first in zip(self.objects, firsts)]
-        addresses = [0 if shift is None else self.address(it) + 4 * shift for it, shift in zip(self.objects, shifts)]
+        """The header and the data words of this image in `size` words, with objects at these words.
+
+        An object at None is left out, and pointers to it then point to nil."""
+        objects = self.objects
+        shifts = [None if at is None else at - it.first for it, at in zip(objects, firsts)]
+        addresses = [
+            0 if shift is None else self.address(it) + 4 * shift
+            for it, shift in zip(objects, shifts)
+        ]
         nil = addresses[self.field(self.special, 0)]
         words = array.array("I", bytes(4 * size))
         for it, first in zip(self.objects, firsts):
             if first is not None:
                 words[first : first + it.end - it.first] = self.words[it.first : it.end]
-        for place, owner, named in self.pointers:
+        for place, owner, target in self.pointers:
             if shifts[owner] is not None:
-                words[place + shifts[owner]] = (addresses[named] or nil) | self.words[place] & 3
+                words[place + shifts[owner]] = (addresses[target] or nil) | self.words[place] & 3
         header = self.header[:]
         header[2], header[4] = 4 * size, addresses[self.special]
         return header, words
@@ -202,8 +217,10 @@ class Image:
         return Image(*self.laid_out(firsts, at), self.order, self.prefix)
 
     def in_other_order(self):
-        """This image as a machine of the other byte order saves it: the words of byte objects, and those behind the literals of
-        methods, are the same bytes, and all other words the same words."""
+        """This image as a machine of the other byte order saves it.
+
+        Byte objects, and what follows the literals of a method, keep their bytes; the rest, its
+        words."""
         words = self.words[:]
         for it in self.objects:
             if format_of(words[it.base]) >= 8:
@@ -213,7 +230,7 @@ class Image:
         return Image(self.header, words, "big" if self.order == "little" else "little", self.prefix)
 
     def text(self, number):
-        """The bytes of a byte object; None where it is none."""
+        """The bytes of an object, if it is a byte object."""
         if number is None or not has_bytes(self.header_of(number)):
             return None
         it = self.objects[number]
@@ -221,31 +238,37 @@ class Image:
         return data[: max(0, len(data) - (format_of(self.header_of(number)) - 8))]
 
     def name(self, number):
-        """The name of a class, as it is printed."""
+        """The name of a class, as the programs print it."""
         text, suffix = self.text(self.field(number, NAME)), ""
         if text is None:
             instance = self.field(number, INSTANCE)
-            text, suffix = None if instance is None else self.text(self.field(instance, NAME)), " class"
+            text, suffix = (
+                None if instance is None else self.text(self.field(instance, NAME)),
+                " class",
+            )
         if text is None:
             return "?"
-        return "".join(chr(byte) if 32 <= byte <= 126 else "?" for byte in text[:LONGEST]) + suffix
+        return (
+            "".join(chr(byte) if 32 <= byte <= 126 else "?" for byte in text[:LONGEST_NAME])
+            + suffix
+        )
 
     def rows(self):
-        """The lines of the census of an image of which all objects are live, in no order."""
-        sums = collections.Counter()
-        sizes = collections.Counter()
+        """The rows of the class histogram, in no order, if all objects are live."""
+        objects, sizes = collections.Counter(), collections.Counter()
         for number, it in enumerate(self.objects):
             a_class = self.class_of(number)
             key = (a_class, compact_index(self.words[it.base]) if a_class is None else None)
-            sums[key] += 1
+            objects[key] += 1
             sizes[key] += 4 * (it.end - it.first)
-        return [
-            Row(sums[key], sizes[key], None, key[1], None)
-            if key[0] is None
-            else Row(sums[key], sizes[key], self.address(self.objects[key[0]]), None, self.name(key[0]))
-            for key in sums
-        ]
+        return [self.row(*key, objects[key], sizes[key]) for key in objects]
+
+    def row(self, a_class, compact, objects, size):
+        """The row of a class, or if this is None, of a compact index."""
+        if a_class is None:
+            return Row(objects, size, None, compact, None)
+        return Row(objects, size, self.address(self.objects[a_class]), None, self.name(a_class))
 
     def census(self):
-        """The text of that census."""
+        """The text of the class histogram, if all objects are live."""
         return report(self.rows())

@@ -23,7 +23,7 @@ use Rattle.sqz_trace.specs.Reachability.{IsReachability}
 use Rattle.sqz_trace.specs.Defects.{first_defect, lacks_nil}
 use Rattle.sqz_tool.specs.Verdict.{IsRefused}
 use Rattle.sqz_tool.specs.Compacted.{compacted}
-use Rattle.sqz_examples.specs.Worked.{CompactsTo}
+use Rattle.sqz_examples.specs.Worked.{chunks_among, CompactsTo}
 use Rattle.sqz_examples.proofs.TracingTest.{marks_of, is_tracing, is_tracing-true, is_tracing-special}
 
 -- ---- chunks
@@ -73,8 +73,12 @@ IsReadAs file order words =
 
 -- ---- files whose words are chunks
 
-module _ (file : List ℕ) (order : Order) (chunks : List (List ℕ)) where
-  -- the image in the file, with these chunks
+module _ (file : List ℕ) (order : Order) where
+  -- the chunks of its data, at most 99
+  abbrev pub chunks : List (List ℕ)
+  chunks = chunks_among 99 (data_of order (image_bytes file))
+
+  -- the image in the file
   abbrev pub image_in : SavedImage
   image_in =
       let header = header_of order (image_bytes file) in
@@ -123,50 +127,50 @@ module _ (file : List ℕ) (order : Order) (chunks : List (List ℕ)) where
       })
 
 -- the file holds that image, and its reachable objects are those that have a path here
-record IsTraced (weak : Weak) (file : List ℕ) (order : Order) (chunks : List (List ℕ)) (paths : List (Option (List ℕ))) : Type 0 where
-  holds : Holds file (image_in file order chunks)
-  reachable : IsReachability (image_in file order chunks).memory weak (marks_of paths)
+record IsTraced (weak : Weak) (file : List ℕ) (order : Order) (paths : List (Option (List ℕ))) : Type 0 where
+  holds : Holds file (image_in file order)
+  reachable : IsReachability (image_in file order).memory weak (marks_of paths)
 
 -- by what computes
-IsTraced-computed : (weak : Weak) (file : List ℕ) (order : Order) (chunks : List (List ℕ)) (paths : List (Option (List ℕ)))
-    → IsReadAs file order (concat chunks) → list_all is_chunk chunks ≡ true
-    → is_tracing (image_in file order chunks).memory weak paths ≡ true → IsTraced weak file order chunks paths
-IsTraced-computed weak file order chunks paths read each tracing =
-    let memory = (image_in file order chunks).memory in
+IsTraced-computed : (weak : Weak) (file : List ℕ) (order : Order) (paths : List (Option (List ℕ)))
+    → IsReadAs file order (concat (chunks file order)) → list_all is_chunk (chunks file order) ≡ true
+    → is_tracing (image_in file order).memory weak paths ≡ true → IsTraced weak file order paths
+IsTraced-computed weak file order paths read each tracing =
+    let memory = (image_in file order).memory in
     let special = is_tracing-special memory weak paths tracing in
     record {
-      holds = record { parts = HasChunks-computed file order chunks read each; special = special };
+      holds = record { parts = HasChunks-computed file order read each; special = special };
       reachable = is_tracing-true memory weak paths tracing;
     }
 
 -- where no reachable object has a defect, the file is compacted
-pub CompactsTo-computed : (weak : Weak) (file : List ℕ) (order : Order) (answer : List ℕ) (chunks : List (List ℕ))
+pub CompactsTo-computed : (weak : Weak) (file : List ℕ) (order : Order) (answer : List ℕ)
     (paths : List (Option (List ℕ)))
-    → IsReadAs file order (concat chunks) → list_all is_chunk chunks ≡ true
-    → lacks_nil (image_in file order chunks).memory weak ≡ false
-    → is_tracing (image_in file order chunks).memory weak paths ≡ true
-    → first_defect (image_in file order chunks).memory weak (marks_of paths) ≡ None
-    → file_bytes (compacted (image_in file order chunks) weak (marks_of paths)) ≡ answer → CompactsTo weak file answer
-CompactsTo-computed weak file order answer chunks paths read each has_nil tracing sound bytes =
-    let traced = IsTraced-computed weak file order chunks paths read each tracing in
+    → IsReadAs file order (concat (chunks file order)) → list_all is_chunk (chunks file order) ≡ true
+    → lacks_nil (image_in file order).memory weak ≡ false
+    → is_tracing (image_in file order).memory weak paths ≡ true
+    → first_defect (image_in file order).memory weak (marks_of paths) ≡ None
+    → file_bytes (compacted (image_in file order) weak (marks_of paths)) ≡ answer → CompactsTo weak file answer
+CompactsTo-computed weak file order answer paths read each has_nil tracing sound bytes =
+    let traced = IsTraced-computed weak file order paths read each tracing in
     record {
-      image = image_in file order chunks;
+      image = image_in file order;
       marks = marks_of paths;
       accepted = record { holds = traced.holds; has_nil = has_nil; reachable = traced.reachable; sound = sound };
       bytes = bytes;
     }
 
 -- where one has, the file is refused for the first
-pub IsRefused-for_defect : (weak : Weak) (file : List ℕ) (order : Order) (fault : Fault) (chunks : List (List ℕ))
+pub IsRefused-for_defect : (weak : Weak) (file : List ℕ) (order : Order) (fault : Fault)
     (paths : List (Option (List ℕ)))
-    → IsReadAs file order (concat chunks) → list_all is_chunk chunks ≡ true
-    → lacks_nil (image_in file order chunks).memory weak ≡ false
-    → is_tracing (image_in file order chunks).memory weak paths ≡ true
-    → first_defect (image_in file order chunks).memory weak (marks_of paths) ≡ Some fault → IsRefused weak file fault
-IsRefused-for_defect weak file order fault chunks paths read each has_nil tracing defect =
-    let traced = IsTraced-computed weak file order chunks paths read each tracing in
+    → IsReadAs file order (concat (chunks file order)) → list_all is_chunk (chunks file order) ≡ true
+    → lacks_nil (image_in file order).memory weak ≡ false
+    → is_tracing (image_in file order).memory weak paths ≡ true
+    → first_defect (image_in file order).memory weak (marks_of paths) ≡ Some fault → IsRefused weak file fault
+IsRefused-for_defect weak file order fault paths read each has_nil tracing defect =
+    let traced = IsTraced-computed weak file order paths read each tracing in
     inr (inr record {
-      image = image_in file order chunks;
+      image = image_in file order;
       marks = marks_of paths;
       holds = traced.holds;
       has_nil = has_nil;
@@ -214,25 +218,13 @@ IsRefused-at_chunk weak file order chunks word rest reason read each fault =
       };
     }))
 
--- ---- the chunks of images that are worked twice
+-- ---- the paths of images that are worked twice
 
--- the object before the last is a context with this stack pointer
-abbrev pub with_stack_pointer : ℕ → List (List ℕ)
-with_stack_pointer pointer =
-    (0x1007 ∷ []) ∷ (0x100B ∷ 1 ∷ []) ∷ (0x100B ∷ 1 ∷ []) ∷ (0x100B ∷ 1 ∷ []) ∷
-    (0xD32F ∷ 0x1000 ∷ 1 ∷ pointer ∷ 0x1000 ∷ 0x1000 ∷ 0x1000 ∷ 0x100C ∷ 0x1014 ∷ 2 ∷ 0xFFFFFFFE ∷ []) ∷
-    (0x320F ∷ 0x1000 ∷ 0x101C ∷ []) ∷ []
-
--- and of its stack two objects are reachable
+-- of the stack of a context two objects are reachable
 abbrev pub paths_by_stack : List (Option (List ℕ))
 paths_by_stack =
     (Some (0 ∷ [])) ∷ None ∷ (Some (4 ∷ 2 ∷ [])) ∷ (Some (4 ∷ 3 ∷ [])) ∷ (Some (4 ∷ [])) ∷ (Some []) ∷ []
 
--- a weak object with a slot that points to an object to which no other slot points
-abbrev pub with_weak_slot : List (List ℕ)
-with_weak_slot =
-    (0x1007 ∷ []) ∷ (0x1113 ∷ 1 ∷ 1 ∷ 0x405 ∷ []) ∷ (0x100B ∷ 1 ∷ []) ∷ (0x1005 ∷ 0x409 ∷ 0x1014 ∷ []) ∷
-    (0x320F ∷ 0x1000 ∷ 0x1020 ∷ []) ∷ []
-
+-- the paths to the objects of a weak object whose slot alone points to an object
 abbrev pub paths_by_strong_slots : List (Option (List ℕ))
 paths_by_strong_slots = (Some (0 ∷ [])) ∷ (Some (3 ∷ 1 ∷ [])) ∷ None ∷ (Some (3 ∷ [])) ∷ (Some []) ∷ []

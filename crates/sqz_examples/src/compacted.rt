@@ -1,322 +1,354 @@
 //! Images that are accepted, and their compactions.
-//!
-//! An image is given by its data words, chunk after chunk, and by the address of its special
-//! objects array. Its first object is usually `0x1007`, which is nil and one word long. `0x320B`
-//! and `0x320F` are the headers of arrays of one and of two fields, and a field `1` is the
-//! SmallInteger 0.
 
-ghost use Rattle.std.specs.Prelude.{[], ◌∷◌, ◌++◌, replicate};
-ghost use Rattle.sqz_object.specs.declared.order.Order.TheVariants.{Little, Big};
 ghost use Rattle.sqz_trace.specs.declared.weak.Weak.TheVariants.{Keep};
-ghost use Rattle.sqz_examples.specs.Worked.{file_at, file_of, CompactsTo};
+ghost use Rattle.sqz_fixtures.specs.Files.{image_bytes_of, file_bytes_of};
+ghost use Rattle.sqz_examples.specs.Worked.{CompactsTo};
+
+use sqz_fixtures::accepted::{
+    BIG_ENDIAN, DEAD_ARRAY, DEAD_BAD_CONTEXT, DEAD_BAD_METHOD, DEAD_BAD_POINTER, DEAD_CYCLE,
+    DEAD_WITHOUT_CLASS, FREE_CHUNK, FREE_CHUNK_LAST, FREE_WORD, HIGHEST_BASE, INTEGERS,
+    LARGEST_SHORT_OBJECT, NIL_ALONE, SPECIAL_ARRAY_ALONE, THREE_WORD_HEADER, UPPER_HEADER_BITS,
+};
+use sqz_fixtures::answers::{
+    BIG_ENDIAN_ANSWER, BIG_ENDIAN_BYTES_ANSWER, CLASS_EDGE_ANSWER,
+    CLASS_EDGE_OF_THREE_WORDS_ANSWER, DEAD_CYCLE_ANSWER, HIGHEST_BASE_ANSWER,
+    THREE_WORD_HEADER_ANSWER,
+};
+use sqz_fixtures::answers_of_formats::{
+    CONTEXT_STACK_ANSWER, CONTEXT_WITH_CLASS_WORD_ANSWER, LITERALS_ALONE_ANSWER,
+    METHOD_LITERALS_ANSWER, TRACED_FORMATS_ANSWER, UNTRACED_FORMATS_ANSWER,
+};
+use sqz_fixtures::with_classes::{
+    BIG_ENDIAN_BYTES, CLASS_EDGE, CLASS_EDGE_OF_THREE_WORDS, CLASS_NAMES,
+};
+use sqz_fixtures::with_formats::{
+    CONTEXT_STACK, CONTEXT_WITH_CLASS_WORD, CONTEXT_WITHOUT_STACK_POINTER, LIKE_CONTEXTS,
+    LITERALS_ALONE, LOWEST_METHOD_FORMAT, METHOD_LITERALS, METHODS_WITHOUT_LITERALS,
+    TRACED_FORMATS, UNTRACED_FORMATS,
+};
+use sqz_fixtures::with_other_bytes::BYTES_AFTER_DATA;
+use sqz_fixtures::with_weak_objects::WEAK_FIELDS;
+use sqz_fixtures::{Compaction, TestFile, TestImage};
 
 /// A dead array is dropped, and what follows it moves down.
-fn dead_array()
-    ensures { CompactsTo Keep
-        (file_of Little (0x1007 ∷ 0x320F ∷ 1 ∷ 1 ∷ 0x320B ∷ 0x1000 ∷ []) 0x1010)
-        (file_of Little (0x1007 ∷ 0x320B ∷ 0x1000 ∷ []) 0x1004) }
-{}
+fn dead_array() -> Compaction
+    ensures { CompactsTo Keep (image_bytes_of result.image) (image_bytes_of result.answer) }
+{
+    Compaction {
+        image: DEAD_ARRAY,
+        answer: NIL_ALONE,
+    }
+}
 
 /// The compaction of a big-endian file is big-endian.
-fn big_endian()
-    ensures { CompactsTo Keep
-        (file_of Big (0x1007 ∷ 0x320F ∷ 1 ∷ 1 ∷ 0x320B ∷ 0x1000 ∷ []) 0x1010)
-        (file_of Big (0x1007 ∷ 0x320B ∷ 0x1000 ∷ []) 0x1004) }
-{}
+fn big_endian() -> Compaction
+    ensures { CompactsTo Keep (image_bytes_of result.image) (image_bytes_of result.answer) }
+{
+    Compaction {
+        image: BIG_ENDIAN,
+        answer: BIG_ENDIAN_ANSWER,
+    }
+}
 
 /// Bytes after the data are dropped.
-fn bytes_after_data()
-    ensures { CompactsTo Keep
-        (file_of Little (0x1007 ∷ 0x320B ∷ 0x1000 ∷ []) 0x1004 ++ 1 ∷ 2 ∷ 3 ∷ 4 ∷ 5 ∷ [])
-        (file_of Little (0x1007 ∷ 0x320B ∷ 0x1000 ∷ []) 0x1004) }
-{}
+fn bytes_after_data() -> (TestFile, TestImage)
+    ensures { CompactsTo Keep (file_bytes_of result.0) (image_bytes_of result.1) }
+{
+    (BYTES_AFTER_DATA, NIL_ALONE)
+}
 
 /// A free chunk is dropped.
-fn free_chunk()
-    ensures { CompactsTo Keep
-        (file_of Little (0x1007 ∷ 0xE ∷ 1 ∷ 1 ∷ 0x320B ∷ 0x1000 ∷ []) 0x1010)
-        (file_of Little (0x1007 ∷ 0x320B ∷ 0x1000 ∷ []) 0x1004) }
-{}
+fn free_chunk() -> Compaction
+    ensures { CompactsTo Keep (image_bytes_of result.image) (image_bytes_of result.answer) }
+{
+    Compaction {
+        image: FREE_CHUNK,
+        answer: NIL_ALONE,
+    }
+}
 
 /// The data may reach up to the last address, and their words may be the highest addresses.
-fn highest_base()
-    ensures { let file = file_at Little 0xFFFFFFE8
-        (0x1007 ∷ 0x320F ∷ 1 ∷ 1 ∷ 0x320B ∷ 0xFFFFFFE8 ∷ [])
-        0xFFFFFFF8 in
-        let answer = file_at Little 0xFFFFFFE8 (0x1007 ∷ 0x320B ∷ 0xFFFFFFE8 ∷ []) 0xFFFFFFEC in
-        CompactsTo Keep file answer }
-{}
+fn highest_base() -> Compaction
+    ensures { CompactsTo Keep (image_bytes_of result.image) (image_bytes_of result.answer) }
+{
+    Compaction {
+        image: HIGHEST_BASE,
+        answer: HIGHEST_BASE_ANSWER,
+    }
+}
 
 /// A bad pointer in a dead array is not a fault.
-fn dead_bad_pointer()
-    ensures { CompactsTo Keep
-        (file_of Little (0x1007 ∷ 0x320F ∷ 0x1002 ∷ 1 ∷ 0x320B ∷ 0x1000 ∷ []) 0x1010)
-        (file_of Little (0x1007 ∷ 0x320B ∷ 0x1000 ∷ []) 0x1004) }
-{}
+fn dead_bad_pointer() -> Compaction
+    ensures { CompactsTo Keep (image_bytes_of result.image) (image_bytes_of result.answer) }
+{
+    Compaction {
+        image: DEAD_BAD_POINTER,
+        answer: NIL_ALONE,
+    }
+}
 
 /// An image may consist of a special objects array without fields.
-fn special_array_alone()
-    ensures { let same = file_of Little (0x3207 ∷ []) 0x1000 in
-        CompactsTo Keep same same }
-{}
+fn special_array_alone() -> Compaction
+    ensures { CompactsTo Keep (image_bytes_of result.image) (image_bytes_of result.answer) }
+{
+    Compaction {
+        image: SPECIAL_ARRAY_ALONE,
+        answer: SPECIAL_ARRAY_ALONE,
+    }
+}
 
 /// SmallIntegers are kept as they are.
-fn integers()
-    ensures { let same = file_of Little
-        (0x1007 ∷ 0x3217 ∷ 0x1000 ∷ 0x7FFFFFFF ∷ 0xFFFFFFFF ∷ 0x80000001 ∷ [])
-        0x1004 in
-        CompactsTo Keep same same }
-{}
+fn integers() -> Compaction
+    ensures { CompactsTo Keep (image_bytes_of result.image) (image_bytes_of result.answer) }
+{
+    Compaction {
+        image: INTEGERS,
+        answer: INTEGERS,
+    }
+}
 
 /// Two dead objects that point to each other are dropped; two such live ones are kept.
-fn dead_cycle()
-    ensures { let file = file_of Little
-        (0x1007 ∷ 0x110B ∷ 0x1014 ∷ 0x110B ∷ 0x101C ∷ 0x110B ∷ 0x1004 ∷ 0x110B ∷ 0x100C ∷
-        0x320F ∷ 0x1000 ∷ 0x1004 ∷ [])
-        0x1024 in
-        let answer = file_of Little
-        (0x1007 ∷ 0x110B ∷ 0x100C ∷ 0x110B ∷ 0x1004 ∷ 0x320F ∷ 0x1000 ∷ 0x1004 ∷ [])
-        0x1014 in
-        CompactsTo Keep file answer }
-{}
+fn dead_cycle() -> Compaction
+    ensures { CompactsTo Keep (image_bytes_of result.image) (image_bytes_of result.answer) }
+{
+    Compaction {
+        image: DEAD_CYCLE,
+        answer: DEAD_CYCLE_ANSWER,
+    }
+}
 
 /// A header of three words states the size in its first word. The address of the object is that of
 /// its third word.
-fn three_word_header()
-    ensures { let file = file_of Little
-        (0x1007 ∷ 0x320F ∷ 1 ∷ 1 ∷ 0x100 ∷ 0x1000 ∷ 0x200 ∷ (replicate 63 1 ++
-        0x320F ∷ 0x1000 ∷ 0x1018 ∷ []))
-        0x1118 in
-        let answer = file_of Little
-        (0x1007 ∷ 0x100 ∷ 0x1000 ∷ 0x200 ∷ (replicate 63 1 ++ 0x320F ∷ 0x1000 ∷ 0x100C ∷ []))
-        0x110C in
-        CompactsTo Keep file answer }
-{}
+fn three_word_header() -> Compaction
+    ensures { CompactsTo Keep (image_bytes_of result.image) (image_bytes_of result.answer) }
+{
+    Compaction {
+        image: THREE_WORD_HEADER,
+        answer: THREE_WORD_HEADER_ANSWER,
+    }
+}
 
 /// The size field of a base header states up to 63 words.
-fn largest_short_object()
-    ensures { let same = file_of Little
-        (0x1007 ∷ 0x12FF ∷ (replicate 62 1 ++ 0x320F ∷ 0x1000 ∷ 0x1004 ∷ []))
-        0x1100 in
-        CompactsTo Keep same same }
-{}
+fn largest_short_object() -> Compaction
+    ensures { CompactsTo Keep (image_bytes_of result.image) (image_bytes_of result.answer) }
+{
+    Compaction {
+        image: LARGEST_SHORT_OBJECT,
+        answer: LARGEST_SHORT_OBJECT,
+    }
+}
 
 /// A class word keeps the class alive. It is updated when the class moves, and its header type
 /// stays.
-fn class_edge()
-    ensures { let file = file_of Little
-        (0x1007 ∷ 0x320F ∷ 1 ∷ 1 ∷ 0x100B ∷ 1 ∷ 0x1011 ∷ 0x109 ∷ 1 ∷
-        0x320F ∷ 0x1000 ∷ 0x101C ∷ [])
-        0x1024 in
-        let answer = file_of Little
-        (0x1007 ∷ 0x100B ∷ 1 ∷ 0x1005 ∷ 0x109 ∷ 1 ∷ 0x320F ∷ 0x1000 ∷ 0x1010 ∷ [])
-        0x1018 in
-        CompactsTo Keep file answer }
-{}
+fn class_edge() -> Compaction
+    ensures { CompactsTo Keep (image_bytes_of result.image) (image_bytes_of result.answer) }
+{
+    Compaction {
+        image: CLASS_EDGE,
+        answer: CLASS_EDGE_ANSWER,
+    }
+}
 
 /// The bytes of a name are not pointers, whatever words they form.
-fn class_name()
-    ensures { let same = file_of Little
-        (0x1007 ∷ 0x1123 ∷ 1 ∷ 1 ∷ 1 ∷ 1 ∷ 1 ∷ 1 ∷ 0x1024 ∷ 0x2A0F ∷ 0x656A624F ∷ 0x7463 ∷
-        0x320B ∷ 0x1004 ∷ 0x327B ∷ 0x1000 ∷ (replicate 27 1 ++ 0x1030 ∷ []))
-        0x1038 in
-        CompactsTo Keep same same }
-{}
+fn class_name() -> Compaction
+    ensures { CompactsTo Keep (image_bytes_of result.image) (image_bytes_of result.answer) }
+{
+    Compaction {
+        image: CLASS_NAMES,
+        answer: CLASS_NAMES,
+    }
+}
 
 /// The fields of a context are traced up to the top of its stack. Those above it are not traced,
 /// and are kept as they are.
-fn context_stack()
-    ensures { let file = file_of Little
-        (0x1007 ∷ 0x100B ∷ 1 ∷ 0x100B ∷ 1 ∷ 0x100B ∷ 1 ∷
-        0xD32F ∷ 0x1000 ∷ 1 ∷ 3 ∷ 0x1000 ∷ 0x1000 ∷ 0x1000 ∷ 0x100C ∷ 0x1014 ∷ 2 ∷ 0xFFFFFFFE ∷
-        0x320F ∷ 0x1000 ∷ 0x101C ∷ [])
-        0x1048 in
-        let answer = file_of Little
-        (0x1007 ∷ 0x100B ∷ 1 ∷
-        0xD32F ∷ 0x1000 ∷ 1 ∷ 3 ∷ 0x1000 ∷ 0x1000 ∷ 0x1000 ∷ 0x1004 ∷ 0x1014 ∷ 2 ∷ 0xFFFFFFFE ∷
-        0x320F ∷ 0x1000 ∷ 0x100C ∷ [])
-        0x1038 in
-        CompactsTo Keep file answer }
-{}
+fn context_stack() -> Compaction
+    ensures { CompactsTo Keep (image_bytes_of result.image) (image_bytes_of result.answer) }
+{
+    Compaction {
+        image: CONTEXT_STACK,
+        answer: CONTEXT_STACK_ANSWER,
+    }
+}
 
 /// The literals of a method are traced. The words after them are not traced, and are kept as they
 /// are.
-fn method_literals()
-    ensures { let file = file_of Little
-        (0x1007 ∷ 0x100B ∷ 1 ∷ 0x100B ∷ 1 ∷ 0x5C17 ∷ 0x801 ∷ 0x100C ∷ 0x1000 ∷ 0x100C ∷
-        0x320F ∷ 0x1000 ∷ 0x1014 ∷ [])
-        0x1028 in
-        let answer = file_of Little
-        (0x1007 ∷ 0x100B ∷ 1 ∷ 0x5C17 ∷ 0x801 ∷ 0x1004 ∷ 0x1000 ∷ 0x100C ∷
-        0x320F ∷ 0x1000 ∷ 0x100C ∷ [])
-        0x1020 in
-        CompactsTo Keep file answer }
-{}
+fn method_literals() -> Compaction
+    ensures { CompactsTo Keep (image_bytes_of result.image) (image_bytes_of result.answer) }
+{
+    Compaction {
+        image: METHOD_LITERALS,
+        answer: METHOD_LITERALS_ANSWER,
+    }
+}
 
 /// If weak slots are kept, the fields of a weak object keep their targets alive.
-fn weak_fields()
-    ensures { let same = file_of Little
-        (0x1007 ∷ 0x1113 ∷ 1 ∷ 1 ∷ 0x405 ∷ 0x100B ∷ 1 ∷ 0x1005 ∷ 0x409 ∷ 0x1014 ∷
-        0x320F ∷ 0x1000 ∷ 0x1020 ∷ [])
-        0x1028 in
-        CompactsTo Keep same same }
-{}
+fn weak_fields() -> Compaction
+    ensures { CompactsTo Keep (image_bytes_of result.image) (image_bytes_of result.answer) }
+{
+    Compaction {
+        image: WEAK_FIELDS,
+        answer: WEAK_FIELDS,
+    }
+}
 
 /// A free chunk may be one word.
-fn free_word()
-    ensures { CompactsTo Keep
-        (file_of Little (0x1007 ∷ 6 ∷ 0x320B ∷ 0x1000 ∷ []) 0x1008)
-        (file_of Little (0x1007 ∷ 0x320B ∷ 0x1000 ∷ []) 0x1004) }
-{}
+fn free_word() -> Compaction
+    ensures { CompactsTo Keep (image_bytes_of result.image) (image_bytes_of result.answer) }
+{
+    Compaction {
+        image: FREE_WORD,
+        answer: NIL_ALONE,
+    }
+}
 
 /// A free chunk may be the last.
-fn free_chunk_last()
-    ensures { CompactsTo Keep
-        (file_of Little (0x1007 ∷ 0x320B ∷ 0x1000 ∷ 0xA ∷ 1 ∷ []) 0x1004)
-        (file_of Little (0x1007 ∷ 0x320B ∷ 0x1000 ∷ []) 0x1004) }
-{}
+fn free_chunk_last() -> Compaction
+    ensures { CompactsTo Keep (image_bytes_of result.image) (image_bytes_of result.answer) }
+{
+    Compaction {
+        image: FREE_CHUNK_LAST,
+        answer: NIL_ALONE,
+    }
+}
 
 /// A dead object without a class is not a fault.
-fn dead_without_class()
-    ensures { CompactsTo Keep
-        (file_of Little (0x1007 ∷ 0x10B ∷ 1 ∷ 0x320B ∷ 0x1000 ∷ []) 0x100C)
-        (file_of Little (0x1007 ∷ 0x320B ∷ 0x1000 ∷ []) 0x1004) }
-{}
+fn dead_without_class() -> Compaction
+    ensures { CompactsTo Keep (image_bytes_of result.image) (image_bytes_of result.answer) }
+{
+    Compaction {
+        image: DEAD_WITHOUT_CLASS,
+        answer: NIL_ALONE,
+    }
+}
 
 /// A dead method may be bad.
-fn dead_bad_method()
-    ensures { CompactsTo Keep
-        (file_of Little (0x1007 ∷ 0x5C0B ∷ 0x1000 ∷ 0x320B ∷ 0x1000 ∷ []) 0x100C)
-        (file_of Little (0x1007 ∷ 0x320B ∷ 0x1000 ∷ []) 0x1004) }
-{}
+fn dead_bad_method() -> Compaction
+    ensures { CompactsTo Keep (image_bytes_of result.image) (image_bytes_of result.answer) }
+{
+    Compaction {
+        image: DEAD_BAD_METHOD,
+        answer: NIL_ALONE,
+    }
+}
 
 /// A dead context may be bad.
-fn dead_bad_context()
-    ensures { CompactsTo Keep
-        (file_of Little (0x1007 ∷ 0xD30B ∷ 1 ∷ 0x320B ∷ 0x1000 ∷ []) 0x100C)
-        (file_of Little (0x1007 ∷ 0x320B ∷ 0x1000 ∷ []) 0x1004) }
-{}
+fn dead_bad_context() -> Compaction
+    ensures { CompactsTo Keep (image_bytes_of result.image) (image_bytes_of result.answer) }
+{
+    Compaction {
+        image: DEAD_BAD_CONTEXT,
+        answer: NIL_ALONE,
+    }
+}
 
 /// The bits of a base header above the compact index are kept as they are.
-fn upper_header_bits()
-    ensures { let same = file_of Little
-        (0x1007 ∷ 0xFFFE110B ∷ 1 ∷ 0x320F ∷ 0x1000 ∷ 0x1004 ∷ [])
-        0x100C in
-        CompactsTo Keep same same }
-{}
+fn upper_header_bits() -> Compaction
+    ensures { CompactsTo Keep (image_bytes_of result.image) (image_bytes_of result.answer) }
+{
+    Compaction {
+        image: UPPER_HEADER_BITS,
+        answer: UPPER_HEADER_BITS,
+    }
+}
 
 /// The class word in a header of three words is updated too. The size in its base header, here 63,
 /// is ignored.
-fn class_edge_of_three_words()
-    ensures { let file = file_of Little
-        (0x1007 ∷ 0x320F ∷ 1 ∷ 1 ∷ 0x100B ∷ 1 ∷ 8 ∷ 0x1010 ∷ 0x3FC ∷ 1 ∷ 0x320F ∷ 0x1000 ∷ 0x1020 ∷
-        [])
-        0x1028 in
-        let answer = file_of Little
-        (0x1007 ∷ 0x100B ∷ 1 ∷ 8 ∷ 0x1004 ∷ 0x3FC ∷ 1 ∷ 0x320F ∷ 0x1000 ∷ 0x1014 ∷ [])
-        0x101C in
-        CompactsTo Keep file answer }
-{}
+fn class_edge_of_three_words() -> Compaction
+    ensures { CompactsTo Keep (image_bytes_of result.image) (image_bytes_of result.answer) }
+{
+    Compaction {
+        image: CLASS_EDGE_OF_THREE_WORDS,
+        answer: CLASS_EDGE_OF_THREE_WORDS_ANSWER,
+    }
+}
 
 /// The words of a byte object are kept in a big-endian file too, and so are its bytes.
-fn big_endian_bytes()
-    ensures { let file = file_of Big
-        (0x1007 ∷ 0x320F ∷ 1 ∷ 1 ∷ 0x100B ∷ 1 ∷ 0x1011 ∷ 0xA0D ∷ 0x53717565 ∷ 0x616B0000 ∷ 0x320F ∷
-        0x1000 ∷ 0x101C ∷ [])
-        0x1028 in
-        let answer = file_of Big
-        (0x1007 ∷ 0x100B ∷ 1 ∷ 0x1005 ∷ 0xA0D ∷ 0x53717565 ∷ 0x616B0000 ∷ 0x320F ∷ 0x1000 ∷ 0x1010 ∷
-        [])
-        0x101C in
-        CompactsTo Keep file answer }
-{}
+fn big_endian_bytes() -> Compaction
+    ensures { CompactsTo Keep (image_bytes_of result.image) (image_bytes_of result.answer) }
+{
+    Compaction {
+        image: BIG_ENDIAN_BYTES,
+        answer: BIG_ENDIAN_BYTES_ANSWER,
+    }
+}
 
 /// All fields of formats 0 to 4 are traced.
-fn traced_formats()
-    ensures { let file = file_of Little
-        (0x1007 ∷ 0x320F ∷ 1 ∷ 1 ∷ 0x100B ∷ 0x1018 ∷ 0x110B ∷ 0x1020 ∷ 0x120B ∷ 0x1028 ∷ 0x130B ∷
-        0x1030 ∷ 0x140B ∷ 0x1000 ∷ 0x320B ∷ 0x1010 ∷ [])
-        0x1038 in
-        let answer = file_of Little
-        (0x1007 ∷ 0x100B ∷ 0x100C ∷ 0x110B ∷ 0x1014 ∷ 0x120B ∷ 0x101C ∷ 0x130B ∷ 0x1024 ∷ 0x140B ∷
-        0x1000 ∷ 0x320B ∷ 0x1004 ∷ [])
-        0x102C in
-        CompactsTo Keep file answer }
-{}
+fn traced_formats() -> Compaction
+    ensures { CompactsTo Keep (image_bytes_of result.image) (image_bytes_of result.answer) }
+{
+    Compaction {
+        image: TRACED_FORMATS,
+        answer: TRACED_FORMATS_ANSWER,
+    }
+}
 
 /// The fields of formats 5 to 11 are kept as they are, here an address from which an object moves
 /// away.
-fn untraced_formats()
-    ensures { let file = file_of Little
-        (0x1007 ∷ 0x320F ∷ 1 ∷ 1 ∷ 0x150B ∷ 0x1010 ∷ 0x160B ∷ 0x1010 ∷ 0x170B ∷ 0x1010 ∷ 0x180B ∷
-        0x1010 ∷ 0x190B ∷ 0x1010 ∷ 0x1A0B ∷ 0x1010 ∷ 0x1B0B ∷ 0x1010 ∷ 0x3227 ∷ 0x1000 ∷ 0x1010 ∷
-        0x1018 ∷ 0x1020 ∷ 0x1028 ∷ 0x1030 ∷ 0x1038 ∷ 0x1040 ∷ [])
-        0x1048 in
-        let answer = file_of Little
-        (0x1007 ∷ 0x150B ∷ 0x1010 ∷ 0x160B ∷ 0x1010 ∷ 0x170B ∷ 0x1010 ∷ 0x180B ∷ 0x1010 ∷ 0x190B ∷
-        0x1010 ∷ 0x1A0B ∷ 0x1010 ∷ 0x1B0B ∷ 0x1010 ∷ 0x3227 ∷ 0x1000 ∷ 0x1004 ∷ 0x100C ∷ 0x1014 ∷
-        0x101C ∷ 0x1024 ∷ 0x102C ∷ 0x1034 ∷ [])
-        0x103C in
-        CompactsTo Keep file answer }
-{}
+fn untraced_formats() -> Compaction
+    ensures { CompactsTo Keep (image_bytes_of result.image) (image_bytes_of result.answer) }
+{
+    Compaction {
+        image: UNTRACED_FORMATS,
+        answer: UNTRACED_FORMATS_ANSWER,
+    }
+}
 
 /// Formats 12 to 15 are methods. In a method without literals only the header is traced.
-fn methods_without_literals()
-    ensures { let same = file_of Little
-        (0x1007 ∷ 0x5C0F ∷ 1 ∷ 0x1002 ∷ 0x5D0F ∷ 1 ∷ 0x1002 ∷ 0x5E0F ∷ 1 ∷ 0x1002 ∷ 0x5F0F ∷ 1 ∷
-        0x1002 ∷ 0x321B ∷ 0x1000 ∷ 0x1004 ∷ 0x1010 ∷ 0x101C ∷ 0x1028 ∷ [])
-        0x1034 in
-        CompactsTo Keep same same }
-{}
+fn methods_without_literals() -> Compaction
+    ensures { CompactsTo Keep (image_bytes_of result.image) (image_bytes_of result.answer) }
+{
+    Compaction {
+        image: METHODS_WITHOUT_LITERALS,
+        answer: METHODS_WITHOUT_LITERALS,
+    }
+}
 
 /// The literals of a method may end with its last field.
-fn literals_to_end()
-    ensures { let file = file_of Little
-        (0x1007 ∷ 0x100B ∷ 1 ∷ 0x100B ∷ 1 ∷ 0x5C13 ∷ 0x801 ∷ 0x100C ∷ 0x1000 ∷ 0x320F ∷ 0x1000 ∷
-        0x1014 ∷ [])
-        0x1024 in
-        let answer = file_of Little
-        (0x1007 ∷ 0x100B ∷ 1 ∷ 0x5C13 ∷ 0x801 ∷ 0x1004 ∷ 0x1000 ∷ 0x320F ∷ 0x1000 ∷ 0x100C ∷ [])
-        0x101C in
-        CompactsTo Keep file answer }
-{}
+fn literals_to_end() -> Compaction
+    ensures { CompactsTo Keep (image_bytes_of result.image) (image_bytes_of result.answer) }
+{
+    Compaction {
+        image: LITERALS_ALONE,
+        answer: LITERALS_ALONE_ANSWER,
+    }
+}
 
 /// Eight bits of a method's header count its literals, here one; the other bits are set too.
-fn method_header_bits()
-    ensures { let same = file_of Little
-        (0x1007 ∷ 0x5C13 ∷ 0xFFFC07FF ∷ 0x1000 ∷ 0x1002 ∷ 0x320F ∷ 0x1000 ∷ 0x1004 ∷ [])
-        0x1014 in
-        CompactsTo Keep same same }
-{}
+fn method_header_bits() -> Compaction
+    ensures { CompactsTo Keep (image_bytes_of result.image) (image_bytes_of result.answer) }
+{
+    Compaction {
+        image: LOWEST_METHOD_FORMAT,
+        answer: LOWEST_METHOD_FORMAT,
+    }
+}
 
 /// A context may have a class word, and either of two compact indexes.
-fn context_with_class_word()
-    ensures { let file = file_of Little
-        (0x1007 ∷ 0x320F ∷ 1 ∷ 1 ∷ 0x100B ∷ 1 ∷ 0x1011 ∷ 0xE325 ∷ 0x1000 ∷ 1 ∷ 3 ∷ 0x1000 ∷ 0x1000 ∷
-        0x1000 ∷ 0x1010 ∷ 0x1002 ∷ 0x320F ∷ 0x1000 ∷ 0x101C ∷ [])
-        0x1040 in
-        let answer = file_of Little
-        (0x1007 ∷ 0x100B ∷ 1 ∷ 0x1005 ∷ 0xE325 ∷ 0x1000 ∷ 1 ∷ 3 ∷ 0x1000 ∷ 0x1000 ∷ 0x1000 ∷
-        0x1004 ∷ 0x1002 ∷ 0x320F ∷ 0x1000 ∷ 0x1010 ∷ [])
-        0x1034 in
-        CompactsTo Keep file answer }
-{}
+fn context_with_class_word() -> Compaction
+    ensures { CompactsTo Keep (image_bytes_of result.image) (image_bytes_of result.answer) }
+{
+    Compaction {
+        image: CONTEXT_WITH_CLASS_WORD,
+        answer: CONTEXT_WITH_CLASS_WORD_ANSWER,
+    }
+}
 
 /// The stack of a context is empty if its stack pointer is not a SmallInteger; here it is nil.
-fn context_without_stack_pointer()
-    ensures { let same = file_of Little
-        (0x1007 ∷ 0xD323 ∷ 0x1000 ∷ 1 ∷ 0x1000 ∷ 0x1000 ∷ 0x1000 ∷ 0x1000 ∷ 0x1002 ∷ 0x320F ∷
-        0x1000 ∷ 0x1004 ∷ [])
-        0x1024 in
-        CompactsTo Keep same same }
-{}
+fn context_without_stack_pointer() -> Compaction
+    ensures { CompactsTo Keep (image_bytes_of result.image) (image_bytes_of result.answer) }
+{
+    Compaction {
+        image: CONTEXT_WITHOUT_STACK_POINTER,
+        answer: CONTEXT_WITHOUT_STACK_POINTER,
+    }
+}
 
 /// Only format 3 with compact index 13 or 14 is a context; these four are not.
-fn like_contexts()
-    ensures { let same = file_of Little
-        (0x1007 ∷ 0x4313 ∷ 1 ∷ 1 ∷ 0xFFFFFFFF ∷ 0xC313 ∷ 1 ∷ 1 ∷ 0xFFFFFFFF ∷ 0xF313 ∷ 1 ∷ 1 ∷
-        0xFFFFFFFF ∷ 0xD213 ∷ 1 ∷ 1 ∷ 0xFFFFFFFF ∷ 0x321B ∷ 0x1000 ∷ 0x1004 ∷ 0x1014 ∷ 0x1024 ∷
-        0x1034 ∷ [])
-        0x1044 in
-        CompactsTo Keep same same }
-{}
+fn like_contexts() -> Compaction
+    ensures { CompactsTo Keep (image_bytes_of result.image) (image_bytes_of result.answer) }
+{
+    Compaction {
+        image: LIKE_CONTEXTS,
+        answer: LIKE_CONTEXTS,
+    }
+}

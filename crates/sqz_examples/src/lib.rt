@@ -1,10 +1,11 @@
 //! Worked images: how small files are encoded, what their compactions are, and why they are
-//! rejected. Each is the contract of a function that does nothing.
+//! rejected. Each is the contract of a function that returns images of `sqz_fixtures`.
 #![tactic(auto)]
 
 mod compacted;
 mod defects;
 mod marking;
+mod memories;
 mod moved_objects;
 mod prefixes;
 mod questions;

@@ -1,35 +1,41 @@
 //! How a file encodes words, and what the words of an object mean.
 
 ghost use Rattle.std.specs.Prelude.{◌≡◌, [], ◌∷◌, take, drop, pos, negsuc};
-ghost use Rattle.sqz_object.specs.declared.order.Order.TheVariants.{Little, Big};
 ghost use Rattle.sqz_object.specs.declared.value.Value.TheVariants.{Int, Pointer, Odd};
 ghost use Rattle.sqz_object.specs.Value.{value_of};
-ghost use Rattle.sqz_examples.specs.Worked.{file_of};
+ghost use Rattle.sqz_fixtures.specs.Files.{image_bytes_of};
+
+use sqz_fixtures::TestImage;
+use sqz_fixtures::accepted::{BIG_ENDIAN, DEAD_ARRAY};
 
 /// A little-endian file has the lowest byte of each word first: here the first five header words,
 /// and the data words after all sixteen.
-fn little_endian()
-    ensures header { take 20 (file_of Little (0x1007 ∷ 0x320F ∷ 1 ∷ 1 ∷ 0x320B ∷ 0x1000 ∷ []) 0x1010)
+fn little_endian() -> TestImage
+    ensures header { take 20 (image_bytes_of result)
         ≡ 0x66 ∷ 0x19 ∷ 0 ∷ 0 ∷ 0x40 ∷ 0 ∷ 0 ∷ 0 ∷
         0x18 ∷ 0 ∷ 0 ∷ 0 ∷ 0 ∷ 0x10 ∷ 0 ∷ 0 ∷
         0x10 ∷ 0x10 ∷ 0 ∷ 0 ∷ [] }
-    ensures words { drop 64 (file_of Little (0x1007 ∷ 0x320F ∷ 1 ∷ 1 ∷ 0x320B ∷ 0x1000 ∷ []) 0x1010)
+    ensures words { drop 64 (image_bytes_of result)
         ≡ 7 ∷ 0x10 ∷ 0 ∷ 0 ∷ 0x0F ∷ 0x32 ∷ 0 ∷ 0 ∷
         1 ∷ 0 ∷ 0 ∷ 0 ∷ 1 ∷ 0 ∷ 0 ∷ 0 ∷
         0x0B ∷ 0x32 ∷ 0 ∷ 0 ∷ 0 ∷ 0x10 ∷ 0 ∷ 0 ∷ [] }
-{}
+{
+    DEAD_ARRAY
+}
 
 /// A big-endian file has the highest byte of each word first: here the words of `little_endian`.
-fn big_endian()
-    ensures header { take 20 (file_of Big (0x1007 ∷ 0x320F ∷ 1 ∷ 1 ∷ 0x320B ∷ 0x1000 ∷ []) 0x1010)
+fn big_endian() -> TestImage
+    ensures header { take 20 (image_bytes_of result)
         ≡ 0 ∷ 0 ∷ 0x19 ∷ 0x66 ∷ 0 ∷ 0 ∷ 0 ∷ 0x40 ∷
         0 ∷ 0 ∷ 0 ∷ 0x18 ∷ 0 ∷ 0 ∷ 0x10 ∷ 0 ∷
         0 ∷ 0 ∷ 0x10 ∷ 0x10 ∷ [] }
-    ensures words { drop 64 (file_of Big (0x1007 ∷ 0x320F ∷ 1 ∷ 1 ∷ 0x320B ∷ 0x1000 ∷ []) 0x1010)
+    ensures words { drop 64 (image_bytes_of result)
         ≡ 0 ∷ 0 ∷ 0x10 ∷ 7 ∷ 0 ∷ 0 ∷ 0x32 ∷ 0x0F ∷
         0 ∷ 0 ∷ 0 ∷ 1 ∷ 0 ∷ 0 ∷ 0 ∷ 1 ∷
         0 ∷ 0 ∷ 0x32 ∷ 0x0B ∷ 0 ∷ 0 ∷ 0x10 ∷ 0 ∷ [] }
-{}
+{
+    BIG_ENDIAN
+}
 
 /// A SmallInteger is the word's upper 31 bits in two's complement; a word that is neither that nor
 /// a multiple of four is odd.

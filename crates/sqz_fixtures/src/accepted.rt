@@ -1,51 +1,9 @@
 //! Images without weak objects that are accepted.
 
-use super::chunks::Chunk::{Array, Fixed, Free, Long, Short};
+use super::chunks::Chunk::{Array, Fixed, Free, Long, Short, Words};
 use super::chunks::NIL;
-use super::dozen_classes::DOZEN_CLASSES;
 use super::images::{EMPTY, TestImage};
-use super::with_classes::{
-    BIG_ENDIAN_BYTES, BIG_ENDIAN_CLASS_NAMES, CLASS_EDGE, CLASS_EDGE_OF_THREE_WORDS, CLASS_NAMES,
-    LONG_NAME, METACLASS,
-};
-use super::with_formats::{
-    CONTEXT_STACK, CONTEXT_WITH_CLASS_WORD, CONTEXT_WITHOUT_STACK_POINTER, LIKE_CONTEXTS,
-    METHOD_LITERALS, TRACED_FORMATS, UNTRACED_FORMATS,
-};
 use sqz_object::Order;
-
-/// All of these, and an image as Smalltalk programmers know it.
-pub const ACCEPTED: [TestImage; 29] = [
-    NIL_ALONE,
-    DEAD_ARRAY,
-    BIG_ENDIAN,
-    DEAD_BAD_POINTER,
-    FREE_CHUNK,
-    DEAD_WITHOUT_CLASS,
-    DEAD_BAD_METHOD,
-    DEAD_BAD_CONTEXT,
-    HIGHEST_BASE,
-    SPECIAL_ARRAY_ALONE,
-    INTEGERS,
-    DEAD_CYCLE,
-    DOZEN_CLASSES,
-    LARGEST_SHORT_OBJECT,
-    THREE_WORD_HEADER,
-    CLASS_EDGE,
-    CLASS_EDGE_OF_THREE_WORDS,
-    BIG_ENDIAN_BYTES,
-    CLASS_NAMES,
-    BIG_ENDIAN_CLASS_NAMES,
-    METACLASS,
-    LONG_NAME,
-    METHOD_LITERALS,
-    CONTEXT_STACK,
-    CONTEXT_WITH_CLASS_WORD,
-    CONTEXT_WITHOUT_STACK_POINTER,
-    LIKE_CONTEXTS,
-    TRACED_FORMATS,
-    UNTRACED_FORMATS,
-];
 
 /// Nil, and a special objects array that points to it: what is left of many images.
 pub const NIL_ALONE: TestImage = TestImage {
@@ -78,6 +36,20 @@ pub const DEAD_BAD_POINTER: TestImage = TestImage {
 pub const FREE_CHUNK: TestImage = TestImage {
     chunks: &[NIL, Free(&[1, 1]), Array(&[0x1000])],
     special: 0x1010,
+    ..EMPTY
+};
+
+/// A free chunk may have one word.
+pub const FREE_WORD: TestImage = TestImage {
+    chunks: &[NIL, Free(&[]), Array(&[0x1000])],
+    special: 0x1008,
+    ..EMPTY
+};
+
+/// A free chunk may be the last.
+pub const FREE_CHUNK_LAST: TestImage = TestImage {
+    chunks: &[NIL, Array(&[0x1000]), Free(&[1])],
+    special: 0x1004,
     ..EMPTY
 };
 
@@ -144,6 +116,13 @@ pub const SPECIAL_ARRAY_ALONE: TestImage = TestImage {
 pub const INTEGERS: TestImage = TestImage {
     chunks: &[NIL, Array(&[0x1000, 0x7FFF_FFFF, 0xFFFF_FFFF, 0x8000_0001])],
     special: 0x1004,
+    ..EMPTY
+};
+
+/// The bits of a base header above the compact index are kept.
+pub const UPPER_HEADER_BITS: TestImage = TestImage {
+    chunks: &[NIL, Words(&[0xFFFE_110B, 1]), Array(&[0x1000, 0x1004])],
+    special: 0x100C,
     ..EMPTY
 };
 

@@ -1,7 +1,9 @@
 //! The chunks of an image, by the parts of their headers.
 
-ghost use Rattle.std.specs.Prelude.{◌≡◌, ◌%◌, ◌<◌};
+ghost use Rattle.std.specs.Prelude.{◌≡◌, ◌%◌, ◌<◌, ◌++◌, ◌∷◌, OnOk};
 ghost use Rattle.sqz_object.specs.Value.{base_of};
+ghost use Rattle.sqz_fixtures.specs.Words.{base_header_of, count, short_words, classed_words};
+ghost use Rattle.sqz_fixtures.specs.Words.{each_words, long_array_words, chunk_words};
 
 use std::alloc::AllocError;
 
@@ -16,6 +18,13 @@ pub enum Chunk {
         /// Its format.
         format: u32,
         /// The words of its fields.
+        fields: &'static [u32],
+    },
+    /// Objects with headers of one word that differ in nothing else.
+    Each {
+        /// The compact index and the format of each.
+        kinds: &'static [(u32, u32)],
+        /// The words of the fields of each.
         fields: &'static [u32],
     },
     /// An object of compact index 1 and format 1, with a header of one word: the words of its
@@ -40,6 +49,20 @@ pub enum Chunk {
         compact: u32,
         /// Its format.
         format: u32,
+        /// The words of its fields.
+        fields: &'static [u32],
+    },
+    /// An object of format 1 with a header of two words.
+    Instance {
+        /// The address of its class.
+        class: u32,
+        /// The words of its fields.
+        fields: &'static [u32],
+    },
+    /// A weak object with a header of two words.
+    Weak {
+        /// The address of its class.
+        class: u32,
         /// The words of its fields.
         fields: &'static [u32],
     },
@@ -95,7 +118,8 @@ const OF_ONE: u32 = 3;
 /// are dropped.
 fn base_header(kind: u32, compact: u32, format: u32, size: u32) -> u32
     requires { kind < 4 }
-    ensures { base_of result ≡ record {
+    ensures word { result ≡ base_header_of kind compact format size }
+    ensures parts { base_of result ≡ record {
       kind = kind;
       size_field = size % 64;
       format = format % 16;
@@ -106,9 +130,13 @@ fn base_header(kind: u32, compact: u32, format: u32, size: u32) -> u32
     kind + size % 64 * 4 + format % 16 * 256 + compact % 32 * 4096
 }
 
+/// The fields of an array of 29 but the last: integers 0.
+const ZEROS: [u32; 28] = [1; 28];
+
 /// The number of words. It is at most 999, which no test image exceeds.
 pub(crate) fn count_of(words: &[u32]) -> u32
-    ensures { result < 1000 }
+    ensures bound { result < 1000 }
+    ensures number { result ≡ count words.now }
 {
     words.len().min(999) as u32
 }
@@ -119,30 +147,60 @@ fn put_short(
     compact: u32,
     format: u32,
     fields: &[u32],
-) -> Result<(), AllocError> {
+) -> Result<(), AllocError>
+    ensures { OnOk result (words.new.items ≡ words.old.items ++ short_words compact format fields.now) }
+{
     words.push(base_header(OF_ONE, compact, format, 1 + count_of(fields)))?;
     words.extend_from_slice(fields)
 }
 
+/// Puts the words of a chunk with a header of two words at the end of words.
+fn put_classed(
+    words: &mut Vec<u32>,
+    class: u32,
+    compact: u32,
+    format: u32,
+    fields: &[u32],
+) -> Result<(), AllocError>
+    ensures { OnOk result (words.new.items ≡ words.old.items ++ classed_words class compact format fields.now) }
+{
+    let base = base_header(OF_TWO, compact, format, 1 + count_of(fields));
+    words.extend_from_slice(&[class | OF_TWO, base])?;
+    words.extend_from_slice(fields)
+}
+
+/// Puts the words of objects that differ in compact index and format alone at the end of words.
+fn put_each(words: &mut Vec<u32>, kinds: &[(u32, u32)], fields: &[u32]) -> Result<(), AllocError>
+    ensures { OnOk result (words.new.items ≡ words.old.items ++ each_words kinds.now fields.now) }
+{
+    for (compact, format) in kinds {
+        put_short(words, *compact, *format, fields)?;
+    }
+    Ok(())
+}
+
 /// Puts the words of an array of 29 fields at the end of words.
-fn put_long_array(words: &mut Vec<u32>, first: &[u32], last: u32) -> Result<(), AllocError> {
+fn put_long_array(words: &mut Vec<u32>, first: &[u32], last: u32) -> Result<(), AllocError>
+    ensures { OnOk result (words.new.items ≡ words.old.items ++ long_array_words first.now last) }
+{
     words.push(base_header(OF_ONE, 3, 2, 30))?;
     words.extend_from_slice(first)?;
-    for _ in first.len()..28 {
-        words.push(1)?;
-    }
+    words.extend_from_slice(&ZEROS[first.len().min(28)..])?;
     words.push(last)?;
     Ok(())
 }
 
 /// Puts the words of a chunk at the end of words.
-pub(crate) fn put_chunk(words: &mut Vec<u32>, chunk: &Chunk) -> Result<(), AllocError> {
+pub(crate) fn put_chunk(words: &mut Vec<u32>, chunk: &Chunk) -> Result<(), AllocError>
+    ensures { OnOk result (words.new.items ≡ words.old.items ++ chunk_words chunk.now) }
+{
     match *chunk {
         Chunk::Short {
             compact,
             format,
             fields,
         } => put_short(words, compact, format, fields),
+        Chunk::Each { kinds, fields } => put_each(words, kinds, fields),
         Chunk::Fixed(fields) => put_short(words, 1, 1, fields),
         Chunk::Array(fields) => put_short(words, 3, 2, fields),
         Chunk::LongArray { first, last } => put_long_array(words, first, last),
@@ -151,11 +209,9 @@ pub(crate) fn put_chunk(words: &mut Vec<u32>, chunk: &Chunk) -> Result<(), Alloc
             compact,
             format,
             fields,
-        } => {
-            let base = base_header(OF_TWO, compact, format, 1 + count_of(fields));
-            words.extend_from_slice(&[class | OF_TWO, base])?;
-            words.extend_from_slice(fields)
-        }
+        } => put_classed(words, class, compact, format, fields),
+        Chunk::Instance { class, fields } => put_classed(words, class, 0, 1, fields),
+        Chunk::Weak { class, fields } => put_classed(words, class, 0, 4, fields),
         Chunk::Long {
             class,
             compact,

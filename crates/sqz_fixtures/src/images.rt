@@ -1,9 +1,9 @@
 //! What an image of a test is, and the words of one.
 
-use super::accepted::ACCEPTED;
+ghost use Rattle.std.specs.Prelude.{◌≡◌, IfOk};
+ghost use Rattle.sqz_fixtures.specs.Words.{data_words};
+
 use super::chunks::{Chunk, put_chunk};
-use super::with_defects::WITH_DEFECTS;
-use super::with_weak_objects::WITH_WEAK_OBJECTS;
 use sqz_object::Order;
 use std::alloc::{AllocError, Global};
 
@@ -12,12 +12,20 @@ use std::alloc::{AllocError, Global};
 pub struct TestImage {
     /// Its byte order.
     pub order: Order,
+    /// Its version.
+    pub version: u32,
+    /// The size of its header, in bytes, as the header states it.
+    pub header_size: u32,
+    /// The size of its data, in bytes, as its header states it; none if it is that of the words.
+    pub data_size: Option<u32>,
     /// The address of its first data word.
     pub base: u32,
     /// Its chunks, in the order of their addresses.
     pub chunks: &'static [Chunk],
     /// The address of its special objects array.
     pub special: u32,
+    /// The header words after that address.
+    pub others: [u32; 11],
     /// The change that is made to its data words after the chunks, if any.
     pub changed: Option<Change>,
 }
@@ -35,15 +43,24 @@ pub struct Change {
 /// objects array are 0x1000.
 pub const EMPTY: TestImage = TestImage {
     order: Order::Little,
+    version: 6502,
+    header_size: 64,
+    data_size: None,
     base: 0x1000,
     chunks: &[],
     special: 0x1000,
+    others: [0; 11],
     changed: None,
 };
 
-/// The images of the folder `images/` that can be read, since a test cannot read that folder: those
-/// that are accepted, without and with weak objects, and those in which an object has a defect.
-pub const IMAGES: [&[TestImage]; 3] = [&ACCEPTED, &WITH_WEAK_OBJECTS, &WITH_DEFECTS];
+/// An image, and what it is compacted to.
+#[derive(Clone, Copy)]
+pub struct Compaction {
+    /// The image.
+    pub image: TestImage,
+    /// What it is compacted to.
+    pub answer: TestImage,
+}
 
 /// The image with the data word at `index` changed to `word`, and no other.
 pub const fn with_word(image: TestImage, index: usize, word: u32) -> TestImage {
@@ -54,15 +71,17 @@ pub const fn with_word(image: TestImage, index: usize, word: u32) -> TestImage {
 }
 
 /// The data words of an image.
-pub fn words_of(alloc: Global, image: &TestImage) -> Result<Vec<u32>, AllocError> {
+pub fn words_of(alloc: Global, image: &TestImage) -> Result<Vec<u32>, AllocError>
+    ensures { IfOk result (λ words. words.items ≡ data_words image.now) }
+{
     let mut words = Vec::new(alloc);
     for chunk in image.chunks {
         put_chunk(&mut words, chunk)?;
     }
     if let Some(change) = image.changed
-        && let Some(word) = words.get_mut(change.index)
+        && change.index < words.len()
     {
-        *word = change.word;
+        words[change.index] = change.word;
     }
     Ok(words)
 }

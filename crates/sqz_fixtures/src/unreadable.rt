@@ -1,10 +1,10 @@
 //! Images with a chunk that cannot be read, mostly the second, and images without a special objects
 //! array.
 
-use super::accepted::SPECIAL_ARRAY_ALONE;
+use super::accepted::{FREE_CHUNK, NIL_ALONE, SPECIAL_ARRAY_ALONE};
 use super::chunks::Chunk::{Array, Words};
 use super::chunks::NIL;
-use super::images::{Change, EMPTY, TestImage};
+use super::images::{EMPTY, TestImage};
 use super::with_classes::CLASS_EDGE;
 
 /// A size of 0 in a base header.
@@ -127,12 +127,26 @@ pub const NO_OBJECT_AT_SPECIAL: TestImage = TestImage {
     ..SPECIAL_ARRAY_ALONE
 };
 
-/// At the address of the special objects array is a free chunk. A class word is at 0x1018.
+/// At the address of the special objects array is a free chunk.
 pub const FREE_CHUNK_AT_SPECIAL: TestImage = TestImage {
     special: 0x1004,
-    changed: Some(Change {
-        index: 1,
-        word: 0xE,
-    }),
+    ..FREE_CHUNK
+};
+
+/// At the address of the special objects array is a class word.
+pub const CLASS_WORD_AT_SPECIAL: TestImage = TestImage {
+    special: 0x1018,
     ..CLASS_EDGE
+};
+
+/// At the address of the special objects array is a field.
+pub const FIELD_AT_SPECIAL: TestImage = TestImage {
+    special: 0x1008,
+    ..NIL_ALONE
+};
+
+/// The address of the special objects array is that of no word.
+pub const ODD_SPECIAL: TestImage = TestImage {
+    special: 0x1005,
+    ..NIL_ALONE
 };

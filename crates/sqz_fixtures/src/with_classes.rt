@@ -1,6 +1,6 @@
 //! Accepted images with class words, and with classes that have names.
 
-use super::chunks::Chunk::{Array, Classed, Fixed, LongArray, Short, Words};
+use super::chunks::Chunk::{Array, Classed, Fixed, Instance, LongArray, Short, Words};
 use super::chunks::{LEAF, NIL};
 use super::images::{EMPTY, TestImage};
 use sqz_object::Order;
@@ -11,10 +11,8 @@ pub const CLASS_EDGE: TestImage = TestImage {
         NIL,
         Array(&[1, 1]),
         LEAF,
-        Classed {
+        Instance {
             class: 0x1010,
-            compact: 0,
-            format: 1,
             fields: &[1],
         },
         Array(&[0x1000, 0x101C]),
@@ -122,10 +120,8 @@ pub const LONG_NAME: TestImage = TestImage {
             format: 11,
             fields: FORTY_FIVE_BYTES,
         },
-        Classed {
+        Instance {
             class: 0x1024,
-            compact: 0,
-            format: 1,
             fields: &[1],
         },
         Array(&[0x1004]),

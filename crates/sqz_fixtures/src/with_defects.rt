@@ -1,47 +1,11 @@
 //! Images in which an object has a defect, or which lack nil although it is needed.
 
 use super::accepted::NIL_ALONE;
-use super::answers::WEAK_FIELDS_CLEARED;
-use super::chunks::Chunk::{Array, Classed, Fixed, Free, Short};
+use super::chunks::Chunk::{Array, Fixed, Free, Instance, Long, Short, Weak};
 use super::chunks::NIL;
+use super::cleared::WEAK_FIELDS_CLEARED;
 use super::images::{Change, EMPTY, TestImage};
-use super::with_bad_formats::{
-    ALL_ONES, BAD_CONTEXT_WITH_CLASS_WORD, BAD_LITERAL, CONTEXT_OF_FIVE_FIELDS, METHOD_HEADER,
-    METHOD_WITHOUT_CLASS, METHOD_WITHOUT_FIELDS, NEGATIVE_STACK, ODD_STACK_POINTER, SHORT_CONTEXT,
-    STACK_PAST_END, STACK_TO_END, TOO_MANY_LITERALS,
-};
 use super::with_classes::CLASS_EDGE;
-
-/// All of these.
-pub const WITH_DEFECTS: [TestImage; 27] = [
-    NO_CLASS,
-    LOWER_OF_TWO,
-    LOWER_IS_NAMED,
-    ODD_FIELD,
-    FIELD_NAMES_FIELD,
-    FIELD_NAMES_FREE_CHUNK,
-    FIELD_NAMES_CLASS_WORD,
-    BAD_CLASS_WORD,
-    CLASS_WORD_BEFORE_FIELD,
-    METHOD_HEADER,
-    METHOD_WITHOUT_CLASS,
-    METHOD_WITHOUT_FIELDS,
-    TOO_MANY_LITERALS,
-    BAD_LITERAL,
-    ALL_ONES,
-    SHORT_CONTEXT,
-    CONTEXT_OF_FIVE_FIELDS,
-    BAD_CONTEXT_WITH_CLASS_WORD,
-    ODD_STACK_POINTER,
-    NEGATIVE_STACK,
-    STACK_PAST_END,
-    STACK_TO_END,
-    WEAK_NO_NIL_BEFORE_NO_CLASS,
-    WEAK_WITHOUT_CLASS,
-    WEAK_BAD_BEFORE_FIELD,
-    WEAK_ODD_SLOT,
-    WEAK_SLOT_NAMES_NOTHING,
-];
 
 /// A header of one word with compact index 0.
 pub const NO_CLASS: TestImage = TestImage {
@@ -55,6 +19,21 @@ pub const NO_CLASS: TestImage = TestImage {
         },
     ],
     special: 0x1004,
+    ..EMPTY
+};
+
+/// That an object has no class counts before its bad field.
+pub const NO_CLASS_BEFORE_FIELD: TestImage = TestImage {
+    chunks: &[
+        NIL,
+        Short {
+            compact: 0,
+            format: 2,
+            fields: &[0x1002],
+        },
+        Array(&[0x1000, 0x1004]),
+    ],
+    special: 0x100C,
     ..EMPTY
 };
 
@@ -106,6 +85,28 @@ pub const FIELD_NAMES_FIELD: TestImage = TestImage {
     ..NIL_ALONE
 };
 
+/// A field with the address after the last word.
+pub const FIELD_NAMES_END: TestImage = TestImage {
+    changed: Some(Change {
+        index: 2,
+        word: 0x100C,
+    }),
+    ..NIL_ALONE
+};
+
+/// A field with an address below the first word.
+pub const FIELD_BELOW_BASE: TestImage = TestImage {
+    changed: Some(Change { index: 2, word: 0 }),
+    ..NIL_ALONE
+};
+
+/// The first of two bad fields counts.
+pub const TWO_ODD_FIELDS: TestImage = TestImage {
+    chunks: &[NIL, Array(&[0x1000, 0x1002, 0x1006])],
+    special: 0x1004,
+    ..EMPTY
+};
+
 /// A field with the address of a free chunk.
 pub const FIELD_NAMES_FREE_CHUNK: TestImage = TestImage {
     chunks: &[NIL, Free(&[1, 1]), Array(&[0x1004])],
@@ -131,14 +132,29 @@ pub const BAD_CLASS_WORD: TestImage = TestImage {
     ..CLASS_EDGE
 };
 
+/// A class word in a header of three words with an address at which no object is.
+pub const BAD_CLASS_WORD_OF_THREE: TestImage = TestImage {
+    chunks: &[
+        NIL,
+        Long {
+            class: 0x1004,
+            compact: 0,
+            format: 2,
+            first: &[1],
+            others: &[],
+        },
+        Array(&[0x1000, 0x100C]),
+    ],
+    special: 0x1014,
+    ..EMPTY
+};
+
 /// A bad class word counts before a bad field.
 pub const CLASS_WORD_BEFORE_FIELD: TestImage = TestImage {
     chunks: &[
         NIL,
-        Classed {
+        Instance {
             class: 0x2000,
-            compact: 0,
-            format: 1,
             fields: &[0x1002],
         },
         Array(&[0x1000, 0x1008]),
@@ -181,10 +197,8 @@ pub const WEAK_BAD_BEFORE_FIELD: TestImage = TestImage {
     chunks: &[
         NIL,
         Fixed(&[1, 1, 0x1000]),
-        Classed {
+        Weak {
             class: 0x1004,
-            compact: 0,
-            format: 4,
             fields: &[0x1002],
         },
         Array(&[0x1000, 0x1018]),

@@ -1,6 +1,6 @@
 //! Accepted images that show which fields of each format are traced.
 
-use super::chunks::Chunk::{Array, Classed, Fixed, Short};
+use super::chunks::Chunk::{Array, Classed, Each, Fixed, Short};
 use super::chunks::{LEAF, NIL, ODD};
 use super::images::{EMPTY, TestImage};
 
@@ -85,24 +85,8 @@ pub const CONTEXT_WITHOUT_STACK_POINTER: TestImage = TestImage {
 pub const LIKE_CONTEXTS: TestImage = TestImage {
     chunks: &[
         NIL,
-        Short {
-            compact: 4,
-            format: 3,
-            fields: &[1, 1, 0xFFFF_FFFF],
-        },
-        Short {
-            compact: 12,
-            format: 3,
-            fields: &[1, 1, 0xFFFF_FFFF],
-        },
-        Short {
-            compact: 15,
-            format: 3,
-            fields: &[1, 1, 0xFFFF_FFFF],
-        },
-        Short {
-            compact: 13,
-            format: 2,
+        Each {
+            kinds: &[(4, 3), (12, 3), (15, 3), (13, 2)],
             fields: &[1, 1, 0xFFFF_FFFF],
         },
         Array(&[0x1000, 0x1004, 0x1014, 0x1024, 0x1034]),
@@ -148,39 +132,8 @@ pub const UNTRACED_FORMATS: TestImage = TestImage {
     chunks: &[
         NIL,
         Array(&[1, 1]),
-        Short {
-            compact: 1,
-            format: 5,
-            fields: &[0x1010],
-        },
-        Short {
-            compact: 1,
-            format: 6,
-            fields: &[0x1010],
-        },
-        Short {
-            compact: 1,
-            format: 7,
-            fields: &[0x1010],
-        },
-        Short {
-            compact: 1,
-            format: 8,
-            fields: &[0x1010],
-        },
-        Short {
-            compact: 1,
-            format: 9,
-            fields: &[0x1010],
-        },
-        Short {
-            compact: 1,
-            format: 10,
-            fields: &[0x1010],
-        },
-        Short {
-            compact: 1,
-            format: 11,
+        Each {
+            kinds: &[(1, 5), (1, 6), (1, 7), (1, 8), (1, 9), (1, 10), (1, 11)],
             fields: &[0x1010],
         },
         Array(&[
@@ -188,5 +141,71 @@ pub const UNTRACED_FORMATS: TestImage = TestImage {
         ]),
     ],
     special: 0x1048,
+    ..EMPTY
+};
+
+/// A method of literals to its end.
+pub const LITERALS_ALONE: TestImage = TestImage {
+    chunks: &[
+        NIL,
+        LEAF,
+        LEAF,
+        Short {
+            compact: 5,
+            format: 12,
+            fields: &[0x801, 0x100C, 0x1000],
+        },
+        Array(&[0x1000, 0x1014]),
+    ],
+    special: 0x1024,
+    ..EMPTY
+};
+
+/// The fields of a method: a header that states one literal, with all bits set that do not count
+/// literals, that literal, and a word after it.
+const ONE_LITERAL: &[u32] = &[0xFFFC_07FF, 0x1000, 0x1002];
+
+/// They are a method in the lowest format of one, whose header counts one literal although its
+/// other bits are set too.
+pub const LOWEST_METHOD_FORMAT: TestImage = TestImage {
+    chunks: &[
+        NIL,
+        Short {
+            compact: 5,
+            format: 12,
+            fields: ONE_LITERAL,
+        },
+        Array(&[0x1000, 0x1004]),
+    ],
+    special: 0x1014,
+    ..EMPTY
+};
+
+/// They are a method in the highest format of one.
+pub const HIGHEST_METHOD_FORMAT: TestImage = TestImage {
+    chunks: &[
+        NIL,
+        Short {
+            compact: 5,
+            format: 15,
+            fields: ONE_LITERAL,
+        },
+        Array(&[0x1000, 0x1004]),
+    ],
+    special: 0x1014,
+    ..EMPTY
+};
+
+/// The formats 12 to 15 are methods. Only the header of one without literals is traced.
+pub const METHODS_WITHOUT_LITERALS: TestImage = TestImage {
+    chunks: &[
+        NIL,
+        Each {
+            kinds: &[(5, 12), (5, 13), (5, 14), (5, 15)],
+            fields: &[1, 0x1002],
+        },
+        Array(&[0x1000, 0x1004, 0x1010, 0x101C, 0x1028]),
+    ],
+    special: 0x1034,
     ..EMPTY
 };

@@ -1,30 +1,10 @@
 //! Images with weak objects that are accepted, at least if weak slots are kept.
 
-use super::answers::WEAK_FIELDS_CLEARED;
-use super::chunks::Chunk::{Array, Classed, Fixed, Long, LongArray, Short};
+use super::chunks::Chunk::{Array, Fixed, Long, LongArray, Short, Weak};
 use super::chunks::{LEAF, NIL};
+use super::cleared::WEAK_FIELDS_CLEARED;
 use super::images::{Change, EMPTY, TestImage};
 use sqz_object::Order;
-
-/// All of these.
-pub const WITH_WEAK_OBJECTS: [TestImage; 16] = [
-    WEAK_FIELDS,
-    WEAK_SLOT_BIG_ENDIAN,
-    WEAK_SLOT_OF_LIVE_OBJECT,
-    WEAK_FIXED_FIELD,
-    WEAK_SIXTY_FOUR_FIXED,
-    WEAK_COMPACT_CLASS,
-    WEAK_OWN_CLASS,
-    WEAK_WEAK_CLASS,
-    WEAK_SPECIAL_WITH_CLASS_WORD,
-    WEAK_SPECIAL,
-    WEAK_BAD_CLASS,
-    WEAK_SMALL_CLASS,
-    WEAK_NEGATIVE_FIXED,
-    WEAK_TOO_MANY_FIXED,
-    WEAK_COMPACT_CLASSES,
-    WEAK_ARRAY,
-];
 
 /// A weak object whose only slot points to an object to which nothing else points. Its class, whose
 /// field 2 is data word 4, states no fixed field.
@@ -33,10 +13,8 @@ pub const WEAK_FIELDS: TestImage = TestImage {
         NIL,
         Fixed(&[1, 1, 0x405]),
         LEAF,
-        Classed {
+        Weak {
             class: 0x1004,
-            compact: 0,
-            format: 4,
             fields: &[0x1014],
         },
         Array(&[0x1000, 0x1020]),
@@ -58,10 +36,8 @@ pub const WEAK_SLOT_OF_LIVE_OBJECT: TestImage = TestImage {
         LEAF,
         Fixed(&[1, 1, 0x405]),
         LEAF,
-        Classed {
+        Weak {
             class: 0x100C,
-            compact: 0,
-            format: 4,
             fields: &[0x101C],
         },
         Array(&[0x1000, 0x1028, 0x101C]),
@@ -77,10 +53,8 @@ pub const WEAK_FIXED_FIELD: TestImage = TestImage {
         Fixed(&[1, 1, 0x409]),
         LEAF,
         LEAF,
-        Classed {
+        Weak {
             class: 0x1004,
-            compact: 0,
-            format: 4,
             fields: &[0x1014, 0x101C],
         },
         Array(&[0x1000, 0x1028]),
@@ -135,10 +109,8 @@ pub const WEAK_OWN_CLASS: TestImage = TestImage {
     chunks: &[
         NIL,
         LEAF,
-        Classed {
+        Weak {
             class: 0x1010,
-            compact: 0,
-            format: 4,
             fields: &[1, 0x1004, 0x409],
         },
         Array(&[0x1000, 0x1010]),
@@ -153,16 +125,12 @@ pub const WEAK_WEAK_CLASS: TestImage = TestImage {
         NIL,
         Fixed(&[1, 1, 0x405]),
         LEAF,
-        Classed {
+        Weak {
             class: 0x1004,
-            compact: 0,
-            format: 4,
             fields: &[1, 0x1014, 0x405],
         },
-        Classed {
+        Weak {
             class: 0x1020,
-            compact: 0,
-            format: 4,
             fields: &[0x1014],
         },
         Array(&[0x1000, 0x1034]),
@@ -176,10 +144,8 @@ pub const WEAK_SPECIAL_WITH_CLASS_WORD: TestImage = TestImage {
     chunks: &[
         NIL,
         Fixed(&[1, 1, 0x409]),
-        Classed {
+        Weak {
             class: 0x1004,
-            compact: 0,
-            format: 4,
             fields: &[0x1000, 1],
         },
     ],
@@ -215,10 +181,8 @@ pub const WEAK_SMALL_CLASS: TestImage = TestImage {
     chunks: &[
         NIL,
         Fixed(&[1, 1]),
-        Classed {
+        Weak {
             class: 0x1004,
-            compact: 0,
-            format: 4,
             fields: &[0x1000],
         },
         Array(&[0x1000, 0x1014]),
@@ -282,10 +246,8 @@ pub const WEAK_ARRAY: TestImage = TestImage {
             format: 0,
             fields: &[3],
         },
-        Classed {
+        Weak {
             class: 0x1004,
-            compact: 0,
-            format: 4,
             fields: &[0x1034, 0x103C],
         },
         Array(&[0x1000, 0x1048, 0x103C]),

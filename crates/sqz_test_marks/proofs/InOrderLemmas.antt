@@ -1,5 +1,5 @@
 -- What calls leave of a pass, step by step, and where the edges of an object with few fields lead.
--- Serves `in_order::mark_special` and `::mark_others`.
+-- Serves `in_order::claim_nil`, `::claim_first`, `::blacken_special` and `::mark_others`.
 use Rattle.std.proofs.Common.{◌≡◌, ◌⊎◌, ℕ, ◌<◌, Option, Some, sym, ap, subst, ◌∙◌, arith, inl, inr}
 use Rattle.std.proofs.lemmas.Bool.{cases_lt}
 use Rattle.std.proofs.lemmas.Option.{same_Some}

@@ -25,9 +25,13 @@ pub record HasDeadCycle (memory : Memory) (weak : Weak) : Type 0 where
 abbrev pub nil_seen : View
 nil_seen = seen_by 0 (won_by 0 (looked 5 Grey (first_view 2 5)))
 
+-- objects 0 and 1 are counted, and object 1 is won
+abbrev pub first_counted : View
+first_counted = counted 1 (won_by 1 (counted 0 nil_seen))
+
 -- the special objects array is black
 abbrev pub special_black : View
-special_black = looked 2 White (looked 5 Black (blackened 5 (counted 1 (won_by 1 (counted 0 nil_seen)))))
+special_black = looked 2 White (looked 5 Black (blackened 5 first_counted))
 
 -- all live objects are black
 abbrev pub all_black : View

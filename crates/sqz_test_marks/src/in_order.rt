@@ -3,10 +3,13 @@
 
 ghost use Rattle.std.specs.Prelude.{◌≡◌, ◌<◌};
 ghost use Rattle.sqz_image.specs.Objects.{object_count};
+ghost use Rattle.sqz_image.specs.declared.slot.Slot.TheVariants.{Field};
 ghost use Rattle.sqz_trace.specs.declared.weak.Weak.TheVariants.{Keep};
+ghost use Rattle.sqz_trace.specs.Edges.{strong_target};
 ghost use Rattle.sqz_marks.specs.Core.{first_view};
 ghost use Rattle.sqz_marks.specs.Table.{IsPassOf, knowing, start_of};
-ghost use Rattle.sqz_test_marks.specs.InOrder.{HasDeadCycle, HasFields, special_black, all_black};
+ghost use Rattle.sqz_test_marks.specs.InOrder.{HasDeadCycle, HasFields, nil_seen, first_counted};
+ghost use Rattle.sqz_test_marks.specs.InOrder.{special_black, all_black};
 
 use super::passes::{assert_parts, assert_whole};
 use super::steps::{assert_closed, assert_dead_cycle, close_again, is_same, new_cut};
@@ -56,6 +59,47 @@ fn assert_claim<R: Abort>(rt: &R, found: Claim, wanted: Claim)
     assert!(rt; is_same(found, wanted), "{found:?} and not {wanted:?}");
 }
 
+/// Looks at the special objects array, and claims nil, which it points to, twice.
+fn claim_nil<R: Abort>(rt: &R, table: &MarkTable<'_>, pass: &mut Pass)
+    requires of { IsPassOf table.now pass.old }
+    requires cycle { HasDeadCycle table.now.heap.memory table.now.weak }
+    requires opened { pass.old.view ≡ first_view 2 5 }
+    ensures known { pass.new ≡ knowing pass.old nil_seen }
+    ensures target { strong_target table.now.heap.memory table.now.weak 5 (Field 0) ≡ Some 0 }
+{
+    assert_shade(rt, table.look(pass, 5), Shade::Grey);
+    assert_claim(rt, table.claim(pass, 5, Slot::Field(0)), Claim::Won(0));
+    assert_claim(rt, table.claim(pass, 5, Slot::Field(0)), Claim::Seen(0));
+    assert_claim(rt, table.claim(pass, 5, Slot::ClassWord), Claim::Nothing);
+}
+
+/// Counts nil, and claims and counts the other object that the special objects array points to.
+fn claim_first<R: Abort>(rt: &R, table: &MarkTable<'_>, pass: &mut Pass)
+    requires of { IsPassOf table.now pass.old }
+    requires cycle { HasDeadCycle table.now.heap.memory table.now.weak }
+    requires known { pass.old.view ≡ nil_seen }
+    ensures known { pass.new ≡ knowing pass.old first_counted }
+    ensures target { strong_target table.now.heap.memory table.now.weak 5 (Field 1) ≡ Some 1 }
+{
+    table.count(pass, 0);
+    assert_claim(rt, table.claim(pass, 5, Slot::Field(1)), Claim::Won(1));
+    table.count(pass, 1);
+}
+
+/// Blackens the special objects array, and looks at it and at a dead object.
+fn blacken_special<R: Abort>(rt: &R, table: &MarkTable<'_>, pass: &mut Pass)
+    requires of { IsPassOf table.now pass.old }
+    requires cycle { HasDeadCycle table.now.heap.memory table.now.weak }
+    requires known { pass.old.view ≡ first_counted }
+    requires nil { strong_target table.now.heap.memory table.now.weak 5 (Field 0) ≡ Some 0 }
+    requires first { strong_target table.now.heap.memory table.now.weak 5 (Field 1) ≡ Some 1 }
+    ensures { pass.new ≡ knowing pass.old special_black }
+{
+    table.blacken(pass, 5);
+    assert_shade(rt, table.look(pass, 5), Shade::Black);
+    assert_shade(rt, table.look(pass, 2), Shade::White);
+}
+
 /// Marks what the special objects array points to, and then that array.
 fn mark_special<R: Abort>(rt: &R, table: &MarkTable<'_>, pass: &mut Pass)
     requires of { IsPassOf table.now pass.old }
@@ -63,16 +107,9 @@ fn mark_special<R: Abort>(rt: &R, table: &MarkTable<'_>, pass: &mut Pass)
     requires opened { pass.old.view ≡ first_view 2 5 }
     ensures { pass.new ≡ knowing pass.old special_black }
 {
-    assert_shade(rt, table.look(pass, 5), Shade::Grey);
-    assert_claim(rt, table.claim(pass, 5, Slot::Field(0)), Claim::Won(0));
-    assert_claim(rt, table.claim(pass, 5, Slot::Field(0)), Claim::Seen(0));
-    assert_claim(rt, table.claim(pass, 5, Slot::ClassWord), Claim::Nothing);
-    table.count(pass, 0);
-    assert_claim(rt, table.claim(pass, 5, Slot::Field(1)), Claim::Won(1));
-    table.count(pass, 1);
-    table.blacken(pass, 5);
-    assert_shade(rt, table.look(pass, 5), Shade::Black);
-    assert_shade(rt, table.look(pass, 2), Shade::White);
+    claim_nil(rt, table, pass);
+    claim_first(rt, table, pass);
+    blacken_special(rt, table, pass);
 }
 
 /// Marks the other live objects.

@@ -2,7 +2,8 @@
 
 use super::images::{compacted_image, whole_image};
 use super::programs::{assert_ended, assert_printed, run_program};
-use sqz_fixtures::answers::WEAK_FIELDS_CLEARED;
+use sqz_fixtures::censuses::NIL_ALONE_CENSUS;
+use sqz_fixtures::cleared::WEAK_FIELDS_CLEARED;
 use sqz_fixtures::with_weak_objects::WEAK_FIELDS;
 use sqz_fixtures::{TestImage, file_of};
 use std::fs::File;
@@ -84,18 +85,11 @@ const CENSUS_WORDS: [&str; 6] = [
     "kept.image",
 ];
 
-/// The text of the census of what is left of the image of three objects.
-const CENSUS: &str = concat!(
-    "         1            8 -------- compact 3\n",
-    "         1            4 -------- compact 1\n",
-    "         2           12 total\n",
-);
-
 #[test]
 fn prints_a_census(rt: HostRuntime) -> Result<(), Fail> {
     make_image(&rt, "counted.image")?;
     let ended = run_program(&rt, rt.alloc(), &CENSUS_WORDS)?;
-    assert_printed(&rt, &ended, 0, CENSUS, "");
+    assert_printed(&rt, &ended, 0, NIL_ALONE_CENSUS, "");
     assert_holds(&rt, "kept.image", &compacted_image(rt.alloc())?)
 }
 

@@ -2,6 +2,9 @@
 
 use super::runs::{Outcome, assert_bytes, run_by_two};
 use sqz_fixtures::accepted::DEAD_ARRAY;
+use sqz_fixtures::censuses::{
+    BIG_ENDIAN_CLASS_NAMES_CENSUS, CLASS_NAMES_CENSUS, METACLASS_CENSUS, NIL_ALONE_CENSUS,
+};
 use sqz_fixtures::with_classes::{BIG_ENDIAN_CLASS_NAMES, CLASS_NAMES, METACLASS};
 use sqz_fixtures::{Change, TestImage, file_of};
 use sqz_trace::Weak;
@@ -9,21 +12,6 @@ use std::process::Abort;
 use std::sync::Wait;
 use std::test::Fail;
 use std::thread::Threads;
-
-/// The census of nil and a special objects array that points to it.
-pub(crate) const NIL_CENSUS: &str = concat!(
-    "         1            8 -------- compact 3\n",
-    "         1            4 -------- compact 1\n",
-    "         2           12 total\n",
-);
-
-/// The census of the image with a class.
-pub(crate) const CLASS_CENSUS: &str = concat!(
-    "         2          128 -------- compact 3\n",
-    "         2           36 00001004 Object\n",
-    "         1           12 -------- compact 2\n",
-    "         5          176 total\n",
-);
 
 /// Asserts that the census of an image has this text.
 pub(crate) fn assert_census<R: Threads + Wait + Sync + Abort + AllocGlobal>(
@@ -45,18 +33,13 @@ fn assert_census_text<R: Abort>(rt: &R, outcome: &Outcome, text: &str) {
 
 #[test]
 fn objects_without_a_class(rt: HostRuntime) -> Result<(), Fail> {
-    assert_census(&rt, Weak::Keep, &DEAD_ARRAY, NIL_CENSUS)
+    assert_census(&rt, Weak::Keep, &DEAD_ARRAY, NIL_ALONE_CENSUS)
 }
 
 #[test]
 fn class_with_a_name(rt: HostRuntime) -> Result<(), Fail> {
-    assert_census(&rt, Weak::Keep, &CLASS_NAMES, CLASS_CENSUS)?;
-    let text = concat!(
-        "         2          128 -------- compact 3\n",
-        "         2           36 00001004 ejbO??\n",
-        "         1           12 -------- compact 2\n",
-        "         5          176 total\n",
-    );
+    assert_census(&rt, Weak::Keep, &CLASS_NAMES, CLASS_NAMES_CENSUS)?;
+    let text = BIG_ENDIAN_CLASS_NAMES_CENSUS;
     assert_census(&rt, Weak::Keep, &BIG_ENDIAN_CLASS_NAMES, text)
 }
 
@@ -78,11 +61,5 @@ fn class_without_a_name(rt: HostRuntime) -> Result<(), Fail> {
 
 #[test]
 fn metaclass(rt: HostRuntime) -> Result<(), Fail> {
-    let text = concat!(
-        "         2          128 -------- compact 3\n",
-        "         3           68 00001004 Object class\n",
-        "         1           12 -------- compact 2\n",
-        "         6          208 total\n",
-    );
-    assert_census(&rt, Weak::Keep, &METACLASS, text)
+    assert_census(&rt, Weak::Keep, &METACLASS, METACLASS_CENSUS)
 }

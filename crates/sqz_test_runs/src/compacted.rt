@@ -2,17 +2,24 @@
 
 use super::prefixes::assert_array_left_out;
 use super::runs::assert_compacts;
-use sqz_fixtures::Chunk::{Array, Classed, Free, Long, Short, Words};
+use sqz_fixtures::Chunk::{Array, Instance, Long, Short};
 use sqz_fixtures::accepted::{
-    DEAD_BAD_CONTEXT, DEAD_BAD_METHOD, DEAD_BAD_POINTER, DEAD_WITHOUT_CLASS, FREE_CHUNK,
+    DEAD_BAD_CONTEXT, DEAD_BAD_METHOD, DEAD_BAD_POINTER, DEAD_WITHOUT_CLASS, FREE_CHUNK, FREE_WORD,
     HIGHEST_BASE, INTEGERS, NIL_ALONE,
 };
-use sqz_fixtures::answers::CLASS_EDGE_ANSWER;
+use sqz_fixtures::answers::{
+    CLASS_EDGE_ANSWER, CLASS_EDGE_OF_THREE_WORDS_ANSWER, HIGHEST_BASE_ANSWER,
+};
+use sqz_fixtures::answers_of_formats::{
+    CONTEXT_STACK_ANSWER, CONTEXT_WITH_CLASS_WORD_ANSWER, LITERALS_ALONE_ANSWER,
+    METHOD_LITERALS_ANSWER,
+};
 use sqz_fixtures::with_classes::{CLASS_EDGE, CLASS_EDGE_OF_THREE_WORDS, CLASS_NAMES};
 use sqz_fixtures::with_formats::{
-    CONTEXT_STACK, CONTEXT_WITH_CLASS_WORD, CONTEXT_WITHOUT_STACK_POINTER, METHOD_LITERALS,
+    CONTEXT_STACK, CONTEXT_WITH_CLASS_WORD, CONTEXT_WITHOUT_STACK_POINTER, HIGHEST_METHOD_FORMAT,
+    LIKE_CONTEXTS, LITERALS_ALONE, LOWEST_METHOD_FORMAT, METHOD_LITERALS,
 };
-use sqz_fixtures::{EMPTY, LEAF, NIL, ODD, TestImage, with_word};
+use sqz_fixtures::{EMPTY, NIL, TestImage, with_word};
 use sqz_object::Order;
 use sqz_trace::Weak;
 use std::process::Abort;
@@ -35,96 +42,12 @@ fn numbers_of_a_run(rt: HostRuntime) -> Result<(), Fail> {
     assert_array_left_out(&rt, 0, Order::Little, Weak::Keep)
 }
 
-/// The fields of what would be a bad context, since the stack pointer is negative.
-const NEGATIVE_STACK: &[u32] = &[1, 1, 0xFFFF_FFFF];
-
-/// Format 3 with compact index 4 is no context.
-const FORMAT_OF_CONTEXT: TestImage = TestImage {
-    chunks: &[
-        NIL,
-        Short {
-            compact: 4,
-            format: 3,
-            fields: NEGATIVE_STACK,
-        },
-        Array(&[0x1000, 0x1004]),
-    ],
-    special: 0x1014,
-    ..EMPTY
-};
-
-/// Nor is it with compact index 12.
-const INDEX_BEFORE_CONTEXT: TestImage = TestImage {
-    chunks: &[
-        NIL,
-        Short {
-            compact: 12,
-            format: 3,
-            fields: NEGATIVE_STACK,
-        },
-        Array(&[0x1000, 0x1004]),
-    ],
-    special: 0x1014,
-    ..EMPTY
-};
-
-/// Nor is format 2 with compact index 13.
-const INDEX_OF_CONTEXT: TestImage = TestImage {
-    chunks: &[
-        NIL,
-        Short {
-            compact: 13,
-            format: 2,
-            fields: NEGATIVE_STACK,
-        },
-        Array(&[0x1000, 0x1004]),
-    ],
-    special: 0x1014,
-    ..EMPTY
-};
-
-/// The fields of a method: a header that states one literal, with all bits set that do not count
-/// literals, that literal, and a word after it.
-const ONE_LITERAL: &[u32] = &[0xFFFC_07FF, 0x1000, 0x1002];
-
-/// They are a method in the lowest format of one.
-const LOWEST_METHOD_FORMAT: TestImage = TestImage {
-    chunks: &[
-        NIL,
-        Short {
-            compact: 5,
-            format: 12,
-            fields: ONE_LITERAL,
-        },
-        Array(&[0x1000, 0x1004]),
-    ],
-    special: 0x1014,
-    ..EMPTY
-};
-
-/// They are a method in the highest.
-const HIGHEST_METHOD_FORMAT: TestImage = TestImage {
-    chunks: &[
-        NIL,
-        Short {
-            compact: 5,
-            format: 15,
-            fields: ONE_LITERAL,
-        },
-        Array(&[0x1000, 0x1004]),
-    ],
-    special: 0x1014,
-    ..EMPTY
-};
-
 #[test]
 fn same_as_it_was(rt: HostRuntime) -> Result<(), Fail> {
     for image in &[
         INTEGERS,
         CONTEXT_WITHOUT_STACK_POINTER,
-        FORMAT_OF_CONTEXT,
-        INDEX_BEFORE_CONTEXT,
-        INDEX_OF_CONTEXT,
+        LIKE_CONTEXTS,
         LOWEST_METHOD_FORMAT,
         HIGHEST_METHOD_FORMAT,
         CLASS_NAMES,
@@ -138,10 +61,8 @@ fn same_as_it_was(rt: HostRuntime) -> Result<(), Fail> {
 const DEAD_BAD_CLASS_WORD: TestImage = TestImage {
     chunks: &[
         NIL,
-        Classed {
+        Instance {
             class: 0x2000,
-            compact: 0,
-            format: 1,
             fields: &[1],
         },
         Array(&[0x1000]),
@@ -167,13 +88,6 @@ const DEAD_BAD_CLASS_WORD_OF_THREE: TestImage = TestImage {
     ..EMPTY
 };
 
-/// A free chunk may have one word.
-const FREE_WORD: TestImage = TestImage {
-    chunks: &[NIL, Free(&[]), Array(&[0x1000])],
-    special: 0x1008,
-    ..EMPTY
-};
-
 #[test]
 fn dead_object_of_any_kind(rt: HostRuntime) -> Result<(), Fail> {
     for image in &[
@@ -191,30 +105,10 @@ fn dead_object_of_any_kind(rt: HostRuntime) -> Result<(), Fail> {
     Ok(())
 }
 
-/// What `HIGHEST_BASE` is compacted to.
-const HIGHEST_BASE_ANSWER: TestImage = TestImage {
-    base: 0xFFFF_FFE8,
-    chunks: &[NIL, Array(&[0xFFFF_FFE8])],
-    special: 0xFFFF_FFEC,
-    ..EMPTY
-};
-
 #[test]
 fn highest_base(rt: HostRuntime) -> Result<(), Fail> {
     assert_left(&rt, &HIGHEST_BASE, &HIGHEST_BASE_ANSWER)
 }
-
-/// What `CLASS_EDGE_OF_THREE_WORDS` is compacted to.
-const CLASS_EDGE_OF_THREE_WORDS_ANSWER: TestImage = TestImage {
-    chunks: &[
-        NIL,
-        LEAF,
-        Words(&[8, 0x1004, 0x3FC, 1]),
-        Array(&[0x1000, 0x1014]),
-    ],
-    special: 0x101C,
-    ..EMPTY
-};
 
 #[test]
 fn class_words_that_move(rt: HostRuntime) -> Result<(), Fail> {
@@ -223,102 +117,12 @@ fn class_words_that_move(rt: HostRuntime) -> Result<(), Fail> {
     assert_left(&rt, &CLASS_EDGE_OF_THREE_WORDS, answer)
 }
 
-/// The fields of the context of `CONTEXT_STACK`. The one on the stack points to an object that has
-/// moved.
-const MOVED_STACK: &[u32] = &[0x1000, 1, 3, 0x1000, 0x1000, 0x1000, 0x1004, 0x1014, 2, ODD];
-
-/// What `CONTEXT_STACK` is compacted to.
-const CONTEXT_STACK_ANSWER: TestImage = TestImage {
-    chunks: &[
-        NIL,
-        LEAF,
-        Short {
-            compact: 13,
-            format: 3,
-            fields: MOVED_STACK,
-        },
-        Array(&[0x1000, 0x100C]),
-    ],
-    special: 0x1038,
-    ..EMPTY
-};
-
-/// The fields of the context of `CONTEXT_WITH_CLASS_WORD`, with the address of the object that has
-/// moved.
-const MOVED_STACK_BELOW_ODD: &[u32] = &[0x1000, 1, 3, 0x1000, 0x1000, 0x1000, 0x1004, 0x1002];
-
-/// What `CONTEXT_WITH_CLASS_WORD` is compacted to.
-const CONTEXT_WITH_CLASS_WORD_ANSWER: TestImage = TestImage {
-    chunks: &[
-        NIL,
-        LEAF,
-        Classed {
-            class: 0x1004,
-            compact: 14,
-            format: 3,
-            fields: MOVED_STACK_BELOW_ODD,
-        },
-        Array(&[0x1000, 0x1010]),
-    ],
-    special: 0x1034,
-    ..EMPTY
-};
-
 #[test]
 fn contexts(rt: HostRuntime) -> Result<(), Fail> {
     assert_left(&rt, &CONTEXT_STACK, &CONTEXT_STACK_ANSWER)?;
     let answer = &CONTEXT_WITH_CLASS_WORD_ANSWER;
     assert_left(&rt, &CONTEXT_WITH_CLASS_WORD, answer)
 }
-
-/// What `METHOD_LITERALS` is compacted to.
-const METHOD_LITERALS_ANSWER: TestImage = TestImage {
-    chunks: &[
-        NIL,
-        LEAF,
-        Short {
-            compact: 5,
-            format: 12,
-            fields: &[0x801, 0x1004, 0x1000, 0x100C],
-        },
-        Array(&[0x1000, 0x100C]),
-    ],
-    special: 0x1020,
-    ..EMPTY
-};
-
-/// A method of literals to its end.
-const LITERALS_ALONE: TestImage = TestImage {
-    chunks: &[
-        NIL,
-        LEAF,
-        LEAF,
-        Short {
-            compact: 5,
-            format: 12,
-            fields: &[0x801, 0x100C, 0x1000],
-        },
-        Array(&[0x1000, 0x1014]),
-    ],
-    special: 0x1024,
-    ..EMPTY
-};
-
-/// What it is compacted to.
-const LITERALS_ALONE_ANSWER: TestImage = TestImage {
-    chunks: &[
-        NIL,
-        LEAF,
-        Short {
-            compact: 5,
-            format: 12,
-            fields: &[0x801, 0x1004, 0x1000],
-        },
-        Array(&[0x1000, 0x100C]),
-    ],
-    special: 0x101C,
-    ..EMPTY
-};
 
 #[test]
 fn methods(rt: HostRuntime) -> Result<(), Fail> {

@@ -2,18 +2,21 @@
 //! defect.
 
 use super::runs::assert_image_refused;
-use sqz_fixtures::Chunk::{Array, Long, Short};
 use sqz_fixtures::accepted::NIL_ALONE;
-use sqz_fixtures::with_bad_formats::{
-    ALL_ONES, BAD_LITERAL, CONTEXT_OF_FIVE_FIELDS, METHOD_HEADER, METHOD_WITHOUT_CLASS,
-    METHOD_WITHOUT_FIELDS, SHORT_CONTEXT, TOO_MANY_LITERALS,
+use sqz_fixtures::with_bad_contexts::{
+    CONTEXT_OF_FIVE_FIELDS, CONTEXT_OF_TWO_FIELDS, FIVE_FIELDS_WITHOUT_STACK_POINTER, SHORT_CONTEXT,
+};
+use sqz_fixtures::with_bad_methods::{
+    ALL_ONES, BAD_LITERAL, METHOD_HEADER, METHOD_WITHOUT_CLASS, METHOD_WITHOUT_FIELDS,
+    ODD_METHOD_HEADER, TOO_MANY_LITERALS,
 };
 use sqz_fixtures::with_defects::{
-    BAD_CLASS_WORD, CLASS_WORD_BEFORE_FIELD, FIELD_NAMES_CLASS_WORD, FIELD_NAMES_FREE_CHUNK,
-    LOWER_IS_NAMED, LOWER_OF_TWO, NO_CLASS,
+    BAD_CLASS_WORD, BAD_CLASS_WORD_OF_THREE, CLASS_WORD_BEFORE_FIELD, FIELD_NAMES_CLASS_WORD,
+    FIELD_NAMES_FREE_CHUNK, LOWER_IS_NAMED, LOWER_OF_TWO, NO_CLASS, NO_CLASS_BEFORE_FIELD,
+    TWO_ODD_FIELDS,
 };
 use sqz_fixtures::with_formats::CONTEXT_STACK;
-use sqz_fixtures::{Change, EMPTY, NIL, TestImage, with_word};
+use sqz_fixtures::{TestImage, with_word};
 use sqz_image::{Fault, Slot};
 use sqz_trace::Weak;
 use std::process::Abort;
@@ -52,13 +55,6 @@ fn assert_bad_slots<R: Threads + Wait + Sync + Abort + AllocGlobal>(
     Ok(())
 }
 
-/// The first of two bad fields counts.
-const TWO_ODD_FIELDS: TestImage = TestImage {
-    chunks: &[NIL, Array(&[0x1000, 0x1002, 0x1006])],
-    special: 0x1004,
-    ..EMPTY
-};
-
 /// Images with a bad field, and the address of the object that has it.
 const BAD_FIELDS: &[(TestImage, u32, Slot)] = &[
     (FIELD_NAMES_FREE_CHUNK, 0x1010, Slot::Field(0)),
@@ -84,38 +80,6 @@ fn bad_fields(rt: HostRuntime) -> Result<(), Fail> {
     assert_bad_slots(&rt, BAD_FIELDS)
 }
 
-/// A class word in a header of three words with an address at which no object is.
-const BAD_CLASS_WORD_OF_THREE: TestImage = TestImage {
-    chunks: &[
-        NIL,
-        Long {
-            class: 0x1004,
-            compact: 0,
-            format: 2,
-            first: &[1],
-            others: &[],
-        },
-        Array(&[0x1000, 0x100C]),
-    ],
-    special: 0x1014,
-    ..EMPTY
-};
-
-/// That an object has no class counts before its bad field.
-const NO_CLASS_BEFORE_FIELD: TestImage = TestImage {
-    chunks: &[
-        NIL,
-        Short {
-            compact: 0,
-            format: 2,
-            fields: &[0x1002],
-        },
-        Array(&[0x1000, 0x1004]),
-    ],
-    special: 0x100C,
-    ..EMPTY
-};
-
 /// Images with a bad class word, and the address of the object that has it.
 const BAD_CLASS_WORDS: &[(TestImage, u32, Slot)] = &[
     (BAD_CLASS_WORD, 0x101C, Slot::ClassWord),
@@ -137,15 +101,6 @@ fn bad_or_missing_classes(rt: HostRuntime) -> Result<(), Fail> {
     assert_all_refused(&rt, MISSING_CLASSES)
 }
 
-/// A method whose field 0 is neither an integer nor an address.
-const ODD_METHOD_HEADER: TestImage = TestImage {
-    changed: Some(Change {
-        index: 2,
-        word: 0x1002,
-    }),
-    ..METHOD_HEADER
-};
-
 /// Images with a bad method, and the fault of each.
 const BAD_METHODS: &[(TestImage, Fault)] = &[
     (METHOD_HEADER, Fault::BadMethod { address: 0x1004 }),
@@ -161,21 +116,6 @@ fn bad_methods(rt: HostRuntime) -> Result<(), Fail> {
     assert_image_refused(&rt, Weak::Keep, &BAD_LITERAL, bad_field(0x1004, 1))
 }
 
-/// A context of two fields, without a stack pointer.
-const CONTEXT_OF_TWO_FIELDS: TestImage = TestImage {
-    chunks: &[
-        NIL,
-        Short {
-            compact: 13,
-            format: 3,
-            fields: &[1, 1],
-        },
-        Array(&[0x1000, 0x1004]),
-    ],
-    special: 0x1010,
-    ..EMPTY
-};
-
 #[test]
 fn short_contexts(rt: HostRuntime) -> Result<(), Fail> {
     let fault = Fault::BadContext { address: 0x1004 };
@@ -183,7 +123,7 @@ fn short_contexts(rt: HostRuntime) -> Result<(), Fail> {
         (SHORT_CONTEXT, fault),
         (CONTEXT_OF_TWO_FIELDS, fault),
         (CONTEXT_OF_FIVE_FIELDS, fault),
-        (with_word(CONTEXT_OF_FIVE_FIELDS, 4, 0x1000), fault),
+        (FIVE_FIELDS_WITHOUT_STACK_POINTER, fault),
     ];
     assert_all_refused(&rt, &some)
 }

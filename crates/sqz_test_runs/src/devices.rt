@@ -1,10 +1,10 @@
 //! Devices that fail in the midst of a run: at each call in turn, and at each number of bytes.
 
-use super::censuses::{CLASS_CENSUS, NIL_CENSUS};
 use super::prefixes::file_behind;
 use super::runs::{Devices, Outcome, SOUND, assert_bytes, assert_writes_both, plan_by, run_over};
 use sqz_fixtures::TestImage;
 use sqz_fixtures::accepted::{DEAD_ARRAY, NIL_ALONE};
+use sqz_fixtures::censuses::{CLASS_NAMES_CENSUS, NIL_ALONE_CENSUS};
 use sqz_fixtures::with_classes::CLASS_NAMES;
 use sqz_image::Fault;
 use sqz_tool::Plan;
@@ -40,19 +40,19 @@ const SAMPLES: &[Sample] = &[
         before: 0,
         image: DEAD_ARRAY,
         answer: NIL_ALONE,
-        text: NIL_CENSUS,
+        text: NIL_ALONE_CENSUS,
     },
     Sample {
         before: 512,
         image: DEAD_ARRAY,
         answer: NIL_ALONE,
-        text: NIL_CENSUS,
+        text: NIL_ALONE_CENSUS,
     },
     Sample {
         before: 0,
         image: CLASS_NAMES,
         answer: CLASS_NAMES,
-        text: CLASS_CENSUS,
+        text: CLASS_NAMES_CENSUS,
     },
 ];
 

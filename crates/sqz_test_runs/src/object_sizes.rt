@@ -1,27 +1,9 @@
 //! The largest object that a short header can state, and an object one word larger.
 
 use super::compacted::assert_left;
-use sqz_fixtures::Chunk::{Array, Long};
 use sqz_fixtures::accepted::{LARGEST_SHORT_OBJECT, THREE_WORD_HEADER};
-use sqz_fixtures::{EMPTY, NIL, TestImage};
+use sqz_fixtures::answers::THREE_WORD_HEADER_ANSWER;
 use std::test::Fail;
-
-/// What `THREE_WORD_HEADER` is compacted to.
-const THREE_WORD_HEADER_ANSWER: TestImage = TestImage {
-    chunks: &[
-        NIL,
-        Long {
-            class: 0x1000,
-            compact: 0,
-            format: 2,
-            first: &[1; 63],
-            others: &[],
-        },
-        Array(&[0x1000, 0x100C]),
-    ],
-    special: 0x110C,
-    ..EMPTY
-};
 
 /// A header word of its own states the size, and the object moves with its three header words.
 #[test]

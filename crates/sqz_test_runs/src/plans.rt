@@ -4,6 +4,7 @@ use super::runs::{SOUND, assert_writes_both, nine_plans};
 use super::weak_censuses::{WEAK_CLASS, WEAK_CLASS_CENSUS, WEAK_CLASS_CLEARED};
 use sqz_fixtures::accepted::DEAD_CYCLE;
 use sqz_fixtures::answers::DEAD_CYCLE_ANSWER;
+use sqz_fixtures::censuses::DEAD_CYCLE_CENSUS;
 use sqz_fixtures::{TestImage, file_of};
 use sqz_image::Fault;
 use sqz_marks::Workers;
@@ -51,11 +52,7 @@ pub(crate) fn assert_answers<R: Threads + Wait + Sync + Abort + AllocGlobal>(
 const DEAD_CYCLE_CASE: Case = Case {
     image: DEAD_CYCLE,
     answer: DEAD_CYCLE_ANSWER,
-    text: concat!(
-        "         3           20 -------- compact 1\n",
-        "         1           12 -------- compact 3\n",
-        "         4           32 total\n",
-    ),
+    text: DEAD_CYCLE_CENSUS,
 };
 
 #[test]

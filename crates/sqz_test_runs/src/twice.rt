@@ -1,9 +1,9 @@
 //! Runs over what a run has written: they write the same once more.
 
-use super::prefixes::{file_behind, with_tail};
+use super::prefixes::{behind, with_tail};
 use super::runs::{Outcome, SOUND, assert_bytes, assert_writes, run_by_two, run_over};
 use sqz_fixtures::accepted::NIL_ALONE;
-use sqz_fixtures::{IMAGES, TestImage, file_of};
+use sqz_fixtures::{Contents, WorkedImage, file_of, worked_tables};
 use sqz_image::Fault;
 use sqz_marks::Workers;
 use sqz_regions::Cut;
@@ -79,42 +79,55 @@ fn settles<R: Threads + Wait + Sync + Abort + AllocGlobal>(
     Ok(true)
 }
 
-/// How many of these images are accepted under this policy after this many bytes, and are compacted
-/// to fixed points.
-fn count_among<R: Threads + Wait + Sync + Abort + AllocGlobal>(
-    rt: &R,
-    weak: Weak,
-    bytes_before: usize,
-    images: &[TestImage],
-) -> Result<u32, Fail> {
-    let mut count: u32 = 0;
-    for image in images {
-        if settles(rt, weak, file_behind(rt.alloc(), bytes_before, image)?)? {
-            count = count.saturating_add(1);
-        }
-    }
-    Ok(count)
+/// Whether a worked image is accepted under this policy.
+fn is_accepted(worked: &WorkedImage, weak: Weak) -> bool {
+    let outcome = match weak {
+        Weak::Keep => worked.kept,
+        Weak::Clear => worked.cleared.unwrap_or(worked.kept),
+    };
+    outcome.is_accepted()
 }
 
-/// How many of all images are accepted under this policy after this many bytes, and are compacted
-/// to fixed points.
-fn count_settled<R: Threads + Wait + Sync + Abort + AllocGlobal>(
+/// Asserts that a worked image, in a file after this many bytes, is compacted to a fixed point if
+/// it is accepted under this policy, and only then.
+fn assert_worked<R: Threads + Wait + Sync + Abort + AllocGlobal>(
     rt: &R,
     weak: Weak,
     bytes_before: usize,
-) -> Result<u32, Fail> {
-    let mut count: u32 = 0;
-    for images in &IMAGES {
-        count = count.saturating_add(count_among(rt, weak, bytes_before, images)?);
+    worked: &WorkedImage,
+) -> Result<(), Fail> {
+    let file = worked.input.bytes(rt.alloc())?;
+    let settled = settles(rt, weak, behind(rt.alloc(), bytes_before, &file)?)?;
+    assert_eq!(rt;
+        settled,
+        is_accepted(worked, weak),
+        "{}, {weak:?}",
+        worked.name
+    );
+    Ok(())
+}
+
+/// Asserts it of a worked image under both policies, and after 512 bytes too if its file holds
+/// nothing but the image.
+fn assert_worked_under_both<R: Threads + Wait + Sync + Abort + AllocGlobal>(
+    rt: &R,
+    worked: &WorkedImage,
+) -> Result<(), Fail> {
+    for weak in [Weak::Keep, Weak::Clear] {
+        assert_worked(rt, weak, 0, worked)?;
+        if let Contents::Image(_) = worked.input {
+            assert_worked(rt, weak, 512, worked)?;
+        }
     }
-    Ok(count)
+    Ok(())
 }
 
 #[test]
 fn second_run_changes_nothing(rt: HostRuntime) -> Result<(), Fail> {
-    for bytes_before in [0, 512] {
-        assert_eq!(rt; count_settled(&rt, Weak::Keep, bytes_before)?, 45);
-        assert_eq!(rt; count_settled(&rt, Weak::Clear, bytes_before)?, 37);
+    for table in &worked_tables() {
+        for worked in table.images {
+            assert_worked_under_both(&rt, worked)?;
+        }
     }
     Ok(())
 }

@@ -8,7 +8,8 @@ use sqz_fixtures::unreadable::{
     OVERRUN, OVERRUN_OF_THREE, OVERRUN_OF_TWO, UNREADABLE_BEFORE_SPECIAL, ZERO_SIZE,
     ZERO_SIZE_OF_THREE, ZERO_SIZE_OF_TWO,
 };
-use sqz_fixtures::{EMPTY, TestImage};
+use sqz_fixtures::with_classes::CLASS_EDGE;
+use sqz_fixtures::{Change, EMPTY, TestImage};
 use sqz_image::Fault;
 use sqz_trace::Weak;
 use std::process::Abort;
@@ -75,21 +76,30 @@ fn first_fault(rt: HostRuntime) -> Result<(), Fail> {
     assert_all_unreadable(&rt, FIRST_FAULTS)
 }
 
-/// Asserts that an image is refused whose special objects array would be here.
+/// A free chunk in place of the dead array of `CLASS_EDGE`. A class word is at 0x1018.
+const FREE_CHUNK_BEFORE_CLASS_EDGE: TestImage = TestImage {
+    changed: Some(Change {
+        index: 1,
+        word: 0xE,
+    }),
+    ..CLASS_EDGE
+};
+
+/// Asserts that this image is refused if its special objects array would be here.
 fn assert_not_special<R: Threads + Wait + Sync + Abort + AllocGlobal>(
     rt: &R,
     special: u32,
 ) -> Result<(), Fail> {
     let image = TestImage {
         special,
-        ..FREE_CHUNK_AT_SPECIAL
+        ..FREE_CHUNK_BEFORE_CLASS_EDGE
     };
     assert_unreadable(rt, &image, Fault::BadSpecialObjects)
 }
 
 #[test]
 fn no_special_objects_array(rt: HostRuntime) -> Result<(), Fail> {
-    for image in &[NO_OBJECT_AT_SPECIAL, EMPTY] {
+    for image in &[NO_OBJECT_AT_SPECIAL, FREE_CHUNK_AT_SPECIAL, EMPTY] {
         assert_unreadable(&rt, image, Fault::BadSpecialObjects)?;
     }
     for special in [0, 0xFFC, 0x1001, 0x1004, 0x1008, 0x1014, 0x1018, 0x1030] {

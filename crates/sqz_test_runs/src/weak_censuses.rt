@@ -1,7 +1,7 @@
 //! Censuses of images with weak objects.
 
 use super::censuses::assert_census;
-use sqz_fixtures::Chunk::{Array, Classed, Fixed, LongArray};
+use sqz_fixtures::Chunk::{self, Array, Fixed, Instance, LongArray};
 use sqz_fixtures::{EMPTY, NIL, TestImage};
 use sqz_trace::Weak;
 use std::test::Fail;
@@ -13,16 +13,12 @@ pub(crate) const WEAK_CLASS: TestImage = TestImage {
         NIL,
         Fixed(&[1, 1, 0x405]),
         Fixed(&[1, 1, 0x405]),
-        Classed {
+        Instance {
             class: 0x1014,
-            compact: 0,
-            format: 1,
             fields: &[1],
         },
-        Classed {
+        Chunk::Weak {
             class: 0x1004,
-            compact: 0,
-            format: 4,
             fields: &[0x1028, 0x1014],
         },
         Array(&[0x1000, 0x1034]),
@@ -36,10 +32,8 @@ pub(crate) const WEAK_CLASS_CLEARED: TestImage = TestImage {
     chunks: &[
         NIL,
         Fixed(&[1, 1, 0x405]),
-        Classed {
+        Chunk::Weak {
             class: 0x1004,
-            compact: 0,
-            format: 4,
             fields: &[0x1000, 0x1000],
         },
         Array(&[0x1000, 0x1018]),
@@ -77,10 +71,8 @@ const WEAK_COMPACT_CLASSES: TestImage = TestImage {
         NIL,
         Fixed(&[1, 1, 0x405]),
         Fixed(&[1, 1, 0x405]),
-        Classed {
+        Chunk::Weak {
             class: 0x1004,
-            compact: 0,
-            format: 4,
             fields: &[0x1014],
         },
         LongArray {

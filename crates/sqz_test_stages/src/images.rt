@@ -2,7 +2,7 @@
 
 ghost use Rattle.std.specs.Prelude.{◌<◌};
 
-use sqz_fixtures::Chunk::{Array, Classed, Fixed, Free, Long, LongArray, Short, Words};
+use sqz_fixtures::Chunk::{Array, Fixed, Free, Instance, Long, LongArray, Short, Weak, Words};
 use sqz_fixtures::accepted::DEAD_CYCLE;
 use sqz_fixtures::{EMPTY, LEAF, NIL, ODD, TestImage, image_of, put_header, put_words};
 use sqz_image::{Image, read_image};
@@ -41,10 +41,8 @@ pub(crate) const CLASS_WORDS: TestImage = TestImage {
         NIL,
         Array(&[1, 1]),
         LEAF,
-        Classed {
+        Instance {
             class: 0x1010,
-            compact: 0,
-            format: 1,
             fields: &[1],
         },
         Words(&[8, 0x1010, 0x208, 0x101C]),
@@ -59,10 +57,8 @@ pub(crate) const CLASS_WORDS_ANSWER: TestImage = TestImage {
     chunks: &[
         NIL,
         LEAF,
-        Classed {
+        Instance {
             class: 0x1004,
-            compact: 0,
-            format: 1,
             fields: &[1],
         },
         Words(&[8, 0x1004, 0x208, 0x1010]),
@@ -102,10 +98,8 @@ pub(crate) const THREE_WEAK_SLOTS: TestImage = TestImage {
         Fixed(&[1, 1, 0x405]),
         LEAF,
         LEAF,
-        Classed {
+        Weak {
             class: 0x1010,
-            compact: 0,
-            format: 4,
             fields: &[0x1020, 0x1028, 7],
         },
         Array(&[0x100C, 0x1034, 0x1020]),
@@ -120,10 +114,8 @@ pub(crate) const THREE_WEAK_SLOTS_CLEARED: TestImage = TestImage {
         NIL,
         Fixed(&[1, 1, 0x405]),
         LEAF,
-        Classed {
+        Weak {
             class: 0x1004,
-            compact: 0,
-            format: 4,
             fields: &[0x1014, 0x1000, 7],
         },
         Array(&[0x1000, 0x1020, 0x1014]),
@@ -139,10 +131,8 @@ pub(crate) const THREE_WEAK_SLOTS_KEPT: TestImage = TestImage {
         Fixed(&[1, 1, 0x405]),
         LEAF,
         LEAF,
-        Classed {
+        Weak {
             class: 0x1004,
-            compact: 0,
-            format: 4,
             fields: &[0x1014, 0x101C, 7],
         },
         Array(&[0x1000, 0x1028, 0x1014]),

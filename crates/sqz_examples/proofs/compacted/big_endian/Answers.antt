@@ -6,5 +6,4 @@ use Rattle.sqz_examples.proofs.compacted.big_endian.Goals as goal
 
 pub returns : goal.returns
 returns c =
-    CompactsTo-computed Keep _ Big _ ((0x1007 ∷ []) ∷ (0x320F ∷ 1 ∷ 1 ∷ []) ∷ (0x320B ∷ 0x1000 ∷ []) ∷ [])
-    ((Some (0 ∷ [])) ∷ None ∷ (Some []) ∷ []) refl refl refl refl refl refl
+    CompactsTo-computed Keep _ Big _ ((Some (0 ∷ [])) ∷ None ∷ (Some []) ∷ []) refl refl refl refl refl refl

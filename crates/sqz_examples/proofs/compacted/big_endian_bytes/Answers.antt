@@ -6,7 +6,4 @@ use Rattle.sqz_examples.proofs.compacted.big_endian_bytes.Goals as goal
 
 pub returns : goal.returns
 returns c =
-    CompactsTo-computed Keep _ Big _
-    ((0x1007 ∷ []) ∷ (0x320F ∷ 1 ∷ 1 ∷ []) ∷ (0x100B ∷ 1 ∷ []) ∷ (0x1011 ∷ 0xA0D ∷ 0x53717565 ∷ 0x616B0000 ∷ []) ∷
-    (0x320F ∷ 0x1000 ∷ 0x101C ∷ []) ∷ [])
-    ((Some (0 ∷ [])) ∷ None ∷ (Some (3 ∷ 2 ∷ [])) ∷ (Some (3 ∷ [])) ∷ (Some []) ∷ []) refl refl refl refl refl refl
+    CompactsTo-computed Keep _ Big _ ((Some (0 ∷ [])) ∷ None ∷ (Some (3 ∷ 2 ∷ [])) ∷ (Some (3 ∷ [])) ∷ (Some []) ∷ []) refl refl refl refl refl refl

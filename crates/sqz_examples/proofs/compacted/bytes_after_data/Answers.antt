@@ -6,5 +6,4 @@ use Rattle.sqz_examples.proofs.compacted.bytes_after_data.Goals as goal
 
 pub returns : goal.returns
 returns c =
-    CompactsTo-computed Keep _ Little _ ((0x1007 ∷ []) ∷ (0x320B ∷ 0x1000 ∷ []) ∷ []) ((Some (0 ∷ [])) ∷ (Some []) ∷ [])
-    refl refl refl refl refl refl
+    CompactsTo-computed Keep _ Little _ ((Some (0 ∷ [])) ∷ (Some []) ∷ []) refl refl refl refl refl refl

@@ -6,8 +6,4 @@ use Rattle.sqz_examples.proofs.compacted.context_with_class_word.Goals as goal
 
 pub returns : goal.returns
 returns c =
-    CompactsTo-computed Keep _ Little _
-    ((0x1007 ∷ []) ∷ (0x320F ∷ 1 ∷ 1 ∷ []) ∷ (0x100B ∷ 1 ∷ []) ∷
-    (0x1011 ∷ 0xE325 ∷ 0x1000 ∷ 1 ∷ 3 ∷ 0x1000 ∷ 0x1000 ∷ 0x1000 ∷ 0x1010 ∷ 0x1002 ∷ []) ∷
-    (0x320F ∷ 0x1000 ∷ 0x101C ∷ []) ∷ [])
-    ((Some (0 ∷ [])) ∷ None ∷ (Some (3 ∷ 2 ∷ [])) ∷ (Some (3 ∷ [])) ∷ (Some []) ∷ []) refl refl refl refl refl refl
+    CompactsTo-computed Keep _ Little _ ((Some (0 ∷ [])) ∷ None ∷ (Some (3 ∷ 2 ∷ [])) ∷ (Some (3 ∷ [])) ∷ (Some []) ∷ []) refl refl refl refl refl refl

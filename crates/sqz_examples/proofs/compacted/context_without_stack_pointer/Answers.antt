@@ -6,6 +6,4 @@ use Rattle.sqz_examples.proofs.compacted.context_without_stack_pointer.Goals as 
 
 pub returns : goal.returns
 returns c =
-    CompactsTo-computed Keep _ Little _
-    ((0x1007 ∷ []) ∷ (0xD323 ∷ 0x1000 ∷ 1 ∷ 0x1000 ∷ 0x1000 ∷ 0x1000 ∷ 0x1000 ∷ 0x1002 ∷ []) ∷
-    (0x320F ∷ 0x1000 ∷ 0x1004 ∷ []) ∷ []) ((Some (0 ∷ [])) ∷ (Some (1 ∷ [])) ∷ (Some []) ∷ []) refl refl refl refl refl refl
+    CompactsTo-computed Keep _ Little _ ((Some (0 ∷ [])) ∷ (Some (1 ∷ [])) ∷ (Some []) ∷ []) refl refl refl refl refl refl

@@ -6,5 +6,4 @@ use Rattle.sqz_examples.proofs.compacted.dead_bad_pointer.Goals as goal
 
 pub returns : goal.returns
 returns c =
-    CompactsTo-computed Keep _ Little _ ((0x1007 ∷ []) ∷ (0x320F ∷ 0x1002 ∷ 1 ∷ []) ∷ (0x320B ∷ 0x1000 ∷ []) ∷ [])
-    ((Some (0 ∷ [])) ∷ None ∷ (Some []) ∷ []) refl refl refl refl refl refl
+    CompactsTo-computed Keep _ Little _ ((Some (0 ∷ [])) ∷ None ∷ (Some []) ∷ []) refl refl refl refl refl refl

@@ -6,5 +6,4 @@ use Rattle.sqz_examples.proofs.compacted.highest_base.Goals as goal
 
 pub returns : goal.returns
 returns c =
-    CompactsTo-computed Keep _ Little _ ((0x1007 ∷ []) ∷ (0x320F ∷ 1 ∷ 1 ∷ []) ∷ (0x320B ∷ 0xFFFFFFE8 ∷ []) ∷ [])
-    ((Some (0 ∷ [])) ∷ None ∷ (Some []) ∷ []) refl refl refl refl refl refl
+    CompactsTo-computed Keep _ Little _ ((Some (0 ∷ [])) ∷ None ∷ (Some []) ∷ []) refl refl refl refl refl refl

@@ -6,6 +6,4 @@ use Rattle.sqz_examples.proofs.compacted.integers.Goals as goal
 
 pub returns : goal.returns
 returns c =
-    CompactsTo-computed Keep _ Little _
-    ((0x1007 ∷ []) ∷ (0x3217 ∷ 0x1000 ∷ 0x7FFFFFFF ∷ 0xFFFFFFFF ∷ 0x80000001 ∷ []) ∷ [])
-    ((Some (0 ∷ [])) ∷ (Some []) ∷ []) refl refl refl refl refl refl
+    CompactsTo-computed Keep _ Little _ ((Some (0 ∷ [])) ∷ (Some []) ∷ []) refl refl refl refl refl refl

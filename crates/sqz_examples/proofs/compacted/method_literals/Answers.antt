@@ -6,7 +6,4 @@ use Rattle.sqz_examples.proofs.compacted.method_literals.Goals as goal
 
 pub returns : goal.returns
 returns c =
-    CompactsTo-computed Keep _ Little _
-    ((0x1007 ∷ []) ∷ (0x100B ∷ 1 ∷ []) ∷ (0x100B ∷ 1 ∷ []) ∷ (0x5C17 ∷ 0x801 ∷ 0x100C ∷ 0x1000 ∷ 0x100C ∷ []) ∷
-    (0x320F ∷ 0x1000 ∷ 0x1014 ∷ []) ∷ [])
-    ((Some (0 ∷ [])) ∷ None ∷ (Some (3 ∷ 2 ∷ [])) ∷ (Some (3 ∷ [])) ∷ (Some []) ∷ []) refl refl refl refl refl refl
+    CompactsTo-computed Keep _ Little _ ((Some (0 ∷ [])) ∷ None ∷ (Some (3 ∷ 2 ∷ [])) ∷ (Some (3 ∷ [])) ∷ (Some []) ∷ []) refl refl refl refl refl refl

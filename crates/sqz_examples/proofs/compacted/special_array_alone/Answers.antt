@@ -5,5 +5,4 @@ use Rattle.sqz_examples.proofs.WorkedImages.{CompactsTo-computed}
 use Rattle.sqz_examples.proofs.compacted.special_array_alone.Goals as goal
 
 pub returns : goal.returns
-returns c =
-    CompactsTo-computed Keep _ Little _ ((0x3207 ∷ []) ∷ []) ((Some []) ∷ []) refl refl refl refl refl refl
+returns c = CompactsTo-computed Keep _ Little _ ((Some []) ∷ []) refl refl refl refl refl refl

@@ -1,4 +1,4 @@
-use Rattle.std.proofs.Common.{[], ◌∷◌, replicate, Some, None, refl}
+use Rattle.std.proofs.Common.{[], ◌∷◌, Some, None, refl}
 use Rattle.sqz_object.specs.declared.order.Order.TheVariants.{Little}
 use Rattle.sqz_trace.specs.declared.weak.Weak.TheVariants.{Keep}
 use Rattle.sqz_examples.proofs.WorkedImages.{CompactsTo-computed}
@@ -6,7 +6,4 @@ use Rattle.sqz_examples.proofs.compacted.three_word_header.Goals as goal
 
 pub returns : goal.returns
 returns c =
-    CompactsTo-computed Keep _ Little _
-    ((0x1007 ∷ []) ∷ (0x320F ∷ 1 ∷ 1 ∷ []) ∷ (0x100 ∷ 0x1000 ∷ 0x200 ∷ replicate 63 1) ∷
-    (0x320F ∷ 0x1000 ∷ 0x1018 ∷ []) ∷ []) ((Some (0 ∷ [])) ∷ None ∷ (Some (2 ∷ [])) ∷ (Some []) ∷ [])
-    refl refl refl refl refl refl
+    CompactsTo-computed Keep _ Little _ ((Some (0 ∷ [])) ∷ None ∷ (Some (2 ∷ [])) ∷ (Some []) ∷ []) refl refl refl refl refl refl

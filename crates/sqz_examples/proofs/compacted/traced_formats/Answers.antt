@@ -6,8 +6,4 @@ use Rattle.sqz_examples.proofs.compacted.traced_formats.Goals as goal
 
 pub returns : goal.returns
 returns c =
-    CompactsTo-computed Keep _ Little _
-    ((0x1007 ∷ []) ∷ (0x320F ∷ 1 ∷ 1 ∷ []) ∷ (0x100B ∷ 0x1018 ∷ []) ∷ (0x110B ∷ 0x1020 ∷ []) ∷ (0x120B ∷ 0x1028 ∷ []) ∷
-    (0x130B ∷ 0x1030 ∷ []) ∷ (0x140B ∷ 0x1000 ∷ []) ∷ (0x320B ∷ 0x1010 ∷ []) ∷ [])
-    ((Some (2 ∷ 3 ∷ 4 ∷ 5 ∷ 6 ∷ 0 ∷ [])) ∷ None ∷ (Some (2 ∷ [])) ∷ (Some (2 ∷ 3 ∷ [])) ∷ (Some (2 ∷ 3 ∷ 4 ∷ [])) ∷
-    (Some (2 ∷ 3 ∷ 4 ∷ 5 ∷ [])) ∷ (Some (2 ∷ 3 ∷ 4 ∷ 5 ∷ 6 ∷ [])) ∷ (Some []) ∷ []) refl refl refl refl refl refl
+    CompactsTo-computed Keep _ Little _ ((Some (2 ∷ 3 ∷ 4 ∷ 5 ∷ 6 ∷ 0 ∷ [])) ∷ None ∷ (Some (2 ∷ [])) ∷ (Some (2 ∷ 3 ∷ [])) ∷ (Some (2 ∷ 3 ∷ 4 ∷ [])) ∷ (Some (2 ∷ 3 ∷ 4 ∷ 5 ∷ [])) ∷ (Some (2 ∷ 3 ∷ 4 ∷ 5 ∷ 6 ∷ [])) ∷ (Some []) ∷ []) refl refl refl refl refl refl

@@ -6,6 +6,4 @@ use Rattle.sqz_examples.proofs.defects.bad_class_of_three_words.Goals as goal
 
 pub returns : goal.returns
 returns c =
-    IsRefused-for_defect Keep _ Little _
-    ((0x1007 ∷ []) ∷ (8 ∷ 0x1004 ∷ 0x200 ∷ 1 ∷ []) ∷ (0x320F ∷ 0x1000 ∷ 0x100C ∷ []) ∷ [])
-    ((Some (0 ∷ [])) ∷ (Some (1 ∷ [])) ∷ (Some []) ∷ []) refl refl refl refl refl
+    IsRefused-for_defect Keep _ Little _ ((Some (0 ∷ [])) ∷ (Some (1 ∷ [])) ∷ (Some []) ∷ []) refl refl refl refl refl

@@ -6,7 +6,4 @@ use Rattle.sqz_examples.proofs.defects.bad_class_word.Goals as goal
 
 pub returns : goal.returns
 returns c =
-    IsRefused-for_defect Keep _ Little _
-    ((0x1007 ∷ []) ∷ (0x320F ∷ 1 ∷ 1 ∷ []) ∷ (0x100B ∷ 1 ∷ []) ∷ (0x1015 ∷ 0x109 ∷ 1 ∷ []) ∷
-    (0x320F ∷ 0x1000 ∷ 0x101C ∷ []) ∷ []) ((Some (0 ∷ [])) ∷ None ∷ None ∷ (Some (3 ∷ [])) ∷ (Some []) ∷ [])
-    refl refl refl refl refl
+    IsRefused-for_defect Keep _ Little _ ((Some (0 ∷ [])) ∷ None ∷ None ∷ (Some (3 ∷ [])) ∷ (Some []) ∷ []) refl refl refl refl refl

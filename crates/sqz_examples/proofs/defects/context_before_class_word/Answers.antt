@@ -6,6 +6,4 @@ use Rattle.sqz_examples.proofs.defects.context_before_class_word.Goals as goal
 
 pub returns : goal.returns
 returns c =
-    IsRefused-for_defect Keep _ Little _
-    ((0x1007 ∷ []) ∷ (0x2001 ∷ 0xD309 ∷ 1 ∷ []) ∷ (0x320F ∷ 0x1000 ∷ 0x1008 ∷ []) ∷ [])
-    ((Some (0 ∷ [])) ∷ (Some (1 ∷ [])) ∷ (Some []) ∷ []) refl refl refl refl refl
+    IsRefused-for_defect Keep _ Little _ ((Some (0 ∷ [])) ∷ (Some (1 ∷ [])) ∷ (Some []) ∷ []) refl refl refl refl refl

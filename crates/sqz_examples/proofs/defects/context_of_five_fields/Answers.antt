@@ -6,6 +6,4 @@ use Rattle.sqz_examples.proofs.defects.context_of_five_fields.Goals as goal
 
 pub returns : goal.returns
 returns c =
-    IsRefused-for_defect Keep _ Little _
-    ((0x1007 ∷ []) ∷ (0xD31B ∷ 0x1000 ∷ 1 ∷ 1 ∷ 0x1000 ∷ 0x1000 ∷ []) ∷ (0x320F ∷ 0x1000 ∷ 0x1004 ∷ []) ∷ [])
-    ((Some (0 ∷ [])) ∷ (Some (1 ∷ [])) ∷ (Some []) ∷ []) refl refl refl refl refl
+    IsRefused-for_defect Keep _ Little _ ((Some (0 ∷ [])) ∷ (Some (1 ∷ [])) ∷ (Some []) ∷ []) refl refl refl refl refl

@@ -5,6 +5,4 @@ use Rattle.sqz_examples.proofs.WorkedImages.{IsRefused-for_defect}
 use Rattle.sqz_examples.proofs.defects.field_names_free_chunk.Goals as goal
 
 pub returns : goal.returns
-returns c =
-    IsRefused-for_defect Keep _ Little _ ((0x1007 ∷ []) ∷ (0xE ∷ 1 ∷ 1 ∷ []) ∷ (0x320B ∷ 0x1004 ∷ []) ∷ [])
-    (None ∷ (Some []) ∷ []) refl refl refl refl refl
+returns c = IsRefused-for_defect Keep _ Little _ (None ∷ (Some []) ∷ []) refl refl refl refl refl

@@ -6,5 +6,4 @@ use Rattle.sqz_examples.proofs.defects.first_bad_field.Goals as goal
 
 pub returns : goal.returns
 returns c =
-    IsRefused-for_defect Keep _ Little _ ((0x1007 ∷ []) ∷ (0x3213 ∷ 0x1000 ∷ 0x1002 ∷ 0x1006 ∷ []) ∷ [])
-    ((Some (0 ∷ [])) ∷ (Some []) ∷ []) refl refl refl refl refl
+    IsRefused-for_defect Keep _ Little _ ((Some (0 ∷ [])) ∷ (Some []) ∷ []) refl refl refl refl refl

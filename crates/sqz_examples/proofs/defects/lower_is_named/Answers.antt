@@ -6,5 +6,4 @@ use Rattle.sqz_examples.proofs.defects.lower_is_named.Goals as goal
 
 pub returns : goal.returns
 returns c =
-    IsRefused-for_defect Keep _ Little _ ((0x1007 ∷ []) ∷ (0x10B ∷ 1 ∷ []) ∷ (0x320F ∷ 0x1002 ∷ 0x1004 ∷ []) ∷ [])
-    (None ∷ (Some (1 ∷ [])) ∷ (Some []) ∷ []) refl refl refl refl refl
+    IsRefused-for_defect Keep _ Little _ (None ∷ (Some (1 ∷ [])) ∷ (Some []) ∷ []) refl refl refl refl refl

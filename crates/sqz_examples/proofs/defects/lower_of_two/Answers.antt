@@ -6,5 +6,4 @@ use Rattle.sqz_examples.proofs.defects.lower_of_two.Goals as goal
 
 pub returns : goal.returns
 returns c =
-    IsRefused-for_defect Keep _ Little _ ((0x1007 ∷ []) ∷ (0x320F ∷ 0x1002 ∷ 0x1010 ∷ []) ∷ (0x10B ∷ 1 ∷ []) ∷ [])
-    (None ∷ (Some []) ∷ (Some (2 ∷ [])) ∷ []) refl refl refl refl refl
+    IsRefused-for_defect Keep _ Little _ (None ∷ (Some []) ∷ (Some (2 ∷ [])) ∷ []) refl refl refl refl refl

@@ -6,5 +6,4 @@ use Rattle.sqz_examples.proofs.defects.no_class.Goals as goal
 
 pub returns : goal.returns
 returns c =
-    IsRefused-for_defect Keep _ Little _ ((0x1007 ∷ []) ∷ (0x320B ∷ 0x100C ∷ []) ∷ (0x10B ∷ 1 ∷ []) ∷ [])
-    (None ∷ (Some []) ∷ (Some (2 ∷ [])) ∷ []) refl refl refl refl refl
+    IsRefused-for_defect Keep _ Little _ (None ∷ (Some []) ∷ (Some (2 ∷ [])) ∷ []) refl refl refl refl refl

@@ -6,6 +6,4 @@ use Rattle.sqz_examples.proofs.defects.not_through_negative_stack.Goals as goal
 
 pub returns : goal.returns
 returns c =
-    IsRefused-for_defect Keep _ Little _
-    ((0x1007 ∷ []) ∷ (0x10B ∷ 1 ∷ []) ∷ (0xD31F ∷ 0x1004 ∷ 1 ∷ 0xFFFFFFFF ∷ 1 ∷ 1 ∷ 1 ∷ []) ∷
-    (0x320F ∷ 0x1000 ∷ 0x100C ∷ []) ∷ []) ((Some (0 ∷ [])) ∷ None ∷ (Some (2 ∷ [])) ∷ (Some []) ∷ []) refl refl refl refl refl
+    IsRefused-for_defect Keep _ Little _ ((Some (0 ∷ [])) ∷ None ∷ (Some (2 ∷ [])) ∷ (Some []) ∷ []) refl refl refl refl refl

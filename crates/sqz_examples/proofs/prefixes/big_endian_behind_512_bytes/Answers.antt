@@ -6,5 +6,4 @@ use Rattle.sqz_examples.proofs.prefixes.big_endian_behind_512_bytes.Goals as goa
 
 pub returns : goal.returns
 returns c =
-    CompactsTo-computed Keep _ Big _ ((0x1007 ∷ []) ∷ (0x320F ∷ 1 ∷ 1 ∷ []) ∷ (0x320B ∷ 0x1000 ∷ []) ∷ [])
-    ((Some (0 ∷ [])) ∷ None ∷ (Some []) ∷ []) refl refl refl refl refl refl
+    CompactsTo-computed Keep _ Big _ ((Some (0 ∷ [])) ∷ None ∷ (Some []) ∷ []) refl refl refl refl refl refl

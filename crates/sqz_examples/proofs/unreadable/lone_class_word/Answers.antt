@@ -5,4 +5,5 @@ use Rattle.sqz_examples.proofs.WorkedImages.{IsRefused-at_chunk}
 use Rattle.sqz_examples.proofs.unreadable.lone_class_word.Goals as goal
 
 pub returns : goal.returns
-returns c weak = IsRefused-at_chunk weak _ Little ((0x1007 ∷ []) ∷ []) 0x1001 [] Overrun refl refl refl
+returns c weak =
+    IsRefused-at_chunk weak _ Little ((0x1007 ∷ []) ∷ []) 0x1001 [] Overrun refl refl refl

@@ -5,4 +5,5 @@ use Rattle.sqz_examples.proofs.WorkedImages.{IsRefused-at_chunk}
 use Rattle.sqz_examples.proofs.unreadable.overrun_of_two.Goals as goal
 
 pub returns : goal.returns
-returns c weak = IsRefused-at_chunk weak _ Little ((0x1007 ∷ []) ∷ []) 0x1001 (0x10D ∷ 1 ∷ []) Overrun refl refl refl
+returns c weak =
+    IsRefused-at_chunk weak _ Little ((0x1007 ∷ []) ∷ []) 0x1001 (0x10D ∷ 1 ∷ []) Overrun refl refl refl

@@ -6,7 +6,4 @@ use Rattle.sqz_examples.proofs.weak_slots.bad_class_of_weak_object.Goals as goal
 
 pub returns : goal.returns
 returns c =
-    IsRefused-for_defect Clear _ Little _
-    ((0x1007 ∷ []) ∷ (0x1113 ∷ 1 ∷ 1 ∷ 0x1000 ∷ []) ∷ (0x100B ∷ 1 ∷ []) ∷ (0x1005 ∷ 0x409 ∷ 0x1014 ∷ []) ∷
-    (0x320F ∷ 0x1000 ∷ 0x1020 ∷ []) ∷ [])
-    ((Some (0 ∷ [])) ∷ (Some (3 ∷ 1 ∷ [])) ∷ None ∷ (Some (3 ∷ [])) ∷ (Some []) ∷ []) refl refl refl refl refl
+    IsRefused-for_defect Clear _ Little _ ((Some (0 ∷ [])) ∷ (Some (3 ∷ 1 ∷ [])) ∷ None ∷ (Some (3 ∷ [])) ∷ (Some []) ∷ []) refl refl refl refl refl

@@ -6,8 +6,4 @@ use Rattle.sqz_examples.proofs.weak_slots.fixed_field_of_weak_object.Goals as go
 
 pub returns : goal.returns
 returns c =
-    CompactsTo-computed Clear _ Little _
-    ((0x1007 ∷ []) ∷ (0x1113 ∷ 1 ∷ 1 ∷ 0x409 ∷ []) ∷ (0x100B ∷ 1 ∷ []) ∷ (0x100B ∷ 1 ∷ []) ∷
-    (0x1005 ∷ 0x40D ∷ 0x1014 ∷ 0x101C ∷ []) ∷ (0x320F ∷ 0x1000 ∷ 0x1028 ∷ []) ∷ [])
-    ((Some (0 ∷ [])) ∷ (Some (4 ∷ 1 ∷ [])) ∷ (Some (4 ∷ 2 ∷ [])) ∷ None ∷ (Some (4 ∷ [])) ∷ (Some []) ∷ [])
-    refl refl refl refl refl refl
+    CompactsTo-computed Clear _ Little _ ((Some (0 ∷ [])) ∷ (Some (4 ∷ 1 ∷ [])) ∷ (Some (4 ∷ 2 ∷ [])) ∷ None ∷ (Some (4 ∷ [])) ∷ (Some []) ∷ []) refl refl refl refl refl refl

@@ -6,5 +6,4 @@ use Rattle.sqz_examples.proofs.weak_slots.no_class_where_weak_slots_are_kept.Goa
 
 pub returns : goal.returns
 returns c =
-    IsRefused-for_defect Keep _ Little _ ((0x40B ∷ 1 ∷ []) ∷ (0x320F ∷ 1 ∷ 0x1000 ∷ []) ∷ [])
-    ((Some (0 ∷ [])) ∷ (Some []) ∷ []) refl refl refl refl refl
+    IsRefused-for_defect Keep _ Little _ ((Some (0 ∷ [])) ∷ (Some []) ∷ []) refl refl refl refl refl

@@ -1,11 +1,8 @@
-use Rattle.std.proofs.Common.{[], ◌∷◌, refl}
+use Rattle.std.proofs.Common.{refl}
 use Rattle.sqz_object.specs.declared.order.Order.TheVariants.{Little}
 use Rattle.sqz_trace.specs.declared.weak.Weak.TheVariants.{Clear}
 use Rattle.sqz_examples.proofs.WorkedImages.{IsRefused-without_nil}
 use Rattle.sqz_examples.proofs.weak_slots.no_nil_before_no_class.Goals as goal
 
 pub returns : goal.returns
-returns c =
-    IsRefused-without_nil _ Little
-    ((0x40B ∷ 1 ∷ []) ∷ (0x320F ∷ 1 ∷ 0x1000 ∷ []) ∷ []) Clear
-    refl refl refl refl
+returns c = IsRefused-without_nil _ Little Clear refl refl refl refl

@@ -6,6 +6,4 @@ use Rattle.sqz_examples.proofs.weak_slots.too_many_fixed_fields.Goals as goal
 
 pub returns : goal.returns
 returns c =
-    IsRefused-for_defect Clear _ Little _
-    ((0x1007 ∷ []) ∷ (0x1113 ∷ 1 ∷ 1 ∷ 0x40D ∷ []) ∷ (0x1005 ∷ 0x409 ∷ 0x1000 ∷ []) ∷ (0x320F ∷ 0x1000 ∷ 0x1018 ∷ []) ∷ [])
-    ((Some (0 ∷ [])) ∷ (Some (2 ∷ 1 ∷ [])) ∷ (Some (2 ∷ [])) ∷ (Some []) ∷ []) refl refl refl refl refl
+    IsRefused-for_defect Clear _ Little _ ((Some (0 ∷ [])) ∷ (Some (2 ∷ 1 ∷ [])) ∷ (Some (2 ∷ [])) ∷ (Some []) ∷ []) refl refl refl refl refl

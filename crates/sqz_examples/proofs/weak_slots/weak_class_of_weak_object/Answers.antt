@@ -6,8 +6,4 @@ use Rattle.sqz_examples.proofs.weak_slots.weak_class_of_weak_object.Goals as goa
 
 pub returns : goal.returns
 returns c =
-    CompactsTo-computed Clear _ Little _
-    ((0x1007 ∷ []) ∷ (0x1113 ∷ 1 ∷ 1 ∷ 0x405 ∷ []) ∷ (0x100B ∷ 1 ∷ []) ∷ (0x1005 ∷ 0x411 ∷ 1 ∷ 0x1014 ∷ 0x405 ∷ []) ∷
-    (0x1021 ∷ 0x409 ∷ 0x1014 ∷ []) ∷ (0x320F ∷ 0x1000 ∷ 0x1034 ∷ []) ∷ [])
-    ((Some (0 ∷ [])) ∷ (Some (4 ∷ 3 ∷ 1 ∷ [])) ∷ None ∷ (Some (4 ∷ 3 ∷ [])) ∷ (Some (4 ∷ [])) ∷ (Some []) ∷ [])
-    refl refl refl refl refl refl
+    CompactsTo-computed Clear _ Little _ ((Some (0 ∷ [])) ∷ (Some (4 ∷ 3 ∷ 1 ∷ [])) ∷ None ∷ (Some (4 ∷ 3 ∷ [])) ∷ (Some (4 ∷ [])) ∷ (Some []) ∷ []) refl refl refl refl refl refl

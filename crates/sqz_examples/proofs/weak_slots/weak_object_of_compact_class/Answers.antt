@@ -6,10 +6,4 @@ use Rattle.sqz_examples.proofs.weak_slots.weak_object_of_compact_class.Goals as 
 
 pub returns : goal.returns
 returns c =
-    CompactsTo-computed Clear _ Little _
-    ((0x1007 ∷ []) ∷ (0x1113 ∷ 1 ∷ 1 ∷ 0x405 ∷ []) ∷ (0x100B ∷ 1 ∷ []) ∷ (0x140B ∷ 0x1014 ∷ []) ∷
-    (0x320B ∷ 0x1004 ∷ []) ∷
-    (0x327B ∷ 0x1000 ∷ 0x101C ∷ 1 ∷ 1 ∷ 1 ∷ 1 ∷ 1 ∷ 1 ∷ 1 ∷ 1 ∷ 1 ∷ 1 ∷ 1 ∷ 1 ∷ 1 ∷ 1 ∷ 1 ∷ 1 ∷ 1 ∷ 1 ∷ 1 ∷ 1 ∷
-    1 ∷ 1 ∷ 1 ∷ 1 ∷ 1 ∷ 1 ∷ 0x1024 ∷ []) ∷ [])
-    ((Some (0 ∷ [])) ∷ (Some (4 ∷ 1 ∷ [])) ∷ None ∷ (Some (3 ∷ [])) ∷ (Some (4 ∷ [])) ∷ (Some []) ∷ [])
-    refl refl refl refl refl refl
+    CompactsTo-computed Clear _ Little _ ((Some (0 ∷ [])) ∷ (Some (4 ∷ 1 ∷ [])) ∷ None ∷ (Some (3 ∷ [])) ∷ (Some (4 ∷ [])) ∷ (Some []) ∷ []) refl refl refl refl refl refl

@@ -6,6 +6,4 @@ use Rattle.sqz_examples.proofs.weak_slots.weak_object_that_is_its_own_class.Goal
 
 pub returns : goal.returns
 returns c =
-    CompactsTo-computed Clear _ Little _
-    ((0x1007 ∷ []) ∷ (0x100B ∷ 1 ∷ []) ∷ (0x1011 ∷ 0x411 ∷ 1 ∷ 0x1004 ∷ 0x409 ∷ []) ∷ (0x320F ∷ 0x1000 ∷ 0x1010 ∷ []) ∷ [])
-    ((Some (0 ∷ [])) ∷ None ∷ (Some (2 ∷ [])) ∷ (Some []) ∷ []) refl refl refl refl refl refl
+    CompactsTo-computed Clear _ Little _ ((Some (0 ∷ [])) ∷ None ∷ (Some (2 ∷ [])) ∷ (Some []) ∷ []) refl refl refl refl refl refl

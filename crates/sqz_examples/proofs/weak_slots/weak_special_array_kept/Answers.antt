@@ -6,5 +6,4 @@ use Rattle.sqz_examples.proofs.weak_slots.weak_special_array_kept.Goals as goal
 
 pub returns : goal.returns
 returns c =
-    CompactsTo-computed Keep _ Little _ ((0x1007 ∷ []) ∷ (0x340B ∷ 0x1000 ∷ []) ∷ []) ((Some (0 ∷ [])) ∷ (Some []) ∷ [])
-    refl refl refl refl refl refl
+    CompactsTo-computed Keep _ Little _ ((Some (0 ∷ [])) ∷ (Some []) ∷ []) refl refl refl refl refl refl

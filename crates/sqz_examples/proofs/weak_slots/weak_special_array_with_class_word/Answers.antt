@@ -6,6 +6,4 @@ use Rattle.sqz_examples.proofs.weak_slots.weak_special_array_with_class_word.Goa
 
 pub returns : goal.returns
 returns c =
-    CompactsTo-computed Clear _ Little _
-    ((0x1007 ∷ []) ∷ (0x1113 ∷ 1 ∷ 1 ∷ 0x409 ∷ []) ∷ (0x1005 ∷ 0x40D ∷ 0x1000 ∷ 1 ∷ []) ∷ [])
-    ((Some (0 ∷ [])) ∷ (Some (1 ∷ [])) ∷ (Some []) ∷ []) refl refl refl refl refl refl
+    CompactsTo-computed Clear _ Little _ ((Some (0 ∷ [])) ∷ (Some (1 ∷ [])) ∷ (Some []) ∷ []) refl refl refl refl refl refl

@@ -1,0 +1,1 @@
+"""Measures the programs, and counts what the repository holds."""

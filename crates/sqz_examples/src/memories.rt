@@ -1,0 +1,34 @@
+//! The object memories of [`crate::marking`], [`crate::moved_objects`] and [`crate::questions`] are
+//! those of images.
+
+ghost use Rattle.std.specs.Prelude.{◌≡◌};
+ghost use Rattle.sqz_examples.specs.Worked.{memory_of};
+ghost use Rattle.sqz_examples.specs.DeadCycle.{dead_cycle};
+ghost use Rattle.sqz_examples.specs.MovedCycle.{moved_cycle};
+ghost use Rattle.sqz_examples.specs.ClassEdge.{class_edge};
+
+use sqz_fixtures::TestImage;
+use sqz_fixtures::accepted::DEAD_CYCLE;
+use sqz_fixtures::answers::DEAD_CYCLE_ANSWER;
+use sqz_fixtures::with_classes::CLASS_EDGE;
+
+/// The image with a dead cycle.
+fn image_with_a_dead_cycle() -> TestImage
+    ensures { memory_of result ≡ dead_cycle }
+{
+    DEAD_CYCLE
+}
+
+/// What it is compacted to.
+fn image_with_the_moved_cycle() -> TestImage
+    ensures { memory_of result ≡ moved_cycle }
+{
+    DEAD_CYCLE_ANSWER
+}
+
+/// The image with a class word.
+fn image_with_a_class_word() -> TestImage
+    ensures { memory_of result ≡ class_edge }
+{
+    CLASS_EDGE
+}
