@@ -8,3 +8,6 @@ pub mod DominatorLemmas
 pub mod TreeLemmas
 pub mod OrderLemmas
 pub mod ImmediateLemmas
+pub mod TotalLemmas
+pub mod ObjectSumLemmas
+pub mod RetainedLemmas

@@ -7,3 +7,5 @@ pub mod AllDefects
 pub mod Dominators
 pub mod Trees
 pub mod Treeing
+pub mod Totals
+pub mod Retained

@@ -8,8 +8,10 @@ pub mod laws;
 mod members;
 mod path;
 mod referrers;
+mod retained;
 mod search;
 mod slots_between;
+mod totals;
 mod tree;
 
 pub use all_defects::defects_of;
@@ -17,3 +19,4 @@ pub use dominators::{Dominators, dominators_of};
 pub use members::{Member, members_of};
 pub use path::{Path, Step, path_to};
 pub use referrers::{Referrer, referrers_of};
+pub use retained::Retained;
