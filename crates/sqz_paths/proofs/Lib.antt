@@ -11,3 +11,4 @@ pub mod ImmediateLemmas
 pub mod TotalLemmas
 pub mod ObjectSumLemmas
 pub mod RetainedLemmas
+pub mod DominatorLawLemmas

@@ -9,3 +9,4 @@ pub mod Trees
 pub mod Treeing
 pub mod Totals
 pub mod Retained
+pub mod Laws
