@@ -1,0 +1,63 @@
+//! All defects of an image.
+
+use super::images::DIAMOND;
+use sqz_fixtures::with_defects::LOWER_OF_TWO;
+use sqz_fixtures::with_weak_objects::WEAK_TOO_MANY_FIXED;
+use sqz_fixtures::{TestImage, image_of};
+use sqz_image::{Fault, Slot};
+use sqz_paths::defects_of;
+use sqz_trace::{Marks, Weak, mark_plain};
+use std::process::Abort;
+use std::test::Fail;
+
+/// The defect of object 1 of `LOWER_OF_TWO`, its special objects array.
+const BAD_POINTER: Fault = Fault::BadPointer {
+    address: 0x1004,
+    slot: Slot::Field(0),
+};
+
+/// The defect of its object 2.
+const NO_CLASS: Fault = Fault::NoClass { address: 0x1010 };
+
+/// Asserts which defects the reachable objects have.
+fn assert_defects<R: Abort + AllocGlobal>(
+    rt: &R,
+    image: &TestImage,
+    weak: Weak,
+    wanted: &[Fault],
+) -> Result<(), Fail> {
+    let image = image_of(rt.alloc(), image)?;
+    let marks = mark_plain(rt.alloc(), image.heap(), weak)?;
+    let found = defects_of(rt.alloc(), image.heap(), weak, &marks)?;
+    assert_eq!(rt; found.as_slice(), wanted);
+    Ok(())
+}
+
+#[test]
+fn no_defect(rt: HostRuntime) -> Result<(), Fail> {
+    assert_defects(&rt, &DIAMOND, Weak::Keep, &[])
+}
+
+#[test]
+fn two_defects(rt: HostRuntime) -> Result<(), Fail> {
+    for weak in [Weak::Keep, Weak::Clear] {
+        assert_defects(&rt, &LOWER_OF_TWO, weak, &[BAD_POINTER, NO_CLASS])?;
+    }
+    Ok(())
+}
+
+#[test]
+fn defect_of_a_weak_object(rt: HostRuntime) -> Result<(), Fail> {
+    let bad_weak = Fault::BadWeak { address: 0x1018 };
+    assert_defects(&rt, &WEAK_TOO_MANY_FIXED, Weak::Keep, &[])?;
+    assert_defects(&rt, &WEAK_TOO_MANY_FIXED, Weak::Clear, &[bad_weak])
+}
+
+#[test]
+fn defects_of_marked_objects(rt: HostRuntime) -> Result<(), Fail> {
+    let image = image_of(rt.alloc(), &LOWER_OF_TWO)?;
+    let marks = Marks::listed(rt.alloc(), image.heap(), &[2])?;
+    let found = defects_of(rt.alloc(), image.heap(), Weak::Keep, &marks)?;
+    assert_eq!(rt; found.as_slice(), [NO_CLASS].as_slice());
+    Ok(())
+}
