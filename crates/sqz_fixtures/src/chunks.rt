@@ -1,6 +1,6 @@
 //! The chunks of an image, by the parts of their headers.
 
-ghost use Rattle.std.specs.Prelude.{◌≡◌, ◌%◌, ◌<◌, ◌++◌, ◌∷◌, OnOk};
+ghost use Rattle.std.specs.Prelude.{◌≡◌, ◌%◌, ◌<◌, ◌++◌, OnOk};
 ghost use Rattle.sqz_object.specs.Value.{base_of};
 ghost use Rattle.sqz_fixtures.specs.Words.{base_header_of, count, short_words, classed_words};
 ghost use Rattle.sqz_fixtures.specs.Words.{each_words, long_array_words, chunk_words};
