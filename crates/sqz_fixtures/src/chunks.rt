@@ -148,7 +148,8 @@ fn put_short(
     format: u32,
     fields: &[u32],
 ) -> Result<(), AllocError>
-    ensures { OnOk result (words.new.items ≡ words.old.items ++ short_words compact format fields.now) }
+    ensures { OnOk result (words.new.items
+        ≡ words.old.items ++ short_words compact format fields.now) }
 {
     words.push(base_header(OF_ONE, compact, format, 1 + count_of(fields)))?;
     words.extend_from_slice(fields)
@@ -162,7 +163,8 @@ fn put_classed(
     format: u32,
     fields: &[u32],
 ) -> Result<(), AllocError>
-    ensures { OnOk result (words.new.items ≡ words.old.items ++ classed_words class compact format fields.now) }
+    ensures { OnOk result (words.new.items
+        ≡ words.old.items ++ classed_words class compact format fields.now) }
 {
     let base = base_header(OF_TWO, compact, format, 1 + count_of(fields));
     words.extend_from_slice(&[class | OF_TWO, base])?;
