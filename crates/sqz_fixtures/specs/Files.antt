@@ -4,7 +4,7 @@ use Rattle.std.specs.Prelude.{replicate, Option, None, Some}
 use Rattle.sqz_object.specs.Bytes.{spelling_of}
 use Rattle.sqz_fixtures.specs.declared.images.TestImage.{TestImage}
 use Rattle.sqz_fixtures.specs.declared.files.Before.{Before}
-use Rattle.sqz_fixtures.specs.declared.files.Before.TheVariants.{Nothing, Hashes, Rising, Image}
+use Rattle.sqz_fixtures.specs.declared.files.Before.TheVariants.{Nothing, Filler, Rising, Image}
 use Rattle.sqz_fixtures.specs.declared.files.TestFile.{TestFile}
 use Rattle.sqz_fixtures.specs.Words.{count, data_words}
 
@@ -35,7 +35,7 @@ front_bytes bytes = take 512 bytes ++ replicate (512 - length bytes) 0
 -- the bytes before an image
 abbrev pub before_bytes : Before → List ℕ
 before_bytes Nothing = []
-before_bytes (Hashes number) = replicate number 0x23
+before_bytes (Filler number) = replicate number 0x23
 before_bytes Rising = rising 512
 before_bytes (Image image) = front_bytes (image_bytes_of image)
 

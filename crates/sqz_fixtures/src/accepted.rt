@@ -19,7 +19,7 @@ pub const DEAD_ARRAY: TestImage = TestImage {
     ..EMPTY
 };
 
-/// The previous image in a big-endian file.
+/// `DEAD_ARRAY` in a big-endian file.
 pub const BIG_ENDIAN: TestImage = TestImage {
     order: Order::Big,
     ..DEAD_ARRAY

@@ -1,6 +1,6 @@
 //! The chunks of an image, by the parts of their headers.
 
-ghost use Rattle.std.specs.Prelude.{◌≡◌, ◌%◌, ◌<◌, ◌++◌, ◌∷◌, OnOk};
+ghost use Rattle.std.specs.Prelude.{◌≡◌, ◌%◌, ◌<◌, ◌++◌, OnOk};
 ghost use Rattle.sqz_object.specs.Value.{base_of};
 ghost use Rattle.sqz_fixtures.specs.Words.{base_header_of, count, short_words, classed_words};
 ghost use Rattle.sqz_fixtures.specs.Words.{each_words, long_array_words, chunk_words};
@@ -148,7 +148,8 @@ fn put_short(
     format: u32,
     fields: &[u32],
 ) -> Result<(), AllocError>
-    ensures { OnOk result (words.new.items ≡ words.old.items ++ short_words compact format fields.now) }
+    ensures { OnOk result (words.new.items
+        ≡ words.old.items ++ short_words compact format fields.now) }
 {
     words.push(base_header(OF_ONE, compact, format, 1 + count_of(fields)))?;
     words.extend_from_slice(fields)
@@ -162,7 +163,8 @@ fn put_classed(
     format: u32,
     fields: &[u32],
 ) -> Result<(), AllocError>
-    ensures { OnOk result (words.new.items ≡ words.old.items ++ classed_words class compact format fields.now) }
+    ensures { OnOk result (words.new.items
+        ≡ words.old.items ++ classed_words class compact format fields.now) }
 {
     let base = base_header(OF_TWO, compact, format, 1 + count_of(fields));
     words.extend_from_slice(&[class | OF_TWO, base])?;

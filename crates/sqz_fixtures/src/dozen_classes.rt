@@ -66,7 +66,7 @@ pub const DOZEN_CLASSES: TestImage = TestImage {
     ..EMPTY
 };
 
-/// What it is compacted to.
+/// What `DOZEN_CLASSES` is compacted to.
 pub const DOZEN_CLASSES_ANSWER: TestImage = TestImage {
     chunks: &[Words(&[
         0x11D9, 0xEEC0005, 0x1231, 0x14360005, 0x1281, 0x19800005, 0x104D, 0x1ECA0121, 0x1004,

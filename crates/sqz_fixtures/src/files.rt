@@ -29,7 +29,7 @@ pub enum Before {
     /// None.
     Nothing,
     /// This many bytes of 0x23.
-    Hashes(usize),
+    Filler(usize),
     /// 512 bytes from 3 on, of which each is 7 more than the one before, modulo 256.
     Rising,
     /// 512 bytes: those of another image, and then zeros.
@@ -54,8 +54,8 @@ pub fn put_words(file: &mut Vec<u8>, order: Order, words: &[u32]) -> Result<(), 
     Ok(())
 }
 
-/// Puts a header at the end of a file: the size of the data in bytes, their base, and the address
-/// of the special objects array.
+/// Puts a header at the end of a file. It states the size of the data in bytes, the base address,
+/// and the address of the special objects array.
 pub fn put_header(
     file: &mut Vec<u8>,
     order: Order,
@@ -108,8 +108,8 @@ pub fn image_of(alloc: Global, image: &TestImage) -> Result<Image, Fault> {
 }
 
 /// This many bytes of 0x23.
-fn hashes(alloc: Global, number: usize) -> Result<Vec<u8>, AllocError>
-    ensures { IfOk result (λ file. file.items ≡ before_bytes (Before.Hashes number)) }
+fn filler(alloc: Global, number: usize) -> Result<Vec<u8>, AllocError>
+    ensures { IfOk result (λ file. file.items ≡ before_bytes (Before.Filler number)) }
 {
     let mut file = Vec::new(alloc);
     file.resize(number, 0x23)?;
@@ -142,7 +142,7 @@ fn bytes_before(alloc: Global, before: &Before) -> Result<Vec<u8>, AllocError>
 {
     match before {
         Before::Nothing => Ok(Vec::new(alloc)),
-        Before::Hashes(number) => hashes(alloc, *number),
+        Before::Filler(number) => filler(alloc, *number),
         Before::Rising => rising_bytes(alloc),
         Before::Image(image) => front_of(alloc, image),
     }

@@ -21,8 +21,8 @@ pub const CLASS_EDGE: TestImage = TestImage {
     ..EMPTY
 };
 
-/// A class word in a header of three words does so too. The base header states 63 words that are
-/// not there.
+/// A class word in a header of three words keeps a class too. The base header states 63 words that
+/// are not there.
 pub const CLASS_EDGE_OF_THREE_WORDS: TestImage = TestImage {
     chunks: &[
         NIL,
@@ -75,7 +75,7 @@ pub const CLASS_NAMES: TestImage = TestImage {
     ..EMPTY
 };
 
-/// The same words in a big-endian file, which spell another name.
+/// The words of `CLASS_NAMES` in a big-endian file, where they spell another name.
 pub const BIG_ENDIAN_CLASS_NAMES: TestImage = TestImage {
     order: Order::Big,
     ..CLASS_NAMES

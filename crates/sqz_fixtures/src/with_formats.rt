@@ -47,7 +47,7 @@ pub const CONTEXT_STACK: TestImage = TestImage {
 /// The fields of a context whose stack holds one, and one above.
 const STACK_BELOW_ODD: &[u32] = &[0x1000, 1, 3, 0x1000, 0x1000, 0x1000, 0x1010, 0x1002];
 
-/// A context with a class word and the other compact index is traced in the same way.
+/// A context with a class word and the other compact index is traced as one without a class word.
 pub const CONTEXT_WITH_CLASS_WORD: TestImage = TestImage {
     chunks: &[
         NIL,
@@ -165,8 +165,8 @@ pub const LITERALS_ALONE: TestImage = TestImage {
 /// literals, that literal, and a word after it.
 const ONE_LITERAL: &[u32] = &[0xFFFC_07FF, 0x1000, 0x1002];
 
-/// They are a method in the lowest format of one, whose header counts one literal although its
-/// other bits are set too.
+/// A method in the lowest format of one, whose header counts one literal although its other bits
+/// are set too.
 pub const LOWEST_METHOD_FORMAT: TestImage = TestImage {
     chunks: &[
         NIL,
@@ -181,7 +181,7 @@ pub const LOWEST_METHOD_FORMAT: TestImage = TestImage {
     ..EMPTY
 };
 
-/// They are a method in the highest format of one.
+/// A method in the highest format of one, whose header counts one literal.
 pub const HIGHEST_METHOD_FORMAT: TestImage = TestImage {
     chunks: &[
         NIL,

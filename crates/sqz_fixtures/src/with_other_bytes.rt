@@ -3,7 +3,7 @@
 use super::accepted::{BIG_ENDIAN, DEAD_ARRAY, NIL_ALONE};
 use super::answers::BIG_ENDIAN_ANSWER;
 use super::cleared::{WEAK_ARRAY_CLEARED, WEAK_FIELDS_CLEARED};
-use super::files::Before::{Hashes, Image, Rising};
+use super::files::Before::{Filler, Image, Rising};
 use super::files::{PLAIN, TestFile};
 use super::images::EMPTY;
 use super::unreadable::FIRST_UNREADABLE_CHUNK;
@@ -21,35 +21,35 @@ pub const BYTES_AFTER_DATA: TestFile = TestFile {
 
 /// 512 bytes before an image are kept.
 pub const BEHIND_512_BYTES: TestFile = TestFile {
-    before: Hashes(512),
+    before: Filler(512),
     image: DEAD_ARRAY,
     ..PLAIN
 };
 
 /// What `BEHIND_512_BYTES` is compacted to.
 pub const BEHIND_512_BYTES_ANSWER: TestFile = TestFile {
-    before: Hashes(512),
+    before: Filler(512),
     image: NIL_ALONE,
     ..PLAIN
 };
 
-/// They are kept before a big-endian image too.
-pub const BIG_ENDIAN_AFTER_HASHES: TestFile = TestFile {
-    before: Hashes(512),
+/// 512 bytes before a big-endian image are kept.
+pub const BIG_ENDIAN_AFTER_FILLER: TestFile = TestFile {
+    before: Filler(512),
     image: BIG_ENDIAN,
     ..PLAIN
 };
 
-/// What `BIG_ENDIAN_AFTER_HASHES` is compacted to.
-pub const BIG_ENDIAN_AFTER_HASHES_ANSWER: TestFile = TestFile {
-    before: Hashes(512),
+/// What `BIG_ENDIAN_AFTER_FILLER` is compacted to.
+pub const BIG_ENDIAN_AFTER_FILLER_ANSWER: TestFile = TestFile {
+    before: Filler(512),
     image: BIG_ENDIAN_ANSWER,
     ..PLAIN
 };
 
 /// 512 bytes before an image are kept, and those after it are left out.
 pub const BYTES_ON_BOTH_SIDES: TestFile = TestFile {
-    before: Hashes(512),
+    before: Filler(512),
     image: DEAD_ARRAY,
     after: &[1, 2, 3, 4, 5],
     ..PLAIN
@@ -77,7 +77,7 @@ pub const VERSION_AT_BOTH: TestFile = TestFile {
     ..PLAIN
 };
 
-/// It does so too if the other image is smaller.
+/// An image at the front counts before a smaller one after 512 bytes.
 pub const NIL_AFTER_ARRAY: TestFile = TestFile {
     before: Image(DEAD_ARRAY),
     image: BIG_ENDIAN_ANSWER,
@@ -93,49 +93,49 @@ pub const BROKEN_HEADER_BEFORE_512_BYTES: TestFile = TestFile {
 
 /// An image after 511 bytes is not found.
 pub const BEHIND_511_BYTES: TestFile = TestFile {
-    before: Hashes(511),
+    before: Filler(511),
     image: DEAD_ARRAY,
     ..PLAIN
 };
 
 /// An image after 513 bytes is not found.
 pub const BEHIND_513_BYTES: TestFile = TestFile {
-    before: Hashes(513),
+    before: Filler(513),
     image: DEAD_ARRAY,
     ..PLAIN
 };
 
 /// Another version after 512 bytes.
 pub const OTHER_VERSION_BEHIND_512_BYTES: TestFile = TestFile {
-    before: Hashes(512),
+    before: Filler(512),
     image: OTHER_VERSION,
     ..PLAIN
 };
 
 /// The words of the data are counted from the first one, not from the front of the file.
 pub const FIRST_UNREADABLE_CHUNK_BEHIND_512_BYTES: TestFile = TestFile {
-    before: Hashes(512),
+    before: Filler(512),
     image: FIRST_UNREADABLE_CHUNK,
     ..PLAIN
 };
 
 /// A bad field after 512 bytes.
 pub const ODD_FIELD_BEHIND_512_BYTES: TestFile = TestFile {
-    before: Hashes(512),
+    before: Filler(512),
     image: ODD_FIELD,
     ..PLAIN
 };
 
 /// A weak object after 512 bytes.
 pub const WEAK_FIELDS_BEHIND_512_BYTES: TestFile = TestFile {
-    before: Hashes(512),
+    before: Filler(512),
     image: WEAK_FIELDS,
     ..PLAIN
 };
 
 /// What is left of `WEAK_FIELDS_BEHIND_512_BYTES` if weak slots are cleared.
 pub const WEAK_FIELDS_BEHIND_512_BYTES_CLEARED: TestFile = TestFile {
-    before: Hashes(512),
+    before: Filler(512),
     image: WEAK_FIELDS_CLEARED,
     ..PLAIN
 };
@@ -198,15 +198,15 @@ pub const UNEVEN_BASE_OF_TRUNCATED_DATA: TestFile = TestFile {
 
 /// A file that ends within the version after 512 bytes.
 pub const CUT_IN_VERSION_BEHIND_512_BYTES: TestFile = TestFile {
-    before: Hashes(512),
+    before: Filler(512),
     image: DEAD_ARRAY,
     length: Some(515),
     ..PLAIN
 };
 
-/// A file that ends after that version.
+/// A file that ends after the version after 512 bytes.
 pub const VERSION_ALONE_BEHIND_512_BYTES: TestFile = TestFile {
-    before: Hashes(512),
+    before: Filler(512),
     image: DEAD_ARRAY,
     length: Some(516),
     ..PLAIN
@@ -214,23 +214,23 @@ pub const VERSION_ALONE_BEHIND_512_BYTES: TestFile = TestFile {
 
 /// A file that ends within the header after 512 bytes.
 pub const CUT_IN_HEADER_BEHIND_512_BYTES: TestFile = TestFile {
-    before: Hashes(512),
+    before: Filler(512),
     image: DEAD_ARRAY,
     length: Some(575),
     ..PLAIN
 };
 
-/// A file that ends after that header.
+/// A file that ends after the header after 512 bytes.
 pub const HEADER_ALONE_BEHIND_512_BYTES: TestFile = TestFile {
-    before: Hashes(512),
+    before: Filler(512),
     image: DEAD_ARRAY,
     length: Some(576),
     ..PLAIN
 };
 
-/// A file that ends within the data after that header.
+/// A file that ends within the data after 512 bytes and a header.
 pub const CUT_IN_DATA_BEHIND_512_BYTES: TestFile = TestFile {
-    before: Hashes(512),
+    before: Filler(512),
     image: DEAD_ARRAY,
     length: Some(599),
     ..PLAIN

@@ -23,7 +23,7 @@ pub const WEAK_FIELDS: TestImage = TestImage {
     ..EMPTY
 };
 
-/// The previous image in a big-endian file.
+/// `WEAK_FIELDS` in a big-endian file.
 pub const WEAK_SLOT_BIG_ENDIAN: TestImage = TestImage {
     order: Order::Big,
     ..WEAK_FIELDS

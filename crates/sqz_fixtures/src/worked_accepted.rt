@@ -1,4 +1,4 @@
-//! Images of the folder `images/accepted`: without weak objects, and compacted.
+//! Most images of the folder `images/accepted`: without weak objects, and compacted.
 
 use super::accepted::{
     BIG_ENDIAN, DEAD_ARRAY, DEAD_BAD_CONTEXT, DEAD_BAD_METHOD, DEAD_BAD_POINTER, DEAD_CYCLE,
@@ -21,7 +21,7 @@ use super::worked::Contents::{File, Image};
 use super::worked::Outcome::Compacted;
 use super::worked::{WORKED, WorkedImage};
 
-/// All of these, by name.
+/// These images, by name.
 const ACCEPTED: &[WorkedImage] = &[
     WorkedImage {
         name: "behind_512_bytes",
@@ -143,7 +143,7 @@ const ACCEPTED: &[WorkedImage] = &[
     },
 ];
 
-/// The images of the folder `images/accepted` without the named classes, by name.
+/// Most images of the folder `images/accepted`, by name.
 pub(crate) fn accepted_images() -> &'static [WorkedImage] {
     ACCEPTED
 }

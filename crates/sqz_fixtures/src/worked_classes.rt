@@ -18,7 +18,7 @@ use super::worked::Contents::{File, Image};
 use super::worked::Outcome::Compacted;
 use super::worked::{WORKED, WorkedImage};
 
-/// All of these, by name.
+/// These images, by name.
 const WITH_CLASSES: &[WorkedImage] = &[
     WorkedImage {
         name: "big_endian_behind_512_bytes",
@@ -88,7 +88,8 @@ const WITH_CLASSES: &[WorkedImage] = &[
     },
 ];
 
-/// Those images, by name.
+/// The images of the folder `images/accepted` with class words, named classes or long objects, by
+/// name.
 pub(crate) fn images_with_classes() -> &'static [WorkedImage] {
     WITH_CLASSES
 }

@@ -1,4 +1,4 @@
-//! Images of the folder `images/weak` that are rejected, or for which alone the option matters.
+//! Other images of the folder `images/weak`: most are rejected under either policy.
 
 use super::accepted::SPECIAL_ARRAY_ALONE;
 use super::answers_of_formats::TRACED_FORMATS_ANSWER;
@@ -14,7 +14,7 @@ use super::worked::Contents::{File, Image};
 use super::worked::Outcome::{Compacted, Rejected};
 use super::worked::{WORKED, WorkedImage};
 
-/// All of these, by name.
+/// These images, by name.
 const CLEARED: &[WorkedImage] = &[
     WorkedImage {
         name: "all_ones",
@@ -113,7 +113,8 @@ const CLEARED: &[WorkedImage] = &[
     },
 ];
 
-/// Those images, by name.
+/// The other images of the folder `images/weak`, most of them rejected under either policy, by
+/// name.
 pub(crate) fn cleared_images() -> &'static [WorkedImage] {
     CLEARED
 }

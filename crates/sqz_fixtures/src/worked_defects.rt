@@ -14,7 +14,7 @@ use super::worked::Contents::Image;
 use super::worked::Outcome::Rejected;
 use super::worked::{WORKED, WorkedImage};
 
-/// All of these, by name.
+/// These images, by name.
 const DEFECTS: &[WorkedImage] = &[
     WorkedImage {
         name: "bad_class_word",

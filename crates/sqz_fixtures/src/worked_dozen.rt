@@ -6,7 +6,7 @@ use super::worked::Contents::Image;
 use super::worked::Outcome::Compacted;
 use super::worked::{WORKED, WorkedImage};
 
-/// This image alone.
+/// The image, in a list.
 const DOZEN: &[WorkedImage] = &[WorkedImage {
     name: "dozen_classes",
     input: Image(DOZEN_CLASSES),
@@ -15,7 +15,7 @@ const DOZEN: &[WorkedImage] = &[WorkedImage {
     ..WORKED
 }];
 
-/// That image.
+/// The image of the folder `images/accepted` with a dozen classes.
 pub(crate) fn dozen_classes_image() -> &'static [WorkedImage] {
     DOZEN
 }

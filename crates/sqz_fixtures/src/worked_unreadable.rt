@@ -22,7 +22,7 @@ use super::worked::Contents::{File, Image};
 use super::worked::Outcome::Rejected;
 use super::worked::{WORKED, WorkedImage};
 
-/// All of these, by name.
+/// These images, by name.
 const UNREADABLE: &[WorkedImage] = &[
     WorkedImage {
         name: "base_too_high",

@@ -17,7 +17,7 @@ use super::worked::Contents::{File, Image};
 use super::worked::Outcome::{Compacted, Rejected};
 use super::worked::{WORKED, WorkedImage};
 
-/// All of these, by name.
+/// These images, by name.
 const WEAK: &[WorkedImage] = &[
     WorkedImage {
         name: "weak_array",

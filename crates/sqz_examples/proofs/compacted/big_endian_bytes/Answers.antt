@@ -6,4 +6,5 @@ use Rattle.sqz_examples.proofs.compacted.big_endian_bytes.Goals as goal
 
 pub returns : goal.returns
 returns c =
-    CompactsTo-computed Keep _ Big _ ((Some (0 ∷ [])) ∷ None ∷ (Some (3 ∷ 2 ∷ [])) ∷ (Some (3 ∷ [])) ∷ (Some []) ∷ []) refl refl refl refl refl refl
+    CompactsTo-computed Keep _ Big _ ((Some (0 ∷ [])) ∷ None ∷ (Some (3 ∷ 2 ∷ [])) ∷ (Some (3 ∷ [])) ∷ (Some []) ∷ [])
+    refl refl refl refl refl refl

@@ -6,4 +6,6 @@ use Rattle.sqz_examples.proofs.compacted.dead_cycle.Goals as goal
 
 pub returns : goal.returns
 returns c =
-    CompactsTo-computed Keep _ Little _ ((Some (0 ∷ [])) ∷ (Some (1 ∷ [])) ∷ None ∷ (Some (1 ∷ 3 ∷ [])) ∷ None ∷ (Some []) ∷ []) refl refl refl refl refl refl
+    CompactsTo-computed Keep _ Little _
+    ((Some (0 ∷ [])) ∷ (Some (1 ∷ [])) ∷ None ∷ (Some (1 ∷ 3 ∷ [])) ∷ None ∷ (Some []) ∷ [])
+    refl refl refl refl refl refl

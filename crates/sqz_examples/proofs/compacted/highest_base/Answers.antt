@@ -6,4 +6,5 @@ use Rattle.sqz_examples.proofs.compacted.highest_base.Goals as goal
 
 pub returns : goal.returns
 returns c =
-    CompactsTo-computed Keep _ Little _ ((Some (0 ∷ [])) ∷ None ∷ (Some []) ∷ []) refl refl refl refl refl refl
+    CompactsTo-computed Keep _ Little _ ((Some (0 ∷ [])) ∷ None ∷ (Some []) ∷ [])
+    refl refl refl refl refl refl

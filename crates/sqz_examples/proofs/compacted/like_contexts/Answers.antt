@@ -6,4 +6,6 @@ use Rattle.sqz_examples.proofs.compacted.like_contexts.Goals as goal
 
 pub returns : goal.returns
 returns c =
-    CompactsTo-computed Keep _ Little _ ((Some (0 ∷ [])) ∷ (Some (1 ∷ [])) ∷ (Some (2 ∷ [])) ∷ (Some (3 ∷ [])) ∷ (Some (4 ∷ [])) ∷ (Some []) ∷ []) refl refl refl refl refl refl
+    CompactsTo-computed Keep _ Little _
+    ((Some (0 ∷ [])) ∷ (Some (1 ∷ [])) ∷ (Some (2 ∷ [])) ∷ (Some (3 ∷ [])) ∷ (Some (4 ∷ [])) ∷ (Some []) ∷ [])
+    refl refl refl refl refl refl

@@ -6,4 +6,5 @@ use Rattle.sqz_examples.proofs.compacted.three_word_header.Goals as goal
 
 pub returns : goal.returns
 returns c =
-    CompactsTo-computed Keep _ Little _ ((Some (0 ∷ [])) ∷ None ∷ (Some (2 ∷ [])) ∷ (Some []) ∷ []) refl refl refl refl refl refl
+    CompactsTo-computed Keep _ Little _ ((Some (0 ∷ [])) ∷ None ∷ (Some (2 ∷ [])) ∷ (Some []) ∷ [])
+    refl refl refl refl refl refl

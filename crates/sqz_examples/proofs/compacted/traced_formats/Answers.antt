@@ -6,4 +6,7 @@ use Rattle.sqz_examples.proofs.compacted.traced_formats.Goals as goal
 
 pub returns : goal.returns
 returns c =
-    CompactsTo-computed Keep _ Little _ ((Some (2 ∷ 3 ∷ 4 ∷ 5 ∷ 6 ∷ 0 ∷ [])) ∷ None ∷ (Some (2 ∷ [])) ∷ (Some (2 ∷ 3 ∷ [])) ∷ (Some (2 ∷ 3 ∷ 4 ∷ [])) ∷ (Some (2 ∷ 3 ∷ 4 ∷ 5 ∷ [])) ∷ (Some (2 ∷ 3 ∷ 4 ∷ 5 ∷ 6 ∷ [])) ∷ (Some []) ∷ []) refl refl refl refl refl refl
+    CompactsTo-computed Keep _ Little _
+    ((Some (2 ∷ 3 ∷ 4 ∷ 5 ∷ 6 ∷ 0 ∷ [])) ∷ None ∷ (Some (2 ∷ [])) ∷ (Some (2 ∷ 3 ∷ [])) ∷ (Some (2 ∷ 3 ∷ 4 ∷ [])) ∷
+    (Some (2 ∷ 3 ∷ 4 ∷ 5 ∷ [])) ∷ (Some (2 ∷ 3 ∷ 4 ∷ 5 ∷ 6 ∷ [])) ∷ (Some []) ∷ [])
+    refl refl refl refl refl refl

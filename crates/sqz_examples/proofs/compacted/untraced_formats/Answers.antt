@@ -6,4 +6,7 @@ use Rattle.sqz_examples.proofs.compacted.untraced_formats.Goals as goal
 
 pub returns : goal.returns
 returns c =
-    CompactsTo-computed Keep _ Little _ ((Some (0 ∷ [])) ∷ None ∷ (Some (2 ∷ [])) ∷ (Some (3 ∷ [])) ∷ (Some (4 ∷ [])) ∷ (Some (5 ∷ [])) ∷ (Some (6 ∷ [])) ∷ (Some (7 ∷ [])) ∷ (Some (8 ∷ [])) ∷ (Some []) ∷ []) refl refl refl refl refl refl
+    CompactsTo-computed Keep _ Little _
+    ((Some (0 ∷ [])) ∷ None ∷ (Some (2 ∷ [])) ∷ (Some (3 ∷ [])) ∷ (Some (4 ∷ [])) ∷ (Some (5 ∷ [])) ∷ (Some (6 ∷
+    [])) ∷ (Some (7 ∷ [])) ∷ (Some (8 ∷ [])) ∷ (Some []) ∷ [])
+    refl refl refl refl refl refl

@@ -6,4 +6,6 @@ use Rattle.sqz_examples.proofs.compacted.weak_fields.Goals as goal
 
 pub returns : goal.returns
 returns c =
-    CompactsTo-computed Keep _ Little _ ((Some (0 ∷ [])) ∷ (Some (3 ∷ 1 ∷ [])) ∷ (Some (3 ∷ 2 ∷ [])) ∷ (Some (3 ∷ [])) ∷ (Some []) ∷ []) refl refl refl refl refl refl
+    CompactsTo-computed Keep _ Little _
+    ((Some (0 ∷ [])) ∷ (Some (3 ∷ 1 ∷ [])) ∷ (Some (3 ∷ 2 ∷ [])) ∷ (Some (3 ∷ [])) ∷ (Some []) ∷ [])
+    refl refl refl refl refl refl

@@ -6,4 +6,5 @@ use Rattle.sqz_examples.proofs.defects.five_fields_without_stack_pointer.Goals a
 
 pub returns : goal.returns
 returns c =
-    IsRefused-for_defect Keep _ Little _ ((Some (0 ∷ [])) ∷ (Some (1 ∷ [])) ∷ (Some []) ∷ []) refl refl refl refl refl
+    IsRefused-for_defect Keep _ Little _ ((Some (0 ∷ [])) ∷ (Some (1 ∷ [])) ∷ (Some []) ∷ [])
+    refl refl refl refl refl

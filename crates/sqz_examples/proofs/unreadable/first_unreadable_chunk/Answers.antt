@@ -6,4 +6,5 @@ use Rattle.sqz_examples.proofs.unreadable.first_unreadable_chunk.Goals as goal
 
 pub returns : goal.returns
 returns c weak =
-    IsRefused-at_chunk weak _ Little ((0x1007 ∷ []) ∷ (0x320F ∷ 1 ∷ 1 ∷ []) ∷ []) 0x3203 (0x320F ∷ []) ZeroSize refl refl refl
+    IsRefused-at_chunk weak _ Little ((0x1007 ∷ []) ∷ (0x320F ∷ 1 ∷ 1 ∷ []) ∷ []) 0x3203 (0x320F ∷ []) ZeroSize
+    refl refl refl

@@ -6,4 +6,5 @@ use Rattle.sqz_examples.proofs.unreadable.mixed_header.Goals as goal
 
 pub returns : goal.returns
 returns c weak =
-    IsRefused-at_chunk weak _ Little ((0x1007 ∷ []) ∷ []) 8 (0x1000 ∷ 0x20B ∷ 1 ∷ []) HeaderMismatch refl refl refl
+    IsRefused-at_chunk weak _ Little ((0x1007 ∷ []) ∷ []) 8 (0x1000 ∷ 0x20B ∷ 1 ∷ []) HeaderMismatch
+    refl refl refl

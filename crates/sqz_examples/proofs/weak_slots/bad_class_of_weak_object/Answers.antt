@@ -6,4 +6,6 @@ use Rattle.sqz_examples.proofs.weak_slots.bad_class_of_weak_object.Goals as goal
 
 pub returns : goal.returns
 returns c =
-    IsRefused-for_defect Clear _ Little _ ((Some (0 ∷ [])) ∷ (Some (3 ∷ 1 ∷ [])) ∷ None ∷ (Some (3 ∷ [])) ∷ (Some []) ∷ []) refl refl refl refl refl
+    IsRefused-for_defect Clear _ Little _
+    ((Some (0 ∷ [])) ∷ (Some (3 ∷ 1 ∷ [])) ∷ None ∷ (Some (3 ∷ [])) ∷ (Some []) ∷ [])
+    refl refl refl refl refl

@@ -6,4 +6,6 @@ use Rattle.sqz_examples.proofs.weak_slots.fixed_field_of_weak_object.Goals as go
 
 pub returns : goal.returns
 returns c =
-    CompactsTo-computed Clear _ Little _ ((Some (0 ∷ [])) ∷ (Some (4 ∷ 1 ∷ [])) ∷ (Some (4 ∷ 2 ∷ [])) ∷ None ∷ (Some (4 ∷ [])) ∷ (Some []) ∷ []) refl refl refl refl refl refl
+    CompactsTo-computed Clear _ Little _
+    ((Some (0 ∷ [])) ∷ (Some (4 ∷ 1 ∷ [])) ∷ (Some (4 ∷ 2 ∷ [])) ∷ None ∷ (Some (4 ∷ [])) ∷ (Some []) ∷ [])
+    refl refl refl refl refl refl

@@ -6,4 +6,5 @@ use Rattle.sqz_examples.proofs.weak_slots.no_class_before_bad_weak.Goals as goal
 
 pub returns : goal.returns
 returns c =
-    IsRefused-for_defect Clear _ Little _ ((Some (0 ∷ [])) ∷ (Some (1 ∷ [])) ∷ (Some []) ∷ []) refl refl refl refl refl
+    IsRefused-for_defect Clear _ Little _ ((Some (0 ∷ [])) ∷ (Some (1 ∷ [])) ∷ (Some []) ∷ [])
+    refl refl refl refl refl

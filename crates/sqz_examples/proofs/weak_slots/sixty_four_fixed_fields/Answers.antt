@@ -6,4 +6,6 @@ use Rattle.sqz_examples.proofs.weak_slots.sixty_four_fixed_fields.Goals as goal
 
 pub returns : goal.returns
 returns c =
-    CompactsTo-computed Clear _ Little _ ((Some (0 ∷ [])) ∷ (Some (4 ∷ 1 ∷ [])) ∷ (Some (4 ∷ 2 ∷ [])) ∷ None ∷ (Some (4 ∷ [])) ∷ (Some []) ∷ []) refl refl refl refl refl refl
+    CompactsTo-computed Clear _ Little _
+    ((Some (0 ∷ [])) ∷ (Some (4 ∷ 1 ∷ [])) ∷ (Some (4 ∷ 2 ∷ [])) ∷ None ∷ (Some (4 ∷ [])) ∷ (Some []) ∷ [])
+    refl refl refl refl refl refl

@@ -6,4 +6,6 @@ use Rattle.sqz_examples.proofs.weak_slots.weak_class_of_weak_object.Goals as goa
 
 pub returns : goal.returns
 returns c =
-    CompactsTo-computed Clear _ Little _ ((Some (0 ∷ [])) ∷ (Some (4 ∷ 3 ∷ 1 ∷ [])) ∷ None ∷ (Some (4 ∷ 3 ∷ [])) ∷ (Some (4 ∷ [])) ∷ (Some []) ∷ []) refl refl refl refl refl refl
+    CompactsTo-computed Clear _ Little _
+    ((Some (0 ∷ [])) ∷ (Some (4 ∷ 3 ∷ 1 ∷ [])) ∷ None ∷ (Some (4 ∷ 3 ∷ [])) ∷ (Some (4 ∷ [])) ∷ (Some []) ∷ [])
+    refl refl refl refl refl refl

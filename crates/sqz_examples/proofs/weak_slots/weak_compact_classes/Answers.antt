@@ -6,4 +6,5 @@ use Rattle.sqz_examples.proofs.weak_slots.weak_compact_classes.Goals as goal
 
 pub returns : goal.returns
 returns c =
-    IsRefused-for_defect Clear _ Little _ ((Some (0 ∷ [])) ∷ None ∷ (Some (2 ∷ [])) ∷ (Some (3 ∷ [])) ∷ (Some []) ∷ []) refl refl refl refl refl
+    IsRefused-for_defect Clear _ Little _ ((Some (0 ∷ [])) ∷ None ∷ (Some (2 ∷ [])) ∷ (Some (3 ∷ [])) ∷ (Some []) ∷ [])
+    refl refl refl refl refl

@@ -6,4 +6,6 @@ use Rattle.sqz_examples.proofs.weak_slots.weak_object_of_compact_class.Goals as 
 
 pub returns : goal.returns
 returns c =
-    CompactsTo-computed Clear _ Little _ ((Some (0 ∷ [])) ∷ (Some (4 ∷ 1 ∷ [])) ∷ None ∷ (Some (3 ∷ [])) ∷ (Some (4 ∷ [])) ∷ (Some []) ∷ []) refl refl refl refl refl refl
+    CompactsTo-computed Clear _ Little _
+    ((Some (0 ∷ [])) ∷ (Some (4 ∷ 1 ∷ [])) ∷ None ∷ (Some (3 ∷ [])) ∷ (Some (4 ∷ [])) ∷ (Some []) ∷ [])
+    refl refl refl refl refl refl

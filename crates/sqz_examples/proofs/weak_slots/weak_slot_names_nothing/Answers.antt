@@ -6,4 +6,5 @@ use Rattle.sqz_examples.proofs.weak_slots.weak_slot_names_nothing.Goals as goal
 
 pub returns : goal.returns
 returns c =
-    IsRefused-for_defect Clear _ Little _ ((Some (0 ∷ [])) ∷ (Some (2 ∷ 1 ∷ [])) ∷ (Some (2 ∷ [])) ∷ (Some []) ∷ []) refl refl refl refl refl
+    IsRefused-for_defect Clear _ Little _ ((Some (0 ∷ [])) ∷ (Some (2 ∷ 1 ∷ [])) ∷ (Some (2 ∷ [])) ∷ (Some []) ∷ [])
+    refl refl refl refl refl

@@ -6,4 +6,6 @@ use Rattle.sqz_examples.proofs.weak_slots.weak_slot_of_live_object.Goals as goal
 
 pub returns : goal.returns
 returns c =
-    CompactsTo-computed Clear _ Little _ ((Some (0 ∷ [])) ∷ None ∷ (Some (4 ∷ 2 ∷ [])) ∷ (Some (3 ∷ [])) ∷ (Some (4 ∷ [])) ∷ (Some []) ∷ []) refl refl refl refl refl refl
+    CompactsTo-computed Clear _ Little _
+    ((Some (0 ∷ [])) ∷ None ∷ (Some (4 ∷ 2 ∷ [])) ∷ (Some (3 ∷ [])) ∷ (Some (4 ∷ [])) ∷ (Some []) ∷ [])
+    refl refl refl refl refl refl

@@ -6,4 +6,5 @@ use Rattle.sqz_examples.proofs.weak_slots.weak_special_array_with_class_word.Goa
 
 pub returns : goal.returns
 returns c =
-    CompactsTo-computed Clear _ Little _ ((Some (0 ∷ [])) ∷ (Some (1 ∷ [])) ∷ (Some []) ∷ []) refl refl refl refl refl refl
+    CompactsTo-computed Clear _ Little _ ((Some (0 ∷ [])) ∷ (Some (1 ∷ [])) ∷ (Some []) ∷ [])
+    refl refl refl refl refl refl
