@@ -1,6 +1,10 @@
 //! The program `sqz_check_dominators FILE...`: compares the immediate dominator of each object of
-//! images with the one that a brute force finds, with weak slots kept and cleared. It prints how
-//! many objects each image has, and ends with exit code 1 at the first difference.
+//! images, and what it retains, with those that a brute force finds, with weak slots kept and
+//! cleared. It prints how many objects each image has, and ends with exit code 1 at the first
+//! difference.
+//!
+//! `sqz_check_dominators --retained ADDRESS FILE` prints what one object retains, without the brute
+//! force.
 #![tactic(auto)]
 
 mod brute_force;
@@ -9,6 +13,7 @@ mod difference;
 use anyhow::Result;
 use difference::{Difference, first_difference};
 use sqz_image::{Fault, Image, ReadSource, image_of_file, read_all};
+use sqz_paths::dominators_of;
 use sqz_trace::Weak;
 use std::alloc::Global;
 use std::env;
@@ -65,16 +70,46 @@ fn check_files<R: Files + Print>(rt: &R, alloc: Global, paths: &[String]) -> Res
     Ok(true)
 }
 
+/// Prints what the object at an address of the image in a file retains. Returns whether there is
+/// such an object.
+fn print_retained<R: Files + Print>(
+    rt: &R,
+    alloc: Global,
+    address: &str,
+    path: &str,
+) -> Result<bool> {
+    let Some(image) = image_in(rt, alloc, path)? else {
+        return Ok(false);
+    };
+    let heap = image.heap();
+    let Ok(address) = u32::from_str_radix(address, 16) else {
+        return Ok(false);
+    };
+    let Some(object) = heap.find(address) else {
+        return Ok(false);
+    };
+    let retained = dominators_of(alloc, heap, Weak::Keep)?.retained(object);
+    println!(rt; "{} objects, {} bytes", retained.objects, retained.bytes)?;
+    Ok(true)
+}
+
 fn main(rt: HostRuntime) -> Result<ExitCode> {
     let words: Vec<String> = env::args(&rt)?.collect(rt.alloc())?;
-    let paths = words.get(1..).unwrap_or(&[]);
-    if paths.is_empty() || paths[0].starts_with("--") {
-        eprintln!(rt; "Usage: sqz_check_dominators FILE...")?;
-        return Ok(ExitCode::from(BAD_ARGUMENTS));
-    }
-    if check_files(&rt, rt.alloc(), paths)? {
-        Ok(ExitCode::SUCCESS)
+    let done = match words.get(1..).unwrap_or(&[]) {
+        [option, address, path] if option.as_str() == "--retained" => {
+            print_retained(&rt, rt.alloc(), address.as_str(), path.as_str())?
+        }
+        [first, ..] if !first.starts_with("--") => {
+            check_files(&rt, rt.alloc(), words.get(1..).unwrap_or(&[]))?
+        }
+        _ => {
+            eprintln!(rt; "Usage: sqz_check_dominators FILE..., or --retained ADDRESS FILE")?;
+            return Ok(ExitCode::from(BAD_ARGUMENTS));
+        }
+    };
+    Ok(if done {
+        ExitCode::SUCCESS
     } else {
-        Ok(ExitCode::FAILURE)
-    }
+        ExitCode::FAILURE
+    })
 }
