@@ -1,69 +1,76 @@
-//! Files that are refused for what their headers say, in either byte order: nothing is written.
+//! Files that are rejected for what their headers state, or for their length, in either byte order:
+//! nothing is written.
 
 use super::runs::assert_refused;
-use sqz_fixtures::put_words;
+use sqz_fixtures::Contents::{self, File, Image};
+use sqz_fixtures::accepted::DEAD_ARRAY;
+use sqz_fixtures::with_bad_headers::{
+    BASE_TOO_HIGH, OTHER_HEADER_SIZE, OTHER_HEADER_SIZE_AND_UNEVEN_DATA_SIZE, OTHER_VERSION,
+    OTHER_VERSION_AND_HEADER_SIZE, UNEVEN_BASE, UNEVEN_DATA_SIZE, UNEVEN_DATA_SIZE_AND_BASE,
+};
+use sqz_fixtures::with_other_bytes::{
+    CUT_IN_DATA, CUT_IN_HEADER, NO_BYTES, SHORT_OF_ANOTHER_VERSION, UNEVEN_BASE_OF_TRUNCATED_DATA,
+};
+use sqz_fixtures::{PLAIN, TestFile, TestImage};
 use sqz_image::Fault;
 use sqz_object::Order;
 use sqz_trace::Weak;
-use std::alloc::{AllocError, Global};
 use std::process::Abort;
 use std::sync::Wait;
 use std::test::Fail;
 use std::thread::Threads;
 
-/// The first four header words of a file: its version, the sizes of header and data, and the base.
-type Stated = [u32; 4];
+/// A file that ends after its header.
+const HEADER_ALONE: TestFile = TestFile {
+    image: DEAD_ARRAY,
+    length: Some(64),
+    ..PLAIN
+};
 
-/// What those of a valid file say.
-const SOUND: Stated = [6502, 64, 24, 0x1000];
-
-/// The header words that follow these, and the data words.
-const REST: [u32; 18] = [
-    0x1010, 0, 0, 0, 0, 0, 0, 0, 0, 0, 0, 0, 0x1007, 0x320F, 1, 1, 0x320B, 0x1000,
+/// Files, and the fault of each. Of two faults the first counts.
+const FAULTS: &[(Contents, Fault)] = &[
+    (File(NO_BYTES), Fault::TooShort),
+    (File(CUT_IN_HEADER), Fault::TooShort),
+    (Image(OTHER_VERSION), Fault::BadVersion),
+    (Image(OTHER_HEADER_SIZE), Fault::BadHeaderSize),
+    (Image(UNEVEN_DATA_SIZE), Fault::BadDataSize),
+    (Image(UNEVEN_BASE), Fault::BadBase),
+    (Image(BASE_TOO_HIGH), Fault::BadBase),
+    (File(CUT_IN_DATA), Fault::Truncated),
+    (File(HEADER_ALONE), Fault::Truncated),
+    (File(SHORT_OF_ANOTHER_VERSION), Fault::TooShort),
+    (Image(OTHER_VERSION_AND_HEADER_SIZE), Fault::BadVersion),
+    (
+        Image(OTHER_HEADER_SIZE_AND_UNEVEN_DATA_SIZE),
+        Fault::BadHeaderSize,
+    ),
+    (Image(UNEVEN_DATA_SIZE_AND_BASE), Fault::BadDataSize),
+    (File(UNEVEN_BASE_OF_TRUNCATED_DATA), Fault::BadBase),
 ];
 
-/// The first bytes, this many, of a file of 88 whose header says this.
-fn file_that_states(
-    alloc: Global,
-    order: Order,
-    stated: &Stated,
-    length: usize,
-) -> Result<Vec<u8>, AllocError> {
-    let mut file = Vec::new(alloc);
-    put_words(&mut file, order, stated)?;
-    put_words(&mut file, order, &REST)?;
-    file.truncate(length);
-    Ok(file)
+/// The same file with its words in this order.
+fn in_order(contents: &Contents, order: Order) -> Contents {
+    match *contents {
+        Image(image) => Image(TestImage { order, ..image }),
+        File(file) => File(TestFile {
+            image: TestImage {
+                order,
+                ..file.image
+            },
+            ..file
+        }),
+    }
 }
 
-/// What a header says, how many bytes of its file are there, and the fault.
-const FAULTS: &[(Stated, usize, Fault)] = &[
-    (SOUND, 0, Fault::TooShort),
-    (SOUND, 63, Fault::TooShort),
-    ([6504, 64, 24, 0x1000], 88, Fault::BadVersion),
-    ([6502, 68, 24, 0x1000], 88, Fault::BadHeaderSize),
-    ([6502, 64, 22, 0x1000], 88, Fault::BadDataSize),
-    ([6502, 64, 24, 0x1002], 88, Fault::BadBase),
-    ([6502, 64, 24, 0xFFFF_FFEC], 88, Fault::BadBase),
-    (SOUND, 87, Fault::Truncated),
-    (SOUND, 64, Fault::Truncated),
-    ([6504, 64, 24, 0x1000], 63, Fault::TooShort),
-    ([6504, 68, 24, 0x1000], 88, Fault::BadVersion),
-    ([6502, 68, 22, 0x1000], 88, Fault::BadHeaderSize),
-    ([6502, 64, 22, 0x1002], 88, Fault::BadDataSize),
-    ([6502, 64, 24, 0x1002], 87, Fault::BadBase),
-];
-
-/// Asserts that a run over such a file is refused with this fault, in either byte order.
+/// Asserts that a run over a file is rejected with this fault, in either byte order.
 fn assert_header_refused<R: Threads + Wait + Sync + Abort + AllocGlobal>(
     rt: &R,
     weak: Weak,
-    stated: &Stated,
-    length: usize,
+    contents: &Contents,
     fault: Fault,
 ) -> Result<(), Fail> {
     for order in [Order::Little, Order::Big] {
-        let file = file_that_states(rt.alloc(), order, stated, length)?;
+        let file = in_order(contents, order).bytes(rt.alloc())?;
         assert_refused(rt, weak, file, fault)?;
     }
     Ok(())
@@ -71,9 +78,9 @@ fn assert_header_refused<R: Threads + Wait + Sync + Abort + AllocGlobal>(
 
 #[test]
 fn first_fault_of_a_header(rt: HostRuntime) -> Result<(), Fail> {
-    for (stated, length, fault) in FAULTS {
-        assert_header_refused(&rt, Weak::Keep, stated, *length, *fault)?;
-        assert_header_refused(&rt, Weak::Clear, stated, *length, *fault)?;
+    for (contents, fault) in FAULTS {
+        assert_header_refused(&rt, Weak::Keep, contents, *fault)?;
+        assert_header_refused(&rt, Weak::Clear, contents, *fault)?;
     }
     Ok(())
 }

@@ -5,7 +5,8 @@ use super::runs::{
 };
 use super::weak_censuses::{WEAK_CLASS, WEAK_CLASS_CENSUS, WEAK_CLASS_CLEARED};
 use sqz_fixtures::accepted::{DEAD_ARRAY, NIL_ALONE};
-use sqz_fixtures::{EMPTY, TestImage, file_in, file_of, put_words};
+use sqz_fixtures::with_bad_headers::{OTHER_HEADER_SIZE, UNEVEN_BASE, UNEVEN_DATA_SIZE};
+use sqz_fixtures::{Before, EMPTY, PLAIN, TestFile, TestImage, bytes_of, file_in, file_of};
 use sqz_image::{Fault, Image, MemorySink, read_image, write_image};
 use sqz_object::Order;
 use sqz_tool::{Plan, Summary};
@@ -46,7 +47,12 @@ fn file_in_behind(
     order: Order,
     image: &TestImage,
 ) -> Result<Vec<u8>, AllocError> {
-    behind(alloc, count, &file_in(alloc, order, image)?)
+    let file = TestFile {
+        before: Before::Filler(count),
+        image: TestImage { order, ..*image },
+        ..PLAIN
+    };
+    bytes_of(alloc, &file)
 }
 
 /// The bytes of an image's file with words in this order, after 512 bytes.
@@ -145,19 +151,22 @@ fn other_counts_of_bytes(rt: HostRuntime) -> Result<(), Fail> {
     Ok(())
 }
 
-/// A file of two images. The second follows 512 bytes.
-fn two_images(alloc: Global, first: &[u8], second: &[u8]) -> Result<Vec<u8>, AllocError> {
-    let mut file = Vec::from_slice(alloc, first)?;
-    file.resize(512, 0)?;
-    file.extend_from_slice(second)?;
-    Ok(file)
-}
-
 /// A file of a dead array in the first byte order, and of nil in the second after 512 bytes.
 fn array_and_nil(alloc: Global, first: Order, second: Order) -> Result<Vec<u8>, AllocError> {
-    let first = file_in(alloc, first, &DEAD_ARRAY)?;
-    let second = file_in(alloc, second, &NIL_ALONE)?;
-    two_images(alloc, &first, &second)
+    let array = TestImage {
+        order: first,
+        ..DEAD_ARRAY
+    };
+    let nil = TestImage {
+        order: second,
+        ..NIL_ALONE
+    };
+    let file = TestFile {
+        before: Before::Image(array),
+        image: nil,
+        ..PLAIN
+    };
+    bytes_of(alloc, &file)
 }
 
 /// Asserts that a run over this file compacts its first image, and leaves out the second.
@@ -181,27 +190,39 @@ fn front_goes_first(rt: HostRuntime) -> Result<(), Fail> {
     Ok(())
 }
 
-/// A file that begins with these header words, and has a valid image after 512 bytes.
-fn sound_behind(alloc: Global, stated: &[u32]) -> Result<Vec<u8>, AllocError> {
-    let mut first = Vec::new(alloc);
-    put_words(&mut first, Order::Little, stated)?;
-    let second = file_of(alloc, &DEAD_ARRAY)?;
-    two_images(alloc, &first, &second)
-}
+/// A size of the data past the end of the file.
+const DATA_PAST_END: TestImage = TestImage {
+    data_size: Some(1024),
+    ..DEAD_ARRAY
+};
 
-/// Header words, one of them bad, and the fault.
-const BROKEN_HEADERS: &[([u32; 4], Fault)] = &[
-    ([6502, 68, 24, 0x1000], Fault::BadHeaderSize),
-    ([6502, 64, 22, 0x1000], Fault::BadDataSize),
-    ([6502, 64, 24, 0x1002], Fault::BadBase),
-    ([6502, 64, 1024, 0x1000], Fault::Truncated),
+/// Images with a bad header, and the fault of each.
+const BROKEN_HEADERS: &[(TestImage, Fault)] = &[
+    (OTHER_HEADER_SIZE, Fault::BadHeaderSize),
+    (UNEVEN_DATA_SIZE, Fault::BadDataSize),
+    (UNEVEN_BASE, Fault::BadBase),
+    (DATA_PAST_END, Fault::Truncated),
 ];
+
+/// Asserts that a file with this image at the front is rejected with this fault, although a valid
+/// image follows 512 bytes.
+fn assert_front_refused<R: Threads + Wait + Sync + Abort + AllocGlobal>(
+    rt: &R,
+    front: &TestImage,
+    fault: Fault,
+) -> Result<(), Fail> {
+    let file = TestFile {
+        before: Before::Image(*front),
+        image: DEAD_ARRAY,
+        ..PLAIN
+    };
+    assert_refused(rt, Weak::Keep, bytes_of(rt.alloc(), &file)?, fault)
+}
 
 #[test]
 fn broken_header_at_the_front(rt: HostRuntime) -> Result<(), Fail> {
-    for (stated, fault) in BROKEN_HEADERS {
-        let file = sound_behind(rt.alloc(), stated)?;
-        assert_refused(&rt, Weak::Keep, file, *fault)?;
+    for (front, fault) in BROKEN_HEADERS {
+        assert_front_refused(&rt, front, *fault)?;
     }
     Ok(())
 }
