@@ -12,3 +12,4 @@ pub mod TotalLemmas
 pub mod ObjectSumLemmas
 pub mod RetainedLemmas
 pub mod DominatorLawLemmas
+pub mod ChildLemmas

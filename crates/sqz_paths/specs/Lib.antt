@@ -10,3 +10,4 @@ pub mod Treeing
 pub mod Totals
 pub mod Retained
 pub mod Laws
+pub mod Children

@@ -3,6 +3,7 @@
 #![tactic(auto)]
 
 mod all_defects;
+mod children;
 mod dominators;
 pub mod laws;
 mod members;
@@ -15,6 +16,7 @@ mod totals;
 mod tree;
 
 pub use all_defects::defects_of;
+pub use children::{Child, Children, children_of};
 pub use dominators::{Dominators, dominators_of};
 pub use members::{Member, members_of};
 pub use path::{Path, Step, path_to};
