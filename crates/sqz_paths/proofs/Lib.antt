@@ -1,3 +1,4 @@
+pub mod BasicLemmas
 pub mod SearchLemmas
 pub mod PathLemmas
 pub mod MemberLemmas
