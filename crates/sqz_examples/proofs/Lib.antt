@@ -1,3 +1,5 @@
 pub mod RunTest
 pub mod TracingTest
 pub mod WorkedImages
+pub mod DominatorTest
+pub mod RetainedTest

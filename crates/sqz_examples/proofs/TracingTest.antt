@@ -1,7 +1,7 @@
 -- Whether paths to some of the objects show that these are the reachable ones, by a test that
 -- computes.
--- Serves `marking::not_yet`, `moved_objects::dead_cycle`, the functions of `questions`, `RunTest`
--- and `WorkedImages`.
+-- Serves `marking::not_yet`, `moved_objects::dead_cycle`, the functions of `questions`,
+-- `DominatorTest`, `RunTest` and `WorkedImages`.
 use Rattle.std.proofs.Common.{◌≡◌, ℕ, zero, suc, ◌+◌, ◌<◌, Bool, true, false, ◌&&◌, ◌||◌, eqb, ltb, nat_lt, List, []}
 use Rattle.std.proofs.Common.{◌∷◌, length, map, slice_index, slice_index_or, if◌then◌else◌, Option, Some, None, refl}
 use Rattle.std.proofs.Common.{sym, ap, subst, ◌∙◌, arith, inl, inr}
@@ -93,7 +93,7 @@ module _ (memory : Memory) (weak : Weak) where
   leads_to from (next ∷ path) goal = has_edge from next && leads_to next path goal
 
   -- then the path leads there
-  leads_to-true : (start from : ℕ) (path : List ℕ) (goal : ℕ) → leads_to from path goal ≡ true
+  pub leads_to-true : (start from : ℕ) (path : List ℕ) (goal : ℕ) → leads_to from path goal ≡ true
       → Leads (graph_from start memory weak) from path goal
   leads_to-true start from [] goal h = eqb-true from goal h
   leads_to-true start from (next ∷ path) goal h =
@@ -149,37 +149,40 @@ module _ (memory : Memory) (weak : Weak) (passes : ℕ → Bool) where
   pub targets_pass : (from to : ℕ) → all_named_pass (chunk_words memory from) ≡ true → HasEdge memory weak from to → passes to ≡ true
   targets_pass from to h edge = all_named_pass_at (chunk_words memory from) edge.slot to h edge.names
 
-module _ (memory : Memory) (weak : Weak) (marks : List Bool) where
-  -- whether all that the marked ones of these objects name are marked; `own` has their marks
+module _ (memory : Memory) (weak : Weak) (passes : ℕ → Bool) where
+  -- whether all that the marked ones of these objects name pass; `own` has their marks
   abbrev pub is_closed_from : List Bool → List Object → Bool
-  is_closed_from (true ∷ own) (object ∷ objects) = all_named_pass memory weak (is_marked marks) object.chunk && is_closed_from own objects
+  is_closed_from (true ∷ own) (object ∷ objects) = all_named_pass memory weak passes object.chunk && is_closed_from own objects
   is_closed_from (false ∷ own) (object ∷ objects) = is_closed_from own objects
   is_closed_from _ _ = true
 
   -- each of these objects, then
   is_closed_from_at : (own : List Bool) (objects : List Object) (index : ℕ) (d : Object)
       → is_closed_from own objects ≡ true → slice_index_or own index false ≡ true → index < length objects
-      → all_named_pass memory weak (is_marked marks) (slice_index_or objects index d).chunk ≡ true
+      → all_named_pass memory weak passes (slice_index_or objects index d).chunk ≡ true
   is_closed_from_at own [] index d h m lt = absurd (omega arith)
   is_closed_from_at [] (object ∷ objects) index d h m lt = absurd cc
   is_closed_from_at (true ∷ own) (object ∷ objects) zero d h m lt =
-      (and_parts (all_named_pass memory weak (is_marked marks) object.chunk) (is_closed_from own objects) h).0
+      (and_parts (all_named_pass memory weak passes object.chunk) (is_closed_from own objects) h).0
   is_closed_from_at (true ∷ own) (object ∷ objects) (suc index) d h m lt =
-      let parts = and_parts (all_named_pass memory weak (is_marked marks) object.chunk) (is_closed_from own objects) h in
+      let parts = and_parts (all_named_pass memory weak passes object.chunk) (is_closed_from own objects) h in
       is_closed_from_at own objects index d parts.1 m (omega arith)
   is_closed_from_at (false ∷ own) (object ∷ objects) zero d h m lt = absurd cc
   is_closed_from_at (false ∷ own) (object ∷ objects) (suc index) d h m lt =
       is_closed_from_at own objects index d h m (omega arith)
 
+  -- what a marked object has an edge to passes, then
+  pub closed_along : (marks : List Bool) → is_closed_from marks (objects memory) ≡ true → (from to : ℕ)
+      → is_marked marks from ≡ true → HasEdge memory weak from to → passes to ≡ true
+  closed_along marks h from to m edge =
+      let some : Object = record { first = 0; chunk = [] } in
+      let all = is_closed_from_at marks (objects memory) from some h m edge.inside in
+      targets_pass memory weak passes from to all edge
+
 -- the same of all objects
 IsClosed-from_test : (memory : Memory) (weak : Weak) (start : ℕ) (marks : List Bool)
-    → is_closed_from memory weak marks marks (objects memory) ≡ true → IsClosed (graph_from start memory weak) marks
-IsClosed-from_test memory weak start marks h = record {
-  along = λ from to m edge.
-      let some : Object = record { first = 0; chunk = [] } in
-      let all = is_closed_from_at memory weak marks marks (objects memory) from some h m edge.inside in
-      targets_pass memory weak (is_marked marks) from to all edge;
-}
+    → is_closed_from memory weak (is_marked marks) marks (objects memory) ≡ true → IsClosed (graph_from start memory weak) marks
+IsClosed-from_test memory weak start marks h = record { along = closed_along memory weak (is_marked marks) marks h }
 
 -- ---- a path to each marked object, by a test
 
@@ -223,7 +226,7 @@ module _ (memory : Memory) (weak : Weak) where
   abbrev pub is_tracing_from : ℕ → List (Option (List ℕ)) → Bool
   is_tracing_from start paths =
       let marks : List Bool = marks_of paths in
-      let closed : Bool = is_closed_from memory weak marks marks (objects memory) in
+      let closed : Bool = is_closed_from memory weak (is_marked marks) marks (objects memory) in
       eqb (length paths) (object_count memory) && (is_marked marks start && (closed && all_lead memory weak start 0 paths))
 
   abbrev pub is_tracing_from_some : Option ℕ → List (Option (List ℕ)) → Bool
@@ -233,12 +236,22 @@ module _ (memory : Memory) (weak : Weak) where
   abbrev pub is_tracing : List (Option (List ℕ)) → Bool
   is_tracing paths = is_tracing_from_some (find memory memory.special) paths
 
+  -- the paths of a list that passes lead to its objects
+  pub is_tracing_from-leads : (start : ℕ) (paths : List (Option (List ℕ))) → is_tracing_from start paths ≡ true
+      → all_lead memory weak start 0 paths ≡ true
+  is_tracing_from-leads start paths h =
+      let marks : List Bool = marks_of paths in
+      let closed : Bool = is_closed_from memory weak (is_marked marks) marks (objects memory) in
+      let lead : Bool = all_lead memory weak start 0 paths in
+      let a = and_parts (eqb (length paths) (object_count memory)) (is_marked marks start && (closed && lead)) h in
+      let b = and_parts (is_marked marks start) (closed && lead) a.1 in (and_parts closed lead b.1).1
+
   -- paths that start at this object
-  is_tracing_from-true : (start : ℕ) (paths : List (Option (List ℕ))) → is_tracing_from start paths ≡ true
+  pub is_tracing_from-true : (start : ℕ) (paths : List (Option (List ℕ))) → is_tracing_from start paths ≡ true
       → IsTracing (graph_from start memory weak) (marks_of paths)
   is_tracing_from-true start paths h =
       let marks : List Bool = marks_of paths in
-      let closed : Bool = is_closed_from memory weak marks marks (objects memory) in
+      let closed : Bool = is_closed_from memory weak (is_marked marks) marks (objects memory) in
       let lead : Bool = all_lead memory weak start 0 paths in
       let a = and_parts (eqb (length paths) (object_count memory)) (is_marked marks start && (closed && lead)) h in
       let b = and_parts (is_marked marks start) (closed && lead) a.1 in

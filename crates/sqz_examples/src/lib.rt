@@ -4,6 +4,7 @@
 
 mod compacted;
 mod defects;
+mod dominators;
 mod marking;
 mod memories;
 mod moved_objects;
