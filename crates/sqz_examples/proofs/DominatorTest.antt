@@ -7,7 +7,7 @@ use Rattle.std.specs.List.{list_all}
 use Rattle.std.specs.Option.{option_map}
 use Rattle.std.proofs.lemmas.Bool.{and_parts, or_cases, eqb-true, eqb-false, not-true, cases_eq}
 use Rattle.std.proofs.lemmas.List.{length-map}
-use Rattle.std.proofs.lemmas.List.Elements.{All-contains, Contains-push, Contains-push_cases, Contains-append_left, Contains-append_right}
+use Rattle.std.proofs.lemmas.List.Elements.{All-contains}
 use Rattle.std.proofs.lemmas.List.Elements.{Contains-append_cases}
 use Rattle.std.proofs.lemmas.List.Sums.{AllPass-from_list_all}
 use Rattle.std.proofs.lemmas.Option.{same_Some}
@@ -18,27 +18,13 @@ use Rattle.sqz_trace.specs.Reachability.{graph_from}
 use Rattle.sqz_trace.proofs.CopyLemmas.{marked_inside}
 use Rattle.sqz_trace.proofs.ReachabilityLemmas.{MarksReachable-from_tracing}
 use Rattle.sqz_paths.specs.Dominators.{Dominates, IsImmediate, AreImmediate}
+use Rattle.sqz_paths.proofs.BasicLemmas.{Contains-first, Contains-later, Contains-cases}
+use Rattle.sqz_paths.proofs.DominatorLawLemmas.{Leads-then}
 use Rattle.sqz_paths.proofs.DominatorLemmas.{Dominates-start}
 use Rattle.sqz_examples.proofs.TracingTest.{marks_of, leads_to, leads_to-true, is_closed_from, closed_along}
 use Rattle.sqz_examples.proofs.TracingTest.{is_tracing_from, is_tracing_from-true}
 
 -- ---- lists
-
-Contains-first : (x : ℕ) (xs : List ℕ) → Contains (x ∷ xs) x
-Contains-first x xs = Contains-append_left (x ∷ []) xs x (Contains-push [] x)
-
-Contains-later : (y : ℕ) (xs : List ℕ) (x : ℕ) → Contains xs x → Contains (y ∷ xs) x
-Contains-later y xs x there = Contains-append_right (y ∷ []) xs x there
-
-Contains-cases : (y : ℕ) (xs : List ℕ) (x : ℕ) → Contains (y ∷ xs) x → (y ≡ x) ⊎ Contains xs x
-Contains-cases y xs x there =
-    elim (Contains-append_cases (y ∷ []) xs x there) [
-      | inl first ↦ elim (Contains-push_cases [] y x first) [
-        | inl none ↦ absurd (omega (arith, none.1))
-        | inr same ↦ inl same
-      ]
-      | inr later ↦ inr later
-    ]
 
 -- each element passes a test that all pass
 passes_at : (test : ℕ → Bool) (xs : List ℕ) (x : ℕ) → list_all test xs ≡ true → Contains xs x → test x ≡ true
@@ -60,12 +46,6 @@ meeting last xs ys x h first second =
 -- ---- two objects do not dominate each other
 
 module _ (graph : Graph) where
-  -- one path after another is a path
-  Leads-then : (from : ℕ) (path : List ℕ) (middle : ℕ) (rest : List ℕ) (goal : ℕ) → Leads graph from path middle
-      → Leads graph middle rest goal → Leads graph from (path ++ rest) goal
-  Leads-then from [] middle rest goal first second = subst (λ (i : ℕ). Leads graph i rest goal) (sym first) second
-  Leads-then from (next ∷ path) middle rest goal first second = (first.0, Leads-then next path middle rest goal first.1 second)
-
   -- a shorter path leads to an object on a path that is not its goal
   shorter : (from : ℕ) (path : List ℕ) (goal x : ℕ) → Leads graph from path goal → Contains (from ∷ path) x → (x ≡ goal → ⊥)
       → (part : List ℕ) × (Leads graph from part x × (length part < length path))
