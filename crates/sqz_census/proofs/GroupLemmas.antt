@@ -1,5 +1,5 @@
 -- Groups, their keys, and the objects that they have.
--- Serves `CensusLemmas`, `SumLemmas` and `TallyLemmas`.
+-- Serves `HistogramLemmas`, `CensusLemmas`, `SumLemmas` and `TallyLemmas`.
 use Rattle.std.proofs.Common.{◌≡◌, ℕ, zero, suc, ◌+◌, ◌-◌, ◌<◌, ◌≤◌, Bool, true, false, List, [], ◌∷◌}
 use Rattle.std.proofs.Common.{filter, length, get_or, Option, Some, None, refl, sym, ap, subst, ◌∙◌, arith, inl, inr}
 use Rattle.std.specs.Prelude.{option_and_then}
@@ -21,7 +21,9 @@ use Rattle.sqz_trace.specs.Reachability.{graph_from, IsReachability}
 use Rattle.sqz_trace.proofs.EdgeLemmas.{named_among-lt}
 use Rattle.sqz_trace.proofs.StrongLemmas.{held_by_word-target}
 use Rattle.sqz_trace.proofs.ReachabilityLemmas.{IsClosed-reachable}
-use Rattle.sqz_census.specs.Census.{Group, Class, Compact, is_same, group_by, group_of, members}
+use Rattle.sqz_census.specs.declared.group.Group.{Group}
+use Rattle.sqz_census.specs.declared.group.Group.TheVariants.{Class, Compact}
+use Rattle.sqz_census.specs.Groups.{is_same, group_by, group_of, IsInside, members}
 use Rattle.sqz_census.specs.Keys.{key_of, group_with}
 
 -- ---- classes are objects
@@ -54,12 +56,7 @@ module _ (memory : Memory) (weak : Weak) where
 
 -- ---- groups and keys
 
--- a group that some object may be in, given the number of objects
-abbrev pub IsInside : ℕ → Group → Type 0
-IsInside count (Class class) = class < count
-IsInside count (Compact index) = index < 32
-
--- the group of an object is one
+-- the group of an object is one that some object may be in
 pub group_of-inside : (memory : Memory) (weak : Weak) (chunk : List ℕ) → IsInside (object_count memory) (group_of memory weak chunk)
 group_of-inside memory weak chunk = by_class (class_of memory weak chunk) refl
   where

@@ -4,6 +4,8 @@ pub mod EntryLemmas
 pub mod TallyLemmas
 pub mod ShareLemmas
 pub mod RowLemmas
+pub mod AddressLemmas
+pub mod HistogramLemmas
 pub mod CensusLemmas
 pub mod OrderedLemmas
 pub mod Uniqueness

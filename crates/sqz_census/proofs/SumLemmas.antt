@@ -1,16 +1,20 @@
--- The sums of a census: each live object is counted in one group.
--- Serves `laws::census_sums`.
+-- The sums of a histogram and of a census: each marked object is counted in one group.
+-- Serves `laws::histogram_sums` and `laws::census_sums`.
 use Rattle.std.proofs.Common.{◌≡◌, ◌⊎◌, ℕ, ◌+◌, ◌*◌, ◌<◌, Bool, true, cond, List, [], ◌∷◌, map, length}
 use Rattle.std.proofs.Common.{filter, refl, sym, ap, subst, ◌∙◌, inl, inr, arith}
 use Rattle.std.specs.List.{Contains, sum_by}
 use Rattle.std.proofs.lemmas.Bool.{cases_Bool, eq-eqb}
 use Rattle.std.proofs.lemmas.List.Sums.{sum_by-cons}
-use Rattle.sqz_image.specs.Objects.{Memory, Object}
+use Rattle.sqz_image.specs.Objects.{Memory, Object, address_of}
 use Rattle.sqz_trace.specs.declared.weak.Weak.{Weak}
 use Rattle.sqz_trace.specs.Live.{live}
-use Rattle.sqz_regions.specs.Places.{words_in, live_words}
+use Rattle.sqz_regions.specs.Places.{words_in, live_words, place}
 use Rattle.sqz_regions.proofs.PlaceLemmas.{words_in-cons}
-use Rattle.sqz_census.specs.Census.{Group, Class, Compact, is_same, group_of, members, ComesBefore}
+use Rattle.sqz_census.specs.declared.group.Group.{Group}
+use Rattle.sqz_census.specs.declared.group.Group.TheVariants.{Class, Compact}
+use Rattle.sqz_census.specs.declared.group.GroupTotal.{GroupTotal}
+use Rattle.sqz_census.specs.Groups.{is_same, group_of, members, bytes_of, ComesBefore, AreGroups}
+use Rattle.sqz_census.specs.Histogram.{total_of, IsHistogram}
 use Rattle.sqz_census.specs.Census.{CensusRow, row_of, IsCensus}
 use Rattle.sqz_census.proofs.GroupLemmas.{is_same-equal}
 use Rattle.sqz_census.proofs.OrderedLemmas.{IsOrdered, Contains-cons_cases, Contains-head, Contains-tail, Contains-nil}
@@ -46,22 +50,22 @@ module _ (given : Group) (number : ℕ) where
       let others = none_same groups (λ other has. differ other (Contains-tail group groups other has)) in
       omega (arith, sum_by-cons (if_same given number) group groups, first, others)
 
-module _ (memory : Memory) (weak : Weak) (marks : List Bool) where
-  -- of groups in the order of a census that have a given one, it is the one that is the same
-  one_same : (given : Group) (number : ℕ) (groups : List Group) → IsOrdered (ComesBefore memory weak marks) groups
+module _ (memory : Memory) (weak : Weak) (marks : List Bool) (address : ℕ → ℕ) where
+  -- of groups in order that have a given one, it is the one that is the same
+  one_same : (given : Group) (number : ℕ) (groups : List Group) → IsOrdered (ComesBefore memory weak marks address) groups
       → Contains groups given → sum_by (if_same given number) groups ≡ number
   one_same given number [] ordered has = absurd (Contains-nil given has)
   one_same given number (group ∷ groups) ordered has =
-      let tail = IsOrdered-tail (ComesBefore memory weak marks) group groups ordered in
+      let tail = IsOrdered-tail (ComesBefore memory weak marks address) group groups ordered in
       by (one_same given number groups tail) (Contains-cons_cases group groups given has)
     where
-      before : (other : Group) → Contains groups other → ComesBefore memory weak marks group other
-      before other = first_before (ComesBefore memory weak marks) group groups other ordered
+      before : (other : Group) → Contains groups other → ComesBefore memory weak marks address group other
+      before other = first_before (ComesBefore memory weak marks address) group groups other ordered
 
       apart : (other : Group) → Contains groups other → group ≡ other → ⊥
       apart other behind same =
-          ComesBefore-itself memory weak marks other
-          (subst (λ (g : Group). ComesBefore memory weak marks g other) same (before other behind))
+          ComesBefore-itself memory weak marks address other
+          (subst (λ (g : Group). ComesBefore memory weak marks address g other) same (before other behind))
 
       by : (Contains groups given → sum_by (if_same given number) groups ≡ number)
           → (group ≡ given) ⊎ Contains groups given → sum_by (if_same given number) (group ∷ groups) ≡ number
@@ -114,7 +118,7 @@ module _ (memory : Memory) (weak : Weak) (marks : List Bool) where
         )
 
     -- where each object's group is among them, the sums over the groups are together the sum over all
-    in_groups : (groups : List Group) → IsOrdered (ComesBefore memory weak marks) groups → (objects : List Object)
+    in_groups : (groups : List Group) → IsOrdered (ComesBefore memory weak marks address) groups → (objects : List Object)
         → ((object : Object) → Contains objects object → Contains groups (group_of memory weak object.chunk))
         → sum_by (in_group objects) groups ≡ sum_of objects
     in_groups groups ordered [] all = in_no_group groups ∙ sym none
@@ -125,7 +129,7 @@ module _ (memory : Memory) (weak : Weak) (marks : List Bool) where
         in_groups groups ordered objects (λ other behind. all other (Contains-tail object objects other behind)) in
         omega (arith, each_more object objects groups, once, more object objects, others)
 
-  -- ---- the rows of a census
+  -- ---- all groups
 
   -- where an object is among some, its group has one of them
   has_member : (objects : List Object) (object : Object) → Contains objects object
@@ -148,61 +152,71 @@ module _ (memory : Memory) (weak : Weak) (marks : List Bool) where
             | inr other ↦ rw other (others behind)
           ]
 
-  count_of : (group : Group) → (row_of memory weak marks group).count ≡ length (members memory weak marks group)
-  count_of (Class class) = refl
-  count_of (Compact index) = refl
-
-  bytes_are : (group : Group) → (row_of memory weak marks group).bytes ≡ 4 * words_in (members memory weak marks group)
-  bytes_are (Class class) = refl
-  bytes_are (Compact index) = refl
-
-  abbrev count : CensusRow → ℕ
-  count row = row.count
-
-  abbrev bytes : CensusRow → ℕ
-  bytes row = row.bytes
-
-  counts : (groups : List Group)
-      → sum_by count (map (row_of memory weak marks) groups) ≡ sum_by (λ group. length (members memory weak marks group)) groups
-  counts [] = refl
-  counts (group ∷ groups) =
-      omega (
-        arith,
-        sum_by-cons count (row_of memory weak marks group) (map (row_of memory weak marks) groups),
-        sum_by-cons (λ group. length (members memory weak marks group)) group groups,
-        count_of group,
-        counts groups,
-      )
-
-  all_bytes : (groups : List Group)
-      → sum_by bytes (map (row_of memory weak marks) groups)
-      ≡ 4 * sum_by (λ group. words_in (members memory weak marks group)) groups
-  all_bytes [] = refl
-  all_bytes (group ∷ groups) =
-      omega (
-        arith,
-        sum_by-cons bytes (row_of memory weak marks group) (map (row_of memory weak marks) groups),
-        sum_by-cons (λ group. words_in (members memory weak marks group)) group groups,
-        bytes_are group,
-        all_bytes groups,
-      )
-
-  module _ (rows : List CensusRow) (is : IsCensus memory weak marks rows) where
-    among : (object : Object) → Contains (live memory marks) object → Contains is.groups (group_of memory weak object.chunk)
+  module _ (groups : List Group) (listed : AreGroups memory weak marks address groups) where
+    among : (object : Object) → Contains (live memory marks) object → Contains groups (group_of memory weak object.chunk)
     among object lives =
-        (is.all (group_of memory weak object.chunk)).1 (has_member (live memory marks) object lives)
+        (listed.all (group_of memory weak object.chunk)).1 (has_member (live memory marks) object lives)
 
-    -- the rows count each live object once
-    pub sum-counts : sum_by count rows ≡ length (live memory marks)
-    sum-counts =
-        ap (sum_by count) is.are ∙ counts is.groups
-        ∙ in_groups (λ object. 1) (λ objects. length objects) refl (λ object objects. omega arith)
-        is.groups is.ordered (live memory marks) among
+    -- the groups have each marked object once
+    sum-members : sum_by (λ group. length (members memory weak marks group)) groups ≡ length (live memory marks)
+    sum-members =
+        in_groups (λ object. 1) (λ objects. length objects) refl (λ object objects. omega arith)
+        groups listed.ordered (live memory marks) among
 
     -- and the bytes of its chunk
-    pub sum-bytes : sum_by bytes rows ≡ 4 * live_words memory marks
-    sum-bytes =
-        let words =
-        in_groups (λ object. length object.chunk) words_in refl (λ object objects. words_in-cons object objects)
-        is.groups is.ordered (live memory marks) among in
-        ap (sum_by bytes) is.are ∙ all_bytes is.groups ∙ ap (λ (n : ℕ). 4 * n) words
+    sum-bytes_of : sum_by (bytes_of memory weak marks) groups ≡ 4 * live_words memory marks
+    sum-bytes_of =
+        in_groups (λ object. 4 * length object.chunk) (λ objects. 4 * words_in objects) refl
+        (λ object objects. omega (arith, words_in-cons object objects)) groups listed.ordered (live memory marks) among
+
+-- ---- rows
+
+-- a sum over what is made of each item
+sum_by-map : {X Y : Type 0} (f : Y → ℕ) (g : X → Y) (h : X → ℕ) → ((x : X) → f (g x) ≡ h x) → (xs : List X)
+    → sum_by f (map g xs) ≡ sum_by h xs
+sum_by-map f g h same [] = refl
+sum_by-map f g h same (x ∷ xs) =
+    omega (arith, sum_by-cons f (g x) (map g xs), sum_by-cons h x xs, same x, sum_by-map f g h same xs)
+
+module _ (memory : Memory) (weak : Weak) (marks : List Bool) where
+  abbrev members_of : Group → ℕ
+  members_of group = length (members memory weak marks group)
+
+  module _ (totals : List GroupTotal) (is : IsHistogram memory weak marks totals) where
+    -- the totals count each marked object once
+    pub histogram_counts : sum_by (λ total. total.count) totals ≡ length (live memory marks)
+    histogram_counts =
+        ap (sum_by (λ (total : GroupTotal). total.count)) is.are
+        ∙ sum_by-map (λ (total : GroupTotal). total.count) (total_of memory weak marks) members_of (λ group. refl) is.groups
+        ∙ sum-members memory weak marks (address_of memory) is.groups is.listed
+
+    -- and the bytes of its chunk
+    pub histogram_bytes : sum_by (λ total. total.bytes) totals ≡ 4 * live_words memory marks
+    histogram_bytes =
+        ap (sum_by (λ (total : GroupTotal). total.bytes)) is.are
+        ∙ sum_by-map (λ (total : GroupTotal). total.bytes) (total_of memory weak marks) (bytes_of memory weak marks) (λ group. refl)
+        is.groups
+        ∙ sum-bytes_of memory weak marks (address_of memory) is.groups is.listed
+
+  row_count : (group : Group) → (row_of memory weak marks group).count ≡ members_of group
+  row_count (Class class) = refl
+  row_count (Compact index) = refl
+
+  row_bytes : (group : Group) → (row_of memory weak marks group).bytes ≡ bytes_of memory weak marks group
+  row_bytes (Class class) = refl
+  row_bytes (Compact index) = refl
+
+  module _ (rows : List CensusRow) (is : IsCensus memory weak marks rows) where
+    -- the rows count each live object once
+    pub census_counts : sum_by (λ row. row.count) rows ≡ length (live memory marks)
+    census_counts =
+        ap (sum_by (λ (row : CensusRow). row.count)) is.are
+        ∙ sum_by-map (λ (row : CensusRow). row.count) (row_of memory weak marks) members_of row_count is.groups
+        ∙ sum-members memory weak marks (place memory marks) is.groups is.listed
+
+    -- and the bytes of its chunk
+    pub census_bytes : sum_by (λ row. row.bytes) rows ≡ 4 * live_words memory marks
+    census_bytes =
+        ap (sum_by (λ (row : CensusRow). row.bytes)) is.are
+        ∙ sum_by-map (λ (row : CensusRow). row.bytes) (row_of memory weak marks) (bytes_of memory weak marks) row_bytes is.groups
+        ∙ sum-bytes_of memory weak marks (place memory marks) is.groups is.listed

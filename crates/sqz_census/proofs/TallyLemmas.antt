@@ -19,8 +19,9 @@ use Rattle.sqz_regions.proofs.PlaceLemmas.{size, words_in-cons, live_objects-le,
 use Rattle.sqz_regions.proofs.SumLemmas.{live_words_below-le-words, live_words-le-words}
 use Rattle.sqz_census.specs.declared.tallies.Tally.{Tally}
 use Rattle.sqz_census.specs.declared.entries.Entry.{Entry}
-use Rattle.sqz_census.specs.Census.{Group, is_same, group_of}
-use Rattle.sqz_census.specs.Keys.{key_of, group_with, key_count, dead, IsLiveEntry, IsEntryOf}
+use Rattle.sqz_census.specs.declared.group.Group.{Group}
+use Rattle.sqz_census.specs.Groups.{is_same, group_of}
+use Rattle.sqz_census.specs.Keys.{key_of, group_with, key_count, no_group, IsLiveEntry, IsEntryOf}
 use Rattle.sqz_census.specs.Tallies.{tally_in, no_tally, AreTalliesOf, AreTalliesBelow, AreTallies, FitWords}
 use Rattle.sqz_census.proofs.GroupLemmas.{no_object, group_of-inside, key_of-lt, is_same-key, is_same-other}
 
@@ -108,7 +109,7 @@ module _ (memory : Memory) (weak : Weak) where
 
 module _ (memory : Memory) (weak : Weak) (marks : List Bool) (index : ℕ) (inside : index < object_count memory) (tallies : List Tally)
     (are : AreTalliesBelow memory weak marks index tallies) where
-  -- a dead object is not counted
+  -- an object that is not marked is not counted
   pub AreTalliesBelow-more_no : is_marked marks index ≡ false → AreTalliesBelow memory weak marks (index + 1) tallies
   AreTalliesBelow-more_no is =
       subst (λ (live : List Object). AreTalliesOf memory weak live tallies)
@@ -155,16 +156,16 @@ module _ (memory : Memory) (weak : Weak) (marks : List Bool) (index : ℕ) (insi
 
 module _ (memory : Memory) (weak : Weak) (marks : List Bool) (index : ℕ) (inside : index < object_count memory) (tallies : List Tally)
     (are : AreTalliesBelow memory weak marks index tallies) (entry : Entry) (is : IsEntryOf memory weak marks index entry) where
-  -- the key of a marked object is not that of dead ones
-  pub dead_more : entry.key ≡ dead → object_count memory < 2 ^ 30 → AreTalliesBelow memory weak marks (index + 1) tallies
-  dead_more key_is few =
+  -- the key of a marked object is not that of the others
+  pub no_group_more : entry.key ≡ no_group → object_count memory < 2 ^ 30 → AreTalliesBelow memory weak marks (index + 1) tallies
+  no_group_more key_is few =
       elim (cases_Bool (is_marked marks index)) [
         | inl alive ↦
             let lt = live_key-lt memory weak marks index inside tallies are entry alive (is.marked alive) in absurd (omega (arith, lt))
         | inr unmarked ↦ AreTalliesBelow-more_no memory weak marks index inside tallies are unmarked
       ]
 
-  module _ (alive : entry.key ≡ dead → ⊥) where
+  module _ (alive : entry.key ≡ no_group → ⊥) where
     its_mark : is_marked marks index ≡ true
     its_mark =
         elim (cases_Bool (is_marked marks index)) [

@@ -2,17 +2,14 @@
 -- objects plus a compact index.
 use Rattle.std.specs.Prelude.{◌≡◌, ℕ, ◌+◌, ◌-◌, ◌<◌, nat_lt, Bool, true, false, if◌then◌else◌, List, length}
 use Rattle.std.specs.Prelude.{slice_index_or, Option, None}
-use Rattle.sqz_object.specs.Chunk.{before}
 use Rattle.sqz_image.specs.Objects.{Memory, object_count, chunk_words}
 use Rattle.sqz_trace.specs.declared.weak.Weak.{Weak}
 use Rattle.sqz_trace.specs.Strong.{compact_class}
 use Rattle.sqz_trace.specs.Graph.{is_marked}
 use Rattle.sqz_census.specs.declared.entries.Entry.{Entry}
-use Rattle.sqz_census.specs.Census.{Group, Class, Compact, group_of}
-
--- the number of compact indexes
-abbrev pub compact_indexes : ℕ
-compact_indexes = 32
+use Rattle.sqz_census.specs.declared.group.Group.{Group}
+use Rattle.sqz_census.specs.declared.group.Group.TheVariants.{Class, Compact}
+use Rattle.sqz_census.specs.Groups.{compact_indexes, group_of}
 
 -- the class that each compact index stands for
 pub record AreCompactClasses (memory : Memory) (weak : Weak) (classes : List (Option ℕ)) : Type 0 where
@@ -33,19 +30,18 @@ abbrev pub key_count : Memory → ℕ
 key_count memory = object_count memory + compact_indexes
 
 -- the key of an object that is not marked
-abbrev pub dead : ℕ
-dead = 4294967295
+abbrev pub no_group : ℕ
+no_group = 4294967295
 
 -- what is kept of a marked object: its group's key, and the length of its chunk in words
 pub record IsLiveEntry (memory : Memory) (weak : Weak) (index : ℕ) (entry : Entry) : Type 0 where
   pub key : entry.key ≡ key_of (object_count memory) (group_of memory weak (chunk_words memory index))
   pub words : entry.words ≡ length (chunk_words memory index)
-  pub headed : before (chunk_words memory index) < length (chunk_words memory index)
 
 -- what is kept of an object
 pub record IsEntryOf (memory : Memory) (weak : Weak) (marks : List Bool) (index : ℕ) (entry : Entry) : Type 0 where
   pub marked : is_marked marks index ≡ true → IsLiveEntry memory weak index entry
-  pub unmarked : is_marked marks index ≡ false → entry.key ≡ dead
+  pub unmarked : is_marked marks index ≡ false → entry.key ≡ no_group
 
 abbrev pub no_entry : Entry
 no_entry = record { key = 0; words = 0 }

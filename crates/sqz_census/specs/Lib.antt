@@ -1,4 +1,6 @@
 pub mod Names
+pub mod Groups
+pub mod Histogram
 pub mod Census
 pub mod Rows
 pub mod Keys

@@ -1,11 +1,8 @@
--- The groups that have live objects, by key and in census order, and their rows.
-use Rattle.std.specs.Prelude.{◌≡◌, ◌⊎◌, ℕ, ◌*◌, ◌^◌, ◌<◌, List, ◌++◌, length, slice_index_or, codes, decimal, Option, None}
-use Rattle.sqz_image.specs.Objects.{Memory, object_count}
-use Rattle.sqz_trace.specs.declared.weak.Weak.{Weak}
+-- The groups that have marked objects, by key and in order, and their totals.
+use Rattle.std.specs.Prelude.{◌≡◌, ◌⊎◌, ℕ, ◌*◌, ◌^◌, ◌<◌, List, length, slice_index_or}
+use Rattle.sqz_census.specs.declared.group.GroupTotal.{GroupTotal}
 use Rattle.sqz_census.specs.declared.tallies.Tally.{Tally}
 use Rattle.sqz_census.specs.declared.shares.Share.{Share}
-use Rattle.sqz_census.specs.Census.{CensusRow, Group, Class, Compact}
-use Rattle.sqz_census.specs.Names.{class_name}
 use Rattle.sqz_census.specs.Keys.{group_with}
 use Rattle.sqz_census.specs.Tallies.{no_tally}
 
@@ -37,26 +34,14 @@ pub record AreShares (tallies : List Tally) (bound : ℕ) (shares : List Share) 
 abbrev pub IsBefore : Share → Share → Type 0
 IsBefore one other = (other.words < one.words) ⊎ ((one.words ≡ other.words) × (one.key < other.key))
 
--- the shares of all groups, in census order
+-- the shares of all groups, in order
 pub record AreSharesInOrder (tallies : List Tally) (shares : List Share) : Type 0 where
   pub each : (i : ℕ) → i < length shares → IsShareOf tallies (slice_index_or shares i no_share)
   pub all : HaveShares tallies (length tallies) shares
   pub ordered : (i j : ℕ) → i < j → j < length shares
       → IsBefore (slice_index_or shares i no_share) (slice_index_or shares j no_share)
 
--- the row of a group, by a list of new addresses
-abbrev pub row_by : Memory → Weak → List (Option ℕ) → Group → ℕ → ℕ → CensusRow
-row_by memory weak places (Class class) count words =
-    record {
-      place = slice_index_or places class None;
-      compact = 0;
-      name = class_name memory weak class;
-      count = count;
-      bytes = 4 * words;
-    }
-row_by memory weak places (Compact index) count words =
-    record { place = None; compact = index; name = codes "compact " ++ decimal index; count = count; bytes = 4 * words }
-
-abbrev pub row_at : Memory → Weak → List (Option ℕ) → Share → CensusRow
-row_at memory weak places share =
-    row_by memory weak places (group_with (object_count memory) share.key) share.count share.words
+-- the total of the group that a share is of, given the number of objects
+abbrev pub total_at : ℕ → Share → GroupTotal
+total_at count share =
+    record { group = group_with count share.key; count = share.count; bytes = 4 * share.words }

@@ -3,7 +3,8 @@
 ghost use Rattle.std.specs.Prelude.{◌≡◌, length, IfOk};
 ghost use Rattle.sqz_trace.specs.declared.weak.Weak.{Weak};
 ghost use Rattle.sqz_trace.specs.Strong.{class_of};
-ghost use Rattle.sqz_census.specs.Keys.{compact_indexes, AreCompactClasses};
+ghost use Rattle.sqz_census.specs.Groups.{compact_indexes};
+ghost use Rattle.sqz_census.specs.Keys.{AreCompactClasses};
 
 use sqz_image::{Heap, Object};
 use sqz_object::{Kind, ObjectIndex, base_of};

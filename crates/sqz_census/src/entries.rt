@@ -1,9 +1,10 @@
-//! The census entry of each object.
+//! What is counted of each object.
 
 ghost use Rattle.std.specs.Prelude.{◌≡◌, ◌<◌, length, IfOk};
 ghost use Rattle.sqz_image.specs.Objects.{object_count};
 ghost use Rattle.sqz_trace.specs.declared.weak.Weak.{Weak};
-ghost use Rattle.sqz_census.specs.Keys.{compact_indexes, AreCompactClasses, IsEntryOf, AreEntries};
+ghost use Rattle.sqz_census.specs.Groups.{compact_indexes};
+ghost use Rattle.sqz_census.specs.Keys.{AreCompactClasses, IsEntryOf, AreEntries};
 
 use crate::classes::class_by_table;
 use rayon::prelude::*;
@@ -14,13 +15,13 @@ use std::alloc::{AllocError, Global};
 use std::thread::Threads;
 
 /// The key of an object that is not marked. No group has this key.
-pub(crate) const DEAD: u32 = u32::MAX;
+pub(crate) const NO_GROUP: u32 = u32::MAX;
 
-/// What the census keeps of an object.
+/// What is counted of an object.
 #[derive(Clone, Copy)]
 pub(crate) struct Entry {
     /// The group that counts it: the index of its class, or, without a class, the number of
-    /// objects plus its compact index. `DEAD` if no group counts it.
+    /// objects plus its compact index. `NO_GROUP` if no group counts it.
     pub(crate) key: u32,
     /// The length of its chunk in words.
     pub(crate) words: u32,
@@ -69,7 +70,7 @@ fn entry_of(
 {
     if !marks.has(object) {
         return Entry {
-            key: DEAD,
+            key: NO_GROUP,
             words: 0,
         };
     }

@@ -1,14 +1,13 @@
-//! The rows of shares.
+//! The rows of a histogram.
 
-ghost use Rattle.std.specs.Prelude.{◌≡◌, ◌+◌, ◌<◌, length, map, All, IfOk};
+ghost use Rattle.std.specs.Prelude.{◌≡◌, length, map, All, IfOk};
 ghost use Rattle.sqz_image.specs.Objects.{object_count};
-ghost use Rattle.sqz_census.specs.Keys.{key_count};
-ghost use Rattle.sqz_census.specs.Rows.{shown};
-ghost use Rattle.sqz_census.specs.Shares.{row_at};
+ghost use Rattle.sqz_census.specs.Groups.{IsInside};
+ghost use Rattle.sqz_census.specs.Rows.{shown, row_at};
 
+use crate::group::{Group, GroupTotal};
 use crate::names::{class_name, compact_name};
 use crate::row::Row;
-use crate::shares::Share;
 use rayon::prelude::*;
 use sqz_image::Heap;
 use sqz_regions::Forward;
@@ -27,59 +26,50 @@ pub(crate) struct RowMaker<'a> {
 }
 
 impl RowMaker<'_> {
-    /// Returns the row of each share. Several threads make the rows.
+    /// Returns the row of each total. Several threads make the rows.
     pub fn rows_of(
         &self,
         rt: &(impl Threads + Sync),
         alloc: Global,
-        shares: &[Share],
+        totals: &[GroupTotal],
     ) -> Result<Vec<Row>, AllocError>
-        requires { All (λ share. share.key < key_count self.now.heap.now) shares.now }
+        requires { All (λ total.
+            IsInside (object_count self.now.heap.now) total.group) totals.now }
         ensures { IfOk result (λ rows. map shown rows.items
-            ≡ map (row_at self.now.heap.now self.now.weak self.now.forward.now) shares.now) }
+            ≡ map (row_at self.now.heap.now self.now.weak self.now.forward.now) totals.now) }
     {
-        shares
+        totals
             .par_iter()
             .map(
-                |share: &Share| -> Result<Row, AllocError>
-                    requires { share.now.key < key_count self.now.heap.now }
+                |total: &GroupTotal| -> Result<Row, AllocError>
+                    requires { IsInside (object_count self.now.heap.now) total.now.group }
                     ensures { IfOk result (λ row. shown row
                         ≡ row_at self.entry.now.heap.now self.entry.now.weak
-                        self.entry.now.forward.now share.now) }
-                { self.row_of(alloc, *share) },
+                        self.entry.now.forward.now total.now) }
+                { self.row_of(alloc, *total) },
             )
             .collect::<Result<Vec<Row>, AllocError>>(rt, alloc)?
     }
 
-    /// Returns the row of a share.
-    fn row_of(&self, alloc: Global, share: Share) -> Result<Row, AllocError>
-        requires { share.key < key_count self.now.heap.now }
+    /// Returns the row of a total.
+    fn row_of(&self, alloc: Global, total: GroupTotal) -> Result<Row, AllocError>
+        requires { IsInside (object_count self.now.heap.now) total.group }
         ensures { IfOk result (λ row.
-            shown row ≡ row_at self.now.heap.now self.now.weak self.now.forward.now share) }
+            shown row ≡ row_at self.now.heap.now self.now.weak self.now.forward.now total) }
     {
-        let objects = self.heap.len();
-        let count = share.count;
-        let bytes = 4 * u64::from(share.words);
-        if share.key < objects {
-            let place = self.forward.place(share.key);
-            let name = class_name(alloc, self.heap, self.weak, share.key)?;
-            Ok(Row {
-                place,
-                compact: 0,
-                name,
-                count,
-                bytes,
-            })
-        } else {
-            let compact = share.key - objects;
-            let name = compact_name(alloc, compact)?;
-            Ok(Row {
-                place: None,
-                compact,
-                name,
-                count,
-                bytes,
-            })
-        }
+        let (place, compact, name) = match total.group {
+            Group::Class(class) => {
+                let name = class_name(alloc, self.heap, self.weak, class)?;
+                (self.forward.place(class), 0, name)
+            }
+            Group::Compact(compact) => (None, compact, compact_name(alloc, compact)?),
+        };
+        Ok(Row {
+            place,
+            compact,
+            name,
+            count: total.count,
+            bytes: total.bytes,
+        })
     }
 }

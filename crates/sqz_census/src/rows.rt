@@ -8,12 +8,9 @@ ghost use Rattle.sqz_regions.specs.Bases.{ArePlacesOf};
 ghost use Rattle.sqz_census.specs.Census.{IsCensus};
 ghost use Rattle.sqz_census.specs.Rows.{shown};
 
-use crate::classes::class_table;
-use crate::entries::entries_of;
 use crate::row::Row;
 use crate::row_maker::RowMaker;
-use crate::shares::shares_of;
-use crate::tallies::tallies_of;
+use crate::totals::histogram;
 use sqz_image::{Fault, Heap};
 use sqz_regions::Forward;
 use sqz_trace::{Marks, Weak};
@@ -40,15 +37,13 @@ pub fn census<'a>(
         → IsCensus heap.now weak marks.now (map shown rows.items)) }
     ensures refused { IfErr result (λ fault. fault ≡ OutOfMemory) }
 {
-    let classes = class_table(alloc, heap, weak)?;
-    let entries = entries_of(rt, alloc, heap, marks, &classes)?;
-    let tallies = tallies_of(alloc, heap, marks, &entries)?;
-    let shares = shares_of(alloc, &tallies)?;
+    let totals = histogram(rt, alloc, heap, weak, marks)?;
+    heap.data(); // every chunk is well-formed, so addresses rise with the indexes of objects
     let maker = RowMaker {
         heap,
         weak,
         forward,
     };
-    let rows = maker.rows_of(rt, alloc, &shares)?;
+    let rows = maker.rows_of(rt, alloc, &totals)?;
     Ok(rows)
 }

@@ -1,14 +1,15 @@
-//! The groups that have live objects, in census order.
+//! The groups that have marked objects, in order.
 
 ghost use Rattle.std.specs.Prelude.{◌≡◌, length, IfOk};
 ghost use Rattle.sqz_census.specs.Tallies.{FitWords};
-ghost use Rattle.sqz_census.specs.Shares.{AreShares, AreSharesInOrder};
+ghost use Rattle.sqz_census.specs.Shares.{AreShares, AreSharesInOrder, total_at};
 
+use crate::group::{Group, GroupTotal};
 use crate::tallies::Tally;
 use std::alloc::{AllocError, Global};
 use std::cmp::Reverse;
 
-/// The live objects of a group: their number, and their total length in words.
+/// The marked objects of the group with a key: their number, and their total length in words.
 #[derive(Clone, Copy)]
 pub(crate) struct Share {
     pub(crate) key: u32,
@@ -16,7 +17,25 @@ pub(crate) struct Share {
     pub(crate) words: u32,
 }
 
-/// Returns the shares of the groups that have live objects: those with more words come first, and
+impl Share {
+    /// Returns the total of the group. `objects` is the number of objects.
+    pub(crate) fn total(&self, objects: u32) -> GroupTotal
+        ensures { result ≡ total_at objects self.now }
+    {
+        let group = if self.key < objects {
+            Group::Class(self.key)
+        } else {
+            Group::Compact(self.key - objects)
+        };
+        GroupTotal {
+            group,
+            count: self.count,
+            bytes: 4 * u64::from(self.words),
+        }
+    }
+}
+
+/// Returns the shares of the groups that have marked objects: those with more words come first, and
 /// on a tie those with lower keys.
 pub(crate) fn shares_of(alloc: Global, tallies: &[Tally]) -> Result<Vec<Share>, AllocError>
     requires { FitWords tallies.now }
@@ -31,7 +50,7 @@ pub(crate) fn shares_of(alloc: Global, tallies: &[Tally]) -> Result<Vec<Share>, 
     Ok(shares)
 }
 
-/// Returns the shares of the groups that have live objects, by key.
+/// Returns the shares of the groups that have marked objects, by key.
 fn shares_by_key(alloc: Global, tallies: &[Tally]) -> Result<Vec<Share>, AllocError>
     requires { FitWords tallies.now }
     ensures { IfOk result (λ shares. AreShares tallies.now (length tallies.now) shares.items) }

@@ -1,4 +1,4 @@
-//! The number of live objects of each group.
+//! The number of marked objects of each group.
 
 ghost use Rattle.std.specs.Prelude.{◌≡◌, length, IfOk};
 ghost use Rattle.sqz_image.specs.Objects.{object_count};
@@ -7,13 +7,13 @@ ghost use Rattle.sqz_census.specs.Keys.{AreEntries};
 ghost use Rattle.sqz_census.specs.Tallies.{AreTallies, FitWords};
 
 use crate::classes::COMPACT_INDEXES;
-use crate::entries::{DEAD, Entry};
+use crate::entries::{Entry, NO_GROUP};
 use sqz_image::Heap;
 use sqz_image::laws::heap_bounds;
 use sqz_trace::Marks;
 use std::alloc::{AllocError, Global};
 
-/// The number of live objects of a group, and their total length in words.
+/// The number of marked objects of a group, and their total length in words.
 #[derive(Clone, Copy)]
 pub(crate) struct Tally {
     pub(crate) count: u32,
@@ -38,7 +38,7 @@ pub(crate) fn tallies_of(
     let none = Tally { count: 0, words: 0 };
     let mut tallies = vec![in alloc; none; (heap.len() + COMPACT_INDEXES) as usize]?;
     for entry in entries {
-        if entry.key != DEAD {
+        if entry.key != NO_GROUP {
             let tally = &mut tallies[entry.key as usize];
             tally.count += 1;
             tally.words += entry.words;

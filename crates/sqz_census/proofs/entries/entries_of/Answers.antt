@@ -6,7 +6,8 @@ use Rattle.rayon.specs.Numbers.{nat_range}
 use Rattle.rayon.proofs.ToStd.{nat_range-All}
 use Rattle.rayon.proofs.ListFacts.{IfOk-then, AllZip-weaken}
 use Rattle.sqz_census.specs.declared.entries.Entry.{Entry}
-use Rattle.sqz_census.specs.Keys.{compact_indexes, AreCompactClasses, IsEntryOf}
+use Rattle.sqz_census.specs.Groups.{compact_indexes}
+use Rattle.sqz_census.specs.Keys.{AreCompactClasses, IsEntryOf}
 use Rattle.sqz_census.proofs.EntryLemmas.{AreEntries-zipped}
 use Rattle.sqz_census.proofs.entries.entries_of.Goals as goal
 

@@ -1,7 +1,7 @@
 use Rattle.std.proofs.Common.{◌+◌, ◌^◌, ◌<◌, get_or, arith}
 use Rattle.sqz_image.specs.Objects.{object_count}
 use Rattle.sqz_census.specs.Keys.{no_entry}
-use Rattle.sqz_census.proofs.TallyLemmas.{entry_key-lt, entry_room, entry_more, dead_more, FitWords-tallies, AreTallies-all}
+use Rattle.sqz_census.proofs.TallyLemmas.{entry_key-lt, entry_room, entry_more, no_group_more, FitWords-tallies, AreTallies-all}
 use Rattle.sqz_census.proofs.tallies.tallies_of.Goals as goal
 use Rattle.sqz_census.proofs.tallies.tallies_of.Goals.{then-entry, else-entry, After-index_mut-tally}
 
@@ -49,7 +49,7 @@ loop-entry-preserved c weak kept =
           w.index_mut-tally.result.now w.index_mut-tally.ensures.value)
       | else-entry w ↦
           rw w.tallies-is
-          (dead_more memory weak marks object inside c.loop-entry.tallies.items so_far _ known w.if-entry.false
+          (no_group_more memory weak marks object inside c.loop-entry.tallies.items so_far _ known w.if-entry.false
           (omega (arith, c.len.ensures.objects, c.len.ensures.few)))
     ]
 
