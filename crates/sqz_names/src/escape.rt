@@ -1,0 +1,23 @@
+//! Bytes as text.
+
+use std::alloc::{AllocError, Global};
+use std::fmt::Write;
+
+/// Returns bytes as ASCII text: printable characters as they are, a backslash doubled, and each
+/// other byte as `\x` and two hexadecimal digits.
+pub fn escaped(alloc: Global, bytes: &[u8]) -> Result<String, AllocError> {
+    let mut text = String::new(alloc);
+    for byte in bytes {
+        push_escaped(&mut text, *byte)?;
+    }
+    Ok(text)
+}
+
+/// Appends a byte as text.
+pub(crate) fn push_escaped(text: &mut String, byte: u8) -> Result<(), AllocError> {
+    match byte {
+        b'\\' => text.push_str("\\\\"),
+        32..=126 => text.push(char::from(byte)),
+        _ => write!(text, "\\x{byte:02x}"),
+    }
+}

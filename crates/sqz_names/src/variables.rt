@@ -1,0 +1,63 @@
+//! Global variables and class variables.
+
+use crate::bytes::has_bytes;
+use crate::fields::field_target;
+use sqz_image::Heap;
+use sqz_object::ObjectIndex;
+use std::alloc::AllocError;
+
+/// The field of the special objects array that points to the dictionary of global variables.
+pub(crate) const GLOBALS: u32 = 8;
+
+/// The field of a class that points to the dictionary of its class variables.
+pub(crate) const CLASS_VARIABLES: u32 = 7;
+
+/// The field of a dictionary that points to the array of its associations.
+const ASSOCIATIONS: u32 = 1;
+
+/// The field of an association that points to its key.
+const KEY: u32 = 0;
+
+/// An association of a global variable, or of a class variable of `class`.
+#[derive(Clone, Copy, Debug, PartialEq, Eq)]
+pub(crate) struct VariableName {
+    pub(crate) association: ObjectIndex,
+    pub(crate) class: Option<ObjectIndex>,
+    pub(crate) key: ObjectIndex,
+}
+
+/// Returns the dictionary of the global variables, or of the class variables of `class`.
+pub(crate) fn dictionary_of(heap: &Heap, class: Option<ObjectIndex>) -> Option<ObjectIndex> {
+    match class {
+        Some(class) => field_target(heap, class, CLASS_VARIABLES),
+        None => field_target(heap, heap.special(), GLOBALS),
+    }
+}
+
+/// Appends the global variables, or the class variables of `class`, in the order of their
+/// dictionary.
+pub(crate) fn push_variables(
+    heap: &Heap,
+    class: Option<ObjectIndex>,
+    found: &mut Vec<VariableName>,
+) -> Result<(), AllocError> {
+    let dictionary = dictionary_of(heap, class);
+    let array = dictionary.and_then(|dictionary| field_target(heap, dictionary, ASSOCIATIONS));
+    let Some(array) = array.filter(|array| *array < heap.len()) else {
+        return Ok(());
+    };
+    for field in 0..heap.fields(array) {
+        let association = field_target(heap, array, field);
+        let key = association.and_then(|association| field_target(heap, association, KEY));
+        if let (Some(association), Some(key)) = (association, key) {
+            if key < heap.len() && has_bytes(&heap.object(key)) {
+                found.push(VariableName {
+                    association,
+                    class,
+                    key,
+                })?;
+            }
+        }
+    }
+    Ok(())
+}
