@@ -15,7 +15,7 @@ pub const BAD_IMAGE: u8 = 1;
 pub const BAD_ARGUMENTS: u8 = 2;
 
 /// A file could not be read or written.
-pub(crate) const DEVICE_FAILED: u8 = 3;
+pub const DEVICE_FAILED: u8 = 3;
 
 /// Out of memory.
 pub(crate) const OUT_OF_MEMORY: u8 = 4;

@@ -10,7 +10,7 @@ mod refusals;
 mod words;
 mod wrong_words;
 
-pub use exits::{BAD_ARGUMENTS, BAD_IMAGE, DONE};
+pub use exits::{BAD_ARGUMENTS, BAD_IMAGE, DEVICE_FAILED, DONE};
 pub use output_file::OutputFile;
 pub use printing::print;
 pub use refusals::{explain, refuse};

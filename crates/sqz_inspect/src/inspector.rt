@@ -1,69 +1,60 @@
-//! What an image is inspected with, and how objects and their classes are named.
+//! What an image is inspected with.
 
-ghost use Rattle.std.specs.Prelude.{◌<◌};
+ghost use Rattle.std.specs.Prelude.{IfErr, length, ◌≡◌};
 ghost use Rattle.sqz_image.specs.Objects.{object_count};
+ghost use Rattle.sqz_image.specs.declared.fault.Fault.TheVariants.{OutOfMemory};
 
-use sqz_census::{class_name, compact_name};
-use sqz_image::{Heap, Object};
-use sqz_object::{ObjectIndex, base_of};
-use sqz_trace::{Weak, class_of};
-use std::alloc::{AllocError, Global};
+use sqz_image::{Fault, Heap, Image};
+use sqz_names::Names;
+use sqz_object::ObjectIndex;
+use sqz_trace::{Marks, Weak, mark_plain};
+use std::alloc::Global;
 
-/// What an image is inspected with: the allocator, its heap, and what becomes of weak slots.
+/// An image with the marks of its live objects and the names of what it holds.
 #[derive(Drop)]
-pub(crate) struct Inspector<'a> {
+pub struct Inspector<'a> {
     pub alloc: Global,
+    pub image: &'a Image,
     pub heap: &'a Heap,
     pub weak: Weak,
+    /// The live objects under this policy on weak slots.
+    pub marks: Marks,
+    pub names: Names<'a>,
+    ghost one_heap: { heap.now ≡ image.now.memory },
+    ghost one_each: { length marks ≡ object_count heap.now },
 }
 
-impl Inspector<'_> {
-    /// The name of an object's class, as a class histogram prints it; `compact K` with its compact
-    /// index if the object has no class.
-    pub(crate) fn name_of_class(&self, object: ObjectIndex) -> Result<Vec<u8>, AllocError>
-        requires { object < object_count self.now.heap.now }
+impl<'a> Inspector<'a> {
+    /// Returns an inspector of an image under a policy on weak slots. Fails only if out of memory.
+    pub fn of(alloc: Global, image: &'a Image, weak: Weak) -> Result<Self, Fault>
+        ensures refused { IfErr result (λ fault. fault ≡ OutOfMemory) }
     {
-        let chunk = self.heap.object(object);
-        match class_of(self.heap, self.weak, &chunk) {
-            Some(class) => class_name(self.alloc, self.heap, self.weak, class),
-            None => self.compact_name_of(&chunk),
+        let heap = image.heap();
+        let marks = mark_plain(alloc, heap, weak)?;
+        let names = Names::of(alloc, heap, weak, &marks)?;
+        Ok(Inspector {
+            alloc,
+            image,
+            heap,
+            weak,
+            marks,
+            names,
+        })
+    }
+
+    /// Returns the length in bytes of an object's chunk.
+    pub fn bytes(&self, object: ObjectIndex) -> u64 {
+        if object >= self.heap.len() {
+            return 0;
         }
+        4 * u64::from(self.heap.chunk_length(object))
     }
 
-    /// The address of an object's class, and its name; `compact K` with its compact index if the
-    /// object has no class.
-    pub(crate) fn class_text(&self, object: ObjectIndex) -> Result<Vec<u8>, AllocError>
-        requires { object < object_count self.now.heap.now }
-    {
-        let chunk = self.heap.object(object);
-        match class_of(self.heap, self.weak, &chunk) {
-            Some(class) => self.named_class(class),
-            None => self.compact_name_of(&chunk),
+    /// Returns the address of an object.
+    pub fn address(&self, object: ObjectIndex) -> u32 {
+        if object >= self.heap.len() {
+            return 0;
         }
-    }
-
-    /// The address of a class, and its name.
-    pub(crate) fn named_class(&self, class: ObjectIndex) -> Result<Vec<u8>, AllocError>
-        requires { class < object_count self.now.heap.now }
-    {
-        let address = self.heap.address(class);
-        let mut text = format!(in self.alloc; "{address:08x} ")?.into_bytes();
-        text.extend_from_slice(&class_name(self.alloc, self.heap, self.weak, class)?)?;
-        Ok(text)
-    }
-
-    /// The address of an object, and the name of its class.
-    pub(crate) fn label_of(&self, object: ObjectIndex) -> Result<Vec<u8>, AllocError>
-        requires { object < object_count self.now.heap.now }
-    {
-        let address = self.heap.address(object);
-        let mut label = format!(in self.alloc; "{address:08x} ")?.into_bytes();
-        label.extend_from_slice(&self.name_of_class(object)?)?;
-        Ok(label)
-    }
-
-    /// What is printed in place of a class: `compact K` with the object's compact index.
-    fn compact_name_of(&self, object: &Object<'_>) -> Result<Vec<u8>, AllocError> {
-        compact_name(self.alloc, base_of(object.header().base).compact)
+        self.heap.address(object)
     }
 }

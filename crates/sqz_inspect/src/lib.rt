@@ -1,17 +1,37 @@
-//! Reports on an image, as text: what its file holds, what an object in it is and what keeps it,
-//! and which live objects a class has.
+//! Answers about an image, printed as text for a person or as lines of JSON: whether it is sound,
+//! what its file holds, its classes and their instances, what an object is, what keeps it, and what
+//! points to it.
 #![tactic(auto)]
 
-mod byte_text;
-mod files;
-mod free_chunks;
+mod census;
+mod check;
+mod faults;
+mod find;
+mod info;
 mod inspector;
-mod members;
-mod objects;
+mod list;
+mod opening;
+mod out;
 mod paths;
-mod report;
+mod refs;
+mod show;
+mod slot_rows;
 mod slots;
+mod texts;
+mod unreadable;
+mod versions;
+mod why;
 
-pub use files::file_text;
-pub use members::members_text;
-pub use objects::object_text;
+pub use census::{print_census, print_dead_census};
+pub use check::{print_check, print_check_missing, print_check_unreadable};
+pub use find::{Found, find_class, find_object};
+pub use info::{print_info, print_info_unreadable};
+pub use inspector::Inspector;
+pub use list::print_list;
+pub use opening::Opening;
+pub use out::{Format, Out};
+pub use refs::print_refs;
+pub use show::print_show;
+pub use texts::{counted, digits, digits_if};
+pub use unreadable::Unreadable;
+pub use why::print_why;

@@ -1,66 +1,68 @@
-//! What keeps an object: a path to it.
-
-ghost use Rattle.std.specs.Prelude.{◌≡◌, ◌<◌, IfErr};
-ghost use Rattle.sqz_image.specs.Objects.{object_count};
-ghost use Rattle.sqz_image.specs.declared.fault.Fault.TheVariants.{OutOfMemory};
-ghost use Rattle.sqz_paths.specs.Paths.{IsShortestPath};
+//! Which steps of a path a person reads.
 
 use crate::inspector::Inspector;
-use crate::report::Report;
-use sqz_image::{Fault, Slot};
+use sqz_image::Slot;
+use sqz_names::{Role, field_target};
 use sqz_object::ObjectIndex;
-use sqz_paths::{Path, path_to};
+use sqz_paths::Step;
 use std::alloc::AllocError;
 
-/// Adds a shortest path to an object from the special objects array, or that there is none.
-pub(crate) fn add_path(
+/// The field of a dictionary that points to the array of its associations.
+const ASSOCIATIONS: u32 = 1;
+
+/// The field of an association that points to its value.
+const VALUE: u32 = 1;
+
+/// Returns for each step of a path whether it only leads to the value of a global or of a class
+/// variable: the step to the association, and the steps to the dictionary and its array before it.
+pub(crate) fn hidden_steps(
     inspector: &Inspector<'_>,
-    report: &mut Report,
-    object: ObjectIndex,
-) -> Result<(), Fault>
-    requires inside { object < object_count inspector.now.heap.now }
-    ensures refused { IfErr result (λ fault. fault ≡ OutOfMemory) }
-{
-    match path_to(inspector.alloc, inspector.heap, inspector.weak, object)? {
-        Some(path) => add_steps(inspector, report, object, &path)?,
-        None => report.add("path", "none: it is not reachable")?,
+    steps: &[Step],
+) -> Result<Vec<bool>, AllocError> {
+    let mut hidden = vec![in inspector.alloc; false; steps.len()]?;
+    for (index, step) in steps.iter().enumerate() {
+        let Some(next) = index.checked_add(1).and_then(|next| steps.get(next)) else {
+            continue;
+        };
+        if next.slot == Slot::Field(VALUE) {
+            let role = inspector.names.role(step.object)?;
+            hide_variable(inspector, steps, index, role, &mut hidden);
+        }
     }
-    Ok(())
+    Ok(hidden)
 }
 
-/// Adds how many steps a path to an object has, and a line for each object on it, with the slot
-/// that points to the next one.
-fn add_steps(
+/// Hides the step to an association at an index, if it is that of a variable, and the steps to the
+/// array and the dictionary that hold it.
+fn hide_variable(
     inspector: &Inspector<'_>,
-    report: &mut Report,
-    object: ObjectIndex,
-    path: &Path,
-) -> Result<(), AllocError>
-    requires inside { object < object_count inspector.now.heap.now }
-    requires path { IsShortestPath inspector.now.heap.now inspector.now.weak object
-        path.now.steps.items }
-{
-    let count = path.steps.len();
-    let noun = if count == 1 { "step" } else { "steps" };
-    report.add("path", format_args!("{count} {noun}"))?;
-    let mut at = inspector.heap.special();
-    for step in &path.steps {
-        report.add_text("", &line_of(inspector, at, step.slot)?)?;
-        at = step.object;
+    steps: &[Step],
+    index: usize,
+    role: Role,
+    hidden: &mut [bool],
+) {
+    let Some(dictionary) = inspector.names.dictionary_of(role) else {
+        return;
+    };
+    hide(hidden, index);
+    let array = field_target(inspector.heap, dictionary, ASSOCIATIONS);
+    let places = (index.checked_sub(1), index.checked_sub(2));
+    if let (Some(at_array), Some(at_dictionary)) = places {
+        if leads_to(steps, at_array, array) && leads_to(steps, at_dictionary, Some(dictionary)) {
+            hide(hidden, at_array);
+            hide(hidden, at_dictionary);
+        }
     }
-    report.add_text("", &inspector.label_of(object)?)
 }
 
-/// The line of an object on a path, which goes on from a slot of it.
-fn line_of(
-    inspector: &Inspector<'_>,
-    object: ObjectIndex,
-    slot: Slot,
-) -> Result<Vec<u8>, AllocError>
-    requires { object < object_count inspector.now.heap.now }
-{
-    let mut line = inspector.label_of(object)?;
-    let slot = format!(in inspector.alloc; ", {slot}")?;
-    line.extend_from_slice(slot.as_bytes())?;
-    Ok(line)
+/// Returns whether the step at an index leads to an object.
+fn leads_to(steps: &[Step], index: usize, object: Option<ObjectIndex>) -> bool {
+    steps.get(index).map(|step| step.object) == object
+}
+
+/// Hides the step at an index.
+fn hide(hidden: &mut [bool], index: usize) {
+    if let Some(is_hidden) = hidden.get_mut(index) {
+        *is_hidden = true;
+    }
 }

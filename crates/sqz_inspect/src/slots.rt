@@ -1,104 +1,106 @@
-//! The slots of an object, and what they hold.
+//! What the slots of an object are called.
 
 ghost use Rattle.std.specs.Prelude.{◌<◌};
 ghost use Rattle.sqz_image.specs.Objects.{object_count};
 
-use crate::byte_text::has_bytes;
 use crate::inspector::Inspector;
-use crate::report::Report;
-use sqz_image::Object;
-use sqz_object::{ObjectIndex, Value, value_of};
-use sqz_trace::{class_address, named_by, strong_fields, traced_fields};
-use std::alloc::{AllocError, Global};
+use serde::Serialize;
+use sqz_facts::object_facts;
+use sqz_image::Slot;
+use sqz_names::fixed_fields;
+use sqz_object::{Layout, ObjectIndex};
+use std::alloc::AllocError;
 
-/// How many fields that are not traced are printed at most.
-const MOST_UNTRACED: usize = 16;
+/// The format of objects that have indexed fields alone.
+const INDEXED: u32 = 2;
 
-/// Adds a line for the class word of an object, if it has one, and for each of its fields, unless
-/// they are bytes.
-pub(crate) fn add_slots(
-    inspector: &Inspector<'_>,
-    report: &mut Report,
-    object: &Object<'_>,
-) -> Result<(), AllocError> {
-    if let Some(word) = class_address(object) {
-        report.add_text("class word", &held_text(inspector, "", word)?)?;
-    }
-    if has_bytes(object) {
-        return Ok(());
-    }
-    add_fields(inspector, report, object)
+/// The formats of objects that have fixed fields and then indexed ones: strong and weak.
+const FIXED_AND_INDEXED: u32 = 3;
+
+const FIXED_AND_WEAK: u32 = 4;
+
+/// A slot as JSON: `"class"`, or the number of a field.
+#[derive(Clone, Copy, Drop, Serialize)]
+#[serde(untagged)]
+pub(crate) enum SlotName {
+    Class(&'static str),
+    Field(u32),
 }
 
-/// Adds a line for each traced field of an object, and for the first of those that are not traced.
-fn add_fields(
-    inspector: &Inspector<'_>,
-    report: &mut Report,
-    object: &Object<'_>,
-) -> Result<(), AllocError> {
-    let alloc = inspector.alloc;
-    let strong = strong_fields(inspector.heap, inspector.weak, object) as usize;
-    let traced = traced_fields(object) as usize;
-    let shown = traced.saturating_add(MOST_UNTRACED);
-    for (index, word) in object.fields().iter().enumerate().take(shown) {
-        let text = if index < traced {
-            let strength = if index < strong { "" } else { "weak " };
-            held_text(inspector, strength, word)?
-        } else {
-            untraced_text(alloc, word)?
+/// Returns a slot as JSON.
+pub(crate) fn slot_name(slot: Slot) -> SlotName {
+    match slot {
+        Slot::ClassWord => SlotName::Class("class"),
+        Slot::Field(index) => SlotName::Field(index),
+    }
+}
+
+/// The names of the slots of an object.
+#[derive(Drop)]
+pub(crate) struct SlotNames {
+    /// The names of the instance variables, as byte objects.
+    variables: Vec<ObjectIndex>,
+    /// The first indexed field, if the object has such fields.
+    first_indexed: Option<u32>,
+}
+
+impl SlotNames {
+    /// Returns the names of the slots of an object.
+    pub(crate) fn of(inspector: &Inspector<'_>, object: ObjectIndex) -> Result<Self, AllocError>
+        requires { object < object_count inspector.now.heap.now }
+    {
+        let heap = inspector.heap;
+        let layout = heap.object(object).layout();
+        let facts = object_facts(heap, inspector.weak, object);
+        let has_variables = !matches!(layout, Layout::Bytes { .. } | Layout::Method);
+        let variables = match facts.class {
+            Some(class) if has_variables => inspector.names.instance_variables(class)?,
+            _ => Vec::new(inspector.alloc),
         };
-        add_field(alloc, report, index, &text)?;
+        let first_indexed = match facts.format {
+            INDEXED => Some(0),
+            FIXED_AND_INDEXED | FIXED_AND_WEAK => {
+                facts.class.and_then(|class| fixed_fields(heap, class))
+            }
+            _ => None,
+        };
+        Ok(SlotNames {
+            variables,
+            first_indexed,
+        })
     }
-    add_rest(report, object.fields().len().saturating_sub(shown))
-}
 
-/// Adds how many untraced fields are not shown, if there are any.
-fn add_rest(report: &mut Report, rest: usize) -> Result<(), AllocError> {
-    if rest == 0 {
-        return Ok(());
+    /// Returns the name of the instance variable that a slot is.
+    pub(crate) fn name(
+        &self,
+        inspector: &Inspector<'_>,
+        slot: Slot,
+    ) -> Result<Option<String>, AllocError> {
+        let Slot::Field(index) = slot else {
+            return Ok(None);
+        };
+        match self.variables.get(index as usize) {
+            Some(variable) => Ok(Some(inspector.names.text(*variable)?)),
+            None => Ok(None),
+        }
     }
-    report.add("untraced", format_args!("{rest} fields more"))
-}
 
-/// What a field holds that is not traced.
-fn untraced_text(alloc: Global, word: u32) -> Result<Vec<u8>, AllocError> {
-    Ok(format!(in alloc; "untraced {word:08x}")?.into_bytes())
-}
-
-/// Adds the line of a field.
-fn add_field(
-    alloc: Global,
-    report: &mut Report,
-    index: usize,
-    text: &[u8],
-) -> Result<(), AllocError> {
-    let name = format!(in alloc; "field {index}")?;
-    report.add_text(name.as_str(), text)
-}
-
-/// What a slot holds, after its strength: an integer, an object with its class, or a bad word.
-fn held_text(inspector: &Inspector<'_>, strength: &str, word: u32) -> Result<Vec<u8>, AllocError> {
-    let alloc = inspector.alloc;
-    if let Value::Int(number) = value_of(word) {
-        return Ok(format!(in alloc; "{strength}{number}")?.into_bytes());
+    /// Returns a slot as text: `.NAME`, `[K]` with the index of an indexed field counted from 1,
+    /// `class`, or `field K`.
+    pub(crate) fn text(&self, inspector: &Inspector<'_>, slot: Slot) -> Result<String, AllocError> {
+        let alloc = inspector.alloc;
+        if let Some(name) = self.name(inspector, slot)? {
+            return format!(in alloc; ".{name}");
+        }
+        let Slot::Field(index) = slot else {
+            return String::from_str(alloc, "class");
+        };
+        match self
+            .first_indexed
+            .and_then(|first| index.checked_sub(first))
+        {
+            Some(place) => format!(in alloc; "[{}]", u64::from(place) + 1),
+            None => format!(in alloc; "field {index}"),
+        }
     }
-    match named_by(inspector.heap, word) {
-        Some(object) => pointer_text(inspector, strength, object),
-        None => Ok(format!(in alloc; "{strength}bad word {word:08x}")?.into_bytes()),
-    }
-}
-
-/// The address of an object and the name of its class, after the strength of a slot that points to
-/// it.
-fn pointer_text(
-    inspector: &Inspector<'_>,
-    strength: &str,
-    object: ObjectIndex,
-) -> Result<Vec<u8>, AllocError>
-    requires { object < object_count inspector.now.heap.now }
-{
-    let mut text = Vec::new(inspector.alloc);
-    text.extend_from_slice(strength.as_bytes())?;
-    text.extend_from_slice(&inspector.label_of(object)?)?;
-    Ok(text)
 }

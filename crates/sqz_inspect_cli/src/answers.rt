@@ -1,88 +1,102 @@
 //! Answers to questions.
 
-ghost use Rattle.std.specs.Prelude.{◌<◌, IfOk};
-ghost use Rattle.sqz_image.specs.Objects.{object_count};
+ghost use Rattle.std.specs.Prelude.{◌≤◌, IfOk};
 
-use crate::addresses::address_in;
 use crate::arguments::{Arguments, Question};
-use crate::refusal::Refusal;
-use sqz_image::{Fault, Heap, Image, ReadSource, image_of_file, read_all};
-use sqz_inspect::{file_text, members_text, object_text};
-use sqz_trace::{Weak, named_by};
+use crate::checks::check_all;
+use crate::failure::Failure;
+use crate::loading::{Loaded, load};
+use sqz_cli::{BAD_IMAGE, DONE};
+use sqz_image::Sink;
+use sqz_inspect::{
+    Found, Inspector, Out, find_class, find_object, print_census, print_dead_census, print_info,
+    print_info_unreadable, print_list, print_refs, print_show, print_why,
+};
 use std::alloc::Global;
-use std::fs::File;
 use std::rt::Files;
 use std::thread::Threads;
 
-/// The whole answer to what a command line asks.
-pub(crate) fn answer_to<T: Files + Threads + Sync>(
+/// Prints the answer to what a command line asks, and returns the exit.
+pub(crate) fn answer<T: Files + Threads + Sync, C: Sink>(
     rt: &T,
     alloc: Global,
     arguments: &Arguments<'_>,
-) -> Result<Vec<u8>, Refusal> {
-    let path = arguments.input;
-    let weak = arguments.weak;
-    match arguments.question {
-        Question::File => Ok(about_file(rt, alloc, path, weak)?),
-        Question::Object(word) => about_object(rt, alloc, path, weak, address_of(word)?),
-        Question::Class(word) => about_class(rt, alloc, path, weak, address_of(word)?),
+    out: &mut Out<'_, C>,
+) -> Result<u8, Failure>
+    ensures exit { IfOk result (λ exit. exit ≤ 3) }
+{
+    let exit = if arguments.question == Question::Check {
+        check_all(rt, alloc, arguments, out)?
+    } else {
+        answer_about_one(rt, alloc, arguments, out)?
+    };
+    out.flush()?;
+    Ok(exit)
+}
+
+/// Prints the answer to a question about one image, and returns the exit.
+fn answer_about_one<T: Files + Threads + Sync, C: Sink>(
+    rt: &T,
+    alloc: Global,
+    arguments: &Arguments<'_>,
+    out: &mut Out<'_, C>,
+) -> Result<u8, Failure>
+    ensures exit { IfOk result (λ exit. exit ≤ 3) }
+{
+    let path = arguments.image();
+    match load(rt, alloc, path)? {
+        Loaded::Image(image) => {
+            let inspector = Inspector::of(alloc, &image, arguments.weak)?;
+            answer_about_image(rt, &inspector, arguments, out)?;
+            Ok(DONE)
+        }
+        Loaded::Unreadable(unreadable) if arguments.question == Question::Info => {
+            print_info_unreadable(alloc, &unreadable, path, out)?;
+            Ok(BAD_IMAGE)
+        }
+        Loaded::Unreadable(unreadable) => Err(Failure::NotThere(unreadable.message(alloc)?)),
     }
 }
 
-/// The address that a word spells.
-fn address_of(word: &str) -> Result<u32, Refusal> {
-    address_in(word).ok_or(Refusal::NoAddress)
-}
-
-/// What a file holds.
-fn about_file<T: Files + Threads + Sync>(
+/// Prints the answer to a question about an image.
+fn answer_about_image<T: Threads + Sync, C: Sink>(
     rt: &T,
-    alloc: Global,
-    path: &str,
-    weak: Weak,
-) -> Result<Vec<u8>, Fault> {
-    let image = image_in(rt, alloc, path)?;
-    file_text(rt, alloc, &image, weak)
+    inspector: &Inspector<'_>,
+    arguments: &Arguments<'_>,
+    out: &mut Out<'_, C>,
+) -> Result<(), Failure> {
+    match arguments.question {
+        Question::Check | Question::Info => {
+            print_info(rt, inspector, arguments.image(), out)?;
+        }
+        Question::Census if arguments.dead => print_dead_census(rt, inspector, out)?,
+        Question::Census => print_census(rt, inspector, out)?,
+        Question::List => match find_class(inspector, arguments.subject.as_str())? {
+            Found::One(group) => print_list(inspector, group, out)?,
+            Found::Nothing(message) => return Err(Failure::NotThere(message)),
+        },
+        Question::Show | Question::Why | Question::Refs => {
+            answer_about_object(inspector, arguments, out)?;
+        }
+    }
+    Ok(())
 }
 
-/// What the object with an address is, and what keeps it.
-fn about_object<T: Files>(
-    rt: &T,
-    alloc: Global,
-    path: &str,
-    weak: Weak,
-    address: u32,
-) -> Result<Vec<u8>, Refusal> {
-    let image = image_in(rt, alloc, path)?;
-    let object = object_at(image.heap(), address)?;
-    Ok(object_text(alloc, image.heap(), weak, object)?)
-}
-
-/// The live objects of the class with an address.
-fn about_class<T: Files>(
-    rt: &T,
-    alloc: Global,
-    path: &str,
-    weak: Weak,
-    address: u32,
-) -> Result<Vec<u8>, Refusal> {
-    let image = image_in(rt, alloc, path)?;
-    let class = object_at(image.heap(), address)?;
-    Ok(members_text(alloc, image.heap(), weak, class)?)
-}
-
-/// The image in a file.
-fn image_in<T: Files>(rt: &T, alloc: Global, path: &str) -> Result<Image, Fault> {
-    let Ok(file) = File::open(rt, path) else {
-        return Err(Fault::ReadFailed);
-    };
-    let bytes = read_all(alloc, &mut ReadSource::new(file))?;
-    image_of_file(alloc, bytes)
-}
-
-/// The object with an address.
-fn object_at(heap: &Heap, address: u32) -> Result<u32, Refusal>
-    ensures { IfOk result (λ object. object < object_count heap.now) }
-{
-    named_by(heap, address).ok_or(Refusal::NoObject(address))
+/// Prints the answer to a question about an object.
+fn answer_about_object<C: Sink>(
+    inspector: &Inspector<'_>,
+    arguments: &Arguments<'_>,
+    out: &mut Out<'_, C>,
+) -> Result<(), Failure> {
+    match find_object(inspector, arguments.subject.as_str())? {
+        Found::One(object) => {
+            match arguments.question {
+                Question::Why => print_why(inspector, object, arguments.raw, out)?,
+                Question::Refs => print_refs(inspector, object, out)?,
+                _ => print_show(inspector, object, out)?,
+            }
+            Ok(())
+        }
+        Found::Nothing(message) => Err(Failure::NotThere(message)),
+    }
 }

@@ -1,94 +1,107 @@
-//! The command line.
+//! What a command line asks for.
 
-use clap::{Arg, ArgAction, Command, Error, value_parser};
+use clap::ArgMatches;
+use sqz_inspect::Format;
 use sqz_trace::Weak;
 use std::alloc::{AllocError, Global};
 
-/// What is asked about an image. An address is the word of the command line that spells it.
-#[derive(Clone, Copy)]
-pub(crate) enum Question<'a> {
-    /// What the file holds.
-    File,
-    /// What the object with an address is, and what keeps it.
-    Object(&'a str),
-    /// Which live objects the class with an address has.
-    Class(&'a str),
+/// A question about images.
+#[derive(Clone, Copy, Debug, PartialEq, Eq)]
+pub(crate) enum Question {
+    Check,
+    Info,
+    Census,
+    List,
+    Show,
+    Why,
+    Refs,
 }
 
-/// What the words of a command line ask for.
-#[derive(Clone, Copy)]
+/// What a command line asks for.
+#[derive(Drop)]
 pub(crate) struct Arguments<'a> {
-    /// The path of the image.
-    pub(crate) input: &'a str,
-    /// What becomes of weak slots.
+    pub(crate) question: Question,
+    /// The paths of the images: one, or several to be checked.
+    pub(crate) images: Vec<&'a str>,
+    /// The words of the object or class that the question is about, joined by spaces.
+    pub(crate) subject: String,
     pub(crate) weak: Weak,
-    pub(crate) question: Question<'a>,
+    pub(crate) format: Format,
+    pub(crate) all: bool,
+    pub(crate) dead: bool,
+    pub(crate) raw: bool,
 }
 
-/// Reads the words of a command line, the program's name first.
-///
-/// Fails with the text to print: the help if it was asked for, or what is wrong with the words.
-pub(crate) fn read_arguments<'a>(
+impl<'a> Arguments<'a> {
+    /// Returns what the matches of a subcommand ask for. Fails only if out of memory.
+    pub(crate) fn of(
+        alloc: Global,
+        name: &str,
+        matches: &ArgMatches<'a>,
+    ) -> Result<Self, AllocError> {
+        let question = question_of(name);
+        let subject = match question {
+            Question::List => "CLASS",
+            _ => "OBJECT",
+        };
+        let all = matches.get_flag("all");
+        let format = if matches.get_flag("json") {
+            Format::Json
+        } else {
+            Format::Text { all }
+        };
+        Ok(Arguments {
+            question,
+            images: values_of(alloc, matches, "IMAGE")?,
+            subject: joined(alloc, &values_of(alloc, matches, subject)?)?,
+            weak: Weak::clear_if(matches.get_flag("clear-weak")),
+            format,
+            all,
+            dead: matches.get_flag("dead"),
+            raw: matches.get_flag("raw"),
+        })
+    }
+
+    /// Returns the path of the only image.
+    pub(crate) fn image(&self) -> &'a str {
+        // words without a path were rejected before
+        self.images.first().map_or("", |path| *path)
+    }
+}
+
+/// Returns the question that a subcommand asks.
+fn question_of(name: &str) -> Question {
+    match name {
+        "check" => Question::Check,
+        "info" => Question::Info,
+        "census" => Question::Census,
+        "list" => Question::List,
+        "show" => Question::Show,
+        "why" => Question::Why,
+        _ => Question::Refs,
+    }
+}
+
+/// Returns the values of an argument.
+fn values_of<'a>(
     alloc: Global,
-    words: &'a [String],
-) -> Result<Arguments<'a>, Error> {
-    let matches = command(alloc)?.try_get_matches_from(words)?;
-    let question = match (matches.get_str("class"), matches.get_str("ADDRESS")) {
-        (Some(class), _) => Question::Class(class),
-        (None, Some(object)) => Question::Object(object),
-        (None, None) => Question::File,
-    };
-    let weak = Weak::clear_if(matches.get_flag("clear-weak"));
-    // words without the path of the image were rejected above
-    let input = matches.get_str("IN").unwrap_or("");
-    Ok(Arguments {
-        input,
-        weak,
-        question,
-    })
+    matches: &ArgMatches<'a>,
+    id: &str,
+) -> Result<Vec<&'a str>, AllocError> {
+    match matches.get_strs(id) {
+        Some(values) => Vec::from_slice(alloc, values),
+        None => Ok(Vec::new(alloc)),
+    }
 }
 
-/// What the program takes.
-fn command<'a>(alloc: Global) -> Result<Command<'a>, AllocError> {
-    Command::new(alloc, "sqzlook")
-        .version("1.0.0")
-        .about("Says what an image holds, and why an object is in it")
-        .arg(input(alloc))?
-        .arg(object(alloc))?
-        .arg(class(alloc)?)?
-        .arg(clear_weak(alloc))
-}
-
-/// The path of the image, which is required.
-fn input<'a>(alloc: Global) -> Arg<'a> {
-    Arg::new(alloc, "IN")
-        .help("The image to look into")
-        .required(true)
-        .action(ArgAction::Set)
-}
-
-/// The address of an object.
-fn object<'a>(alloc: Global) -> Arg<'a> {
-    Arg::new(alloc, "ADDRESS")
-        .help("The address of an object in it: what that is, and what keeps it")
-        .action(ArgAction::Set)
-}
-
-/// The option for a class, which excludes the address of an object.
-fn class<'a>(alloc: Global) -> Result<Arg<'a>, AllocError> {
-    Arg::new(alloc, "class")
-        .long("class")
-        .value_name("ADDRESS")
-        .help("List the live objects of the class with this address")
-        .action(ArgAction::Set)
-        .conflicts_with("ADDRESS")
-}
-
-/// The option to clear weak slots.
-fn clear_weak<'a>(alloc: Global) -> Arg<'a> {
-    Arg::new(alloc, "clear-weak")
-        .long("clear-weak")
-        .help("Treat weak references to objects that nothing else keeps as cleared")
-        .action(ArgAction::SetTrue)
-        .value_parser(value_parser!(bool))
+/// Returns words joined by spaces.
+fn joined(alloc: Global, words: &[&str]) -> Result<String, AllocError> {
+    let mut text = String::new(alloc);
+    for (index, word) in words.iter().enumerate() {
+        if index > 0 {
+            text.push(' ')?;
+        }
+        text.push_str(word)?;
+    }
+    Ok(text)
 }

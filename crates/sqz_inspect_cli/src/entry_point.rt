@@ -1,28 +1,27 @@
 //! The program.
 
-ghost use Rattle.std.specs.Prelude.{◌≡◌, ◌≢◌, ◌⊎◌, ◌<◌, ◌≤◌};
-ghost use Rattle.sqz_image.specs.Devices.{WritesWhole};
+ghost use Rattle.std.specs.Prelude.{◌≡◌, ◌<◌, ◌≤◌};
 
-use crate::answers::answer_to;
-use crate::arguments::read_arguments;
-use crate::refusal::Refusal;
+use crate::answers::answer;
+use crate::arguments::Arguments;
+use crate::commands::command;
+use crate::failure::Failure;
+use clap::error::ErrorKind;
+use clap::{ArgMatches, Error};
 use sqz_cli::{BAD_ARGUMENTS, BAD_IMAGE, DONE, explain, print, refuse};
-use sqz_image::{Sink, write_all};
+use sqz_image::{Fault, Sink};
+use sqz_inspect::Out;
 use std::alloc::Global;
-use std::fmt::InlineText;
 use std::rt::Files;
 use std::thread::Threads;
 
-/// The length in bytes of the line for an address that no object has.
-const NO_OBJECT: usize = 22;
-
-/// Answers the question that a command line asks about an image, and returns the exit: 0 if the
-/// answer was printed, 1 if the image is at fault or has no object at the address, 2 if the words
-/// are wrong, 3 if a file could not be read or the answer not printed, and 4 if out of memory. The
-/// first word is the program's name; `out` and `err` stand for standard output and standard error.
+/// Answers the question that a command line asks about images, and returns the exit: 0 if the
+/// answer was printed, and the images are sound if that is the question; 1 if an image is not
+/// sound or not readable, or does not hold what is asked about; 2 if the words are wrong; 3 if a
+/// file could not be read or the answer not printed; and 4 if out of memory. The first word is the
+/// program's name; `out` and `err` stand for standard output and standard error.
 ///
-/// Nothing is printed on `out` before the whole answer is known. A fault is printed as one line on
-/// `err`.
+/// A failure is one line on `err`, with the name of the program and of the file.
 pub fn look<T: Files + Threads + Sync, C: Sink, E: Sink>(
     rt: &T,
     alloc: Global,
@@ -32,45 +31,95 @@ pub fn look<T: Files + Threads + Sync, C: Sink, E: Sink>(
 ) -> u8
     ensures exits { result ≤ 4 }
     ensures silent { result ≡ 0 → err.new ≡ err.old }
-    ensures quiet { 0 < result → result ≢ 3 → C.state out.new ≡ C.state out.old }
 {
-    let arguments = match read_arguments(alloc, words) {
-        Ok(arguments) => arguments,
-        Err(error) => return explain(&error, out, err),
-    };
-    match answer_to(rt, alloc, &arguments) {
-        Ok(answer) => print_answer(&answer, out, err),
-        Err(refusal) => explain_refusal(refusal, err),
+    match matches_of(alloc, words) {
+        Ok(matches) => answer_matches(rt, alloc, &matches, out, err),
+        Err(error) => explain_words(&error, out, err),
     }
 }
 
-/// Prints an answer, and returns the exit.
-fn print_answer<C: Sink, E: Sink>(answer: &[u8], out: &mut C, err: &mut E) -> u8
-    ensures exit { (result ≡ 0) ⊎ (result ≡ 3) }
-    ensures whole { result ≡ 0 → WritesWhole (C.state out.old) (C.state out.new) answer.now }
+/// Parses the words of a command line.
+fn matches_of<'a>(alloc: Global, words: &'a [String]) -> Result<ArgMatches<'a>, Error> {
+    command(alloc)?.try_get_matches_from(words)
+}
+
+/// Prints the help, or what is wrong with the words, and returns the exit.
+fn explain_words<C: Sink, E: Sink>(error: &Error, out: &mut C, err: &mut E) -> u8
+    ensures exits { result ≤ 4 }
     ensures silent { result ≡ 0 → err.new ≡ err.old }
 {
-    match write_all(out, answer) {
-        Ok(()) => DONE,
-        Err(fault) => refuse(&fault, err),
+    if error.kind() == ErrorKind::OutOfMemory {
+        return fail(&Fault::OutOfMemory, err);
+    }
+    let exit = explain(error, out, err);
+    if exit == DONE && out.failed() {
+        return fail(&Fault::WriteFailed, err);
+    }
+    exit
+}
+
+/// Answers the question of a command line that was parsed, and returns the exit.
+fn answer_matches<T: Files + Threads + Sync, C: Sink, E: Sink>(
+    rt: &T,
+    alloc: Global,
+    matches: &ArgMatches<'_>,
+    out: &mut C,
+    err: &mut E,
+) -> u8
+    ensures exits { result ≤ 4 }
+    ensures silent { result ≡ 0 → err.new ≡ err.old }
+{
+    let Some((name, matches)) = matches.subcommand() else {
+        return BAD_ARGUMENTS;
+    };
+    let arguments = match Arguments::of(alloc, name, matches) {
+        Ok(arguments) => arguments,
+        Err(error) => return fail(&Fault::from(error), err),
+    };
+    let answered = answer(
+        rt,
+        alloc,
+        &arguments,
+        &mut Out::new(alloc, out, arguments.format),
+    );
+    match answered {
+        Ok(exit) => exit,
+        Err(failure) => explain_failure(&failure, arguments.image(), err),
     }
 }
 
 /// Prints why there is no answer, and returns the exit.
-fn explain_refusal<E: Sink>(refusal: Refusal, err: &mut E) -> u8
+fn explain_failure<E: Sink>(failure: &Failure, path: &str, err: &mut E) -> u8
     ensures exits { result ≤ 4 }
-    ensures refused { 0 < result }
+    ensures failed { 0 < result }
 {
-    match refusal {
-        Refusal::Faulty(fault) => refuse(&fault, err),
-        Refusal::NoAddress => {
-            print(err, b"error: an address has eight hexadecimal digits\n");
-            BAD_ARGUMENTS
+    match failure {
+        Failure::Faulty(Fault::WriteFailed) => fail(&Fault::WriteFailed, err),
+        Failure::Faulty(fault) => {
+            print_names(path, err);
+            refuse(fault, err)
         }
-        Refusal::NoObject(address) => {
-            let line = InlineText::<NO_OBJECT>::of(format_args!("no object at {address:08x}\n"));
-            print(err, line.as_str().as_bytes());
+        Failure::NotThere(message) => {
+            print_names(path, err);
+            print(err, message.as_bytes());
+            print(err, b"\n");
             BAD_IMAGE
         }
     }
+}
+
+/// Prints the line of a fault that is not one of a file, and returns the exit.
+fn fail<E: Sink>(fault: &Fault, err: &mut E) -> u8
+    ensures exits { result ≤ 4 }
+    ensures failed { 0 < result }
+{
+    print(err, b"sqzlook: ");
+    refuse(fault, err)
+}
+
+/// Prints the names of the program and of the file, with which a line begins.
+fn print_names<E: Sink>(path: &str, err: &mut E) {
+    print(err, b"sqzlook: ");
+    print(err, path.as_bytes());
+    print(err, b": ");
 }

@@ -1,10 +1,14 @@
-//! Questions about an image, as a command line asks them, and their answers.
+//! Questions about images, as a command line asks them, and their answers.
 #![tactic(auto)]
 
-mod addresses;
 mod answers;
 mod arguments;
+mod checks;
+mod commands;
 mod entry_point;
-mod refusal;
+mod failure;
+mod loading;
+mod quiet_pipe;
 
 pub use entry_point::look;
+pub use quiet_pipe::QuietPipe;

@@ -1,13 +1,13 @@
-//! The program `sqzlook`: says what an image holds, and why an object is in it.
+//! The program `sqzlook`: says what is in a Squeak image, and what keeps it alive.
 #![tactic(auto)]
 
 use sqz_cli::words_or_exit;
 use sqz_image::WriteSink;
-use sqz_inspect_cli::look;
+use sqz_inspect_cli::{QuietPipe, look};
 use std::process::ExitCode;
 
 fn main(rt: HostRuntime) -> ExitCode {
-    let mut out = WriteSink::new(rt.stdout());
+    let mut out = WriteSink::new(QuietPipe::new(rt.stdout()));
     let mut err = WriteSink::new(rt.stderr());
     let exit = match words_or_exit(&rt, &mut err) {
         Ok(words) => look(&rt, rt.alloc(), &words, &mut out, &mut err),

@@ -1,0 +1,20 @@
+# Completes the words of sqzlook in bash.
+_sqzlook() {
+  local word=${COMP_WORDS[COMP_CWORD]} options='--clear-weak --json --help'
+  if ((COMP_CWORD == 1)); then
+    mapfile -t COMPREPLY < <(compgen -W 'check info census list show why refs --help --version' -- "$word")
+    return
+  fi
+  case ${COMP_WORDS[1]} in
+    check | list | show | refs) options+=' --all' ;;
+    census) options+=' --all --dead' ;;
+    why) options+=' --all --raw' ;;
+  esac
+  if [[ $word == -* ]]; then
+    mapfile -t COMPREPLY < <(compgen -W "$options" -- "$word")
+  else
+    compopt -o filenames
+    mapfile -t COMPREPLY < <(compgen -f -- "$word")
+  fi
+}
+complete -F _sqzlook sqzlook

@@ -1,0 +1,131 @@
+//! A class histogram.
+
+ghost use Rattle.std.specs.Prelude.{IfErr};
+ghost use Rattle.sqz_inspect.specs.Failures.{IsPrintFault};
+
+use crate::inspector::Inspector;
+use crate::out::Out;
+use crate::texts::digits_if;
+use serde::Serialize;
+use sqz_census::{Group, GroupTotal, compact_name, histogram};
+use sqz_facts::complement;
+use sqz_image::{Fault, Sink};
+use sqz_trace::Marks;
+use std::alloc::AllocError;
+use std::thread::Threads;
+
+/// A row of a class histogram as JSON. The totals have no class.
+#[derive(Drop, Serialize)]
+struct GroupRow {
+    class: Option<String>,
+    address: Option<String>,
+    objects: u64,
+    bytes: u64,
+}
+
+/// Prints a class histogram of the live objects, with the addresses of the classes. Fails only
+/// with `WriteFailed` or `OutOfMemory`.
+pub fn print_census<C: Sink>(
+    rt: &(impl Threads + Sync),
+    inspector: &Inspector<'_>,
+    out: &mut Out<'_, C>,
+) -> Result<(), Fault>
+    ensures refused { IfErr result IsPrintFault }
+{
+    let totals = histogram(
+        rt,
+        inspector.alloc,
+        inspector.heap,
+        inspector.weak,
+        &inspector.marks,
+    )?;
+    print_totals(inspector, &totals, out)
+}
+
+/// Prints a class histogram of the objects that are not live, as `print_census` does.
+pub fn print_dead_census<C: Sink>(
+    rt: &(impl Threads + Sync),
+    inspector: &Inspector<'_>,
+    out: &mut Out<'_, C>,
+) -> Result<(), Fault>
+    ensures refused { IfErr result IsPrintFault }
+{
+    let heap = inspector.heap;
+    let dead = complement(inspector.alloc, heap, &inspector.marks)?;
+    let totals = histogram(rt, inspector.alloc, heap, inspector.weak, &dead)?;
+    print_totals(inspector, &totals, out)
+}
+
+/// Prints the rows of a class histogram, and their sums.
+fn print_totals<C: Sink>(
+    inspector: &Inspector<'_>,
+    totals: &[GroupTotal],
+    out: &mut Out<'_, C>,
+) -> Result<(), Fault>
+    ensures { IfErr result IsPrintFault }
+{
+    for total in totals.iter().take(out.shown(totals.len())) {
+        let row = group_row(inspector, *total)?;
+        print_row(inspector, &row, out)?;
+    }
+    out.rest(totals.len(), "row")?;
+    let mut sums = GroupRow {
+        class: None,
+        address: None,
+        objects: 0,
+        bytes: 0,
+    };
+    for total in totals {
+        sums.objects = sums.objects.saturating_add(u64::from(total.count));
+        sums.bytes = sums.bytes.saturating_add(total.bytes);
+    }
+    print_row(inspector, &sums, out)
+}
+
+/// Returns a row as JSON.
+fn group_row(inspector: &Inspector<'_>, total: GroupTotal) -> Result<GroupRow, AllocError> {
+    let alloc = inspector.alloc;
+    let (class, address) = match total.group {
+        Group::Class(class) => {
+            (
+                inspector.names.name_of_class(class)?,
+                Some(inspector.address(class)),
+            )
+        }
+        Group::Compact(index) => (format!(in alloc; "compact {index}")?, None),
+    };
+    Ok(GroupRow {
+        class: Some(class),
+        address: digits_if(alloc, address)?,
+        objects: u64::from(total.count),
+        bytes: total.bytes,
+    })
+}
+
+/// Prints a row.
+fn print_row<C: Sink>(
+    inspector: &Inspector<'_>,
+    row: &GroupRow,
+    out: &mut Out<'_, C>,
+) -> Result<(), Fault>
+    ensures { IfErr result IsPrintFault }
+{
+    if out.is_json() {
+        return out.json(row);
+    }
+    let line = row_line(inspector, row)?;
+    out.line(line.as_str())
+}
+
+/// Returns the line of a row, in the columns that `sqzcompact --census` prints.
+fn row_line(inspector: &Inspector<'_>, row: &GroupRow) -> Result<String, AllocError> {
+    let (objects, bytes) = (row.objects, row.bytes);
+    let Some(class) = &row.class else {
+        return format!(in inspector.alloc; "{objects:>10} {bytes:>12} total");
+    };
+    let address = row
+        .address
+        .as_ref()
+        .map_or("--------", |address| address.as_str());
+    format!(in inspector.alloc; "{objects:>10} {bytes:>12} {address} {class}")
+}

@@ -1,0 +1,221 @@
+//! What an object is.
+
+ghost use Rattle.std.specs.Prelude.{IfErr, ◌<◌, ◌≡◌};
+ghost use Rattle.sqz_image.specs.Objects.{object_count};
+ghost use Rattle.sqz_image.specs.declared.fault.Fault.TheVariants.{OutOfMemory};
+ghost use Rattle.sqz_inspect.specs.Failures.{IsPrintFault};
+
+use crate::inspector::Inspector;
+use crate::out::Out;
+use crate::slot_rows::{SlotRow, slot_at, slot_count, slot_line, slot_rows};
+use crate::slots::SlotNames;
+use crate::texts::{counted, digits, digits_if};
+use serde::Serialize;
+use sqz_facts::{ObjectFacts, object_facts, slot_facts};
+use sqz_image::{Fault, Sink};
+use sqz_names::{all_bytes, escaped};
+use sqz_object::ObjectIndex;
+use sqz_paths::dominators_of;
+use std::alloc::AllocError;
+
+/// The text form shows at most so many bytes of a byte object, unless all are asked for.
+const MOST_BYTES: usize = 400;
+
+/// An object as JSON.
+#[derive(Drop, Serialize)]
+struct ObjectRow {
+    address: String,
+    class: String,
+    class_address: Option<String>,
+    label: String,
+    live: bool,
+    bytes: u64,
+    retained: Option<u64>,
+    header_words: u32,
+    format: u32,
+    hash: u32,
+    compact_index: u32,
+    slots: Vec<SlotRow>,
+    text: Option<String>,
+}
+
+/// Prints what an object is: its class, its size and what it retains, its header, what its slots
+/// hold, and its bytes as text if it has any. Prints nothing if there is no such object. Fails
+/// only with `WriteFailed` or `OutOfMemory`.
+pub fn print_show<C: Sink>(
+    inspector: &Inspector<'_>,
+    object: ObjectIndex,
+    out: &mut Out<'_, C>,
+) -> Result<(), Fault>
+    ensures refused { IfErr result IsPrintFault }
+{
+    if object >= inspector.heap.len() {
+        return Ok(());
+    }
+    let facts = object_facts(inspector.heap, inspector.weak, object);
+    let retained = retained_bytes(inspector, object)?;
+    if out.is_json() {
+        let row = object_row(inspector, object, facts, retained)?;
+        return out.json(&row);
+    }
+    for line in &head_lines(inspector, object, facts, retained)? {
+        out.line(line.as_str())?;
+    }
+    print_slots(inspector, object, out)?;
+    print_text(inspector, object, out)
+}
+
+/// Returns the bytes that an object retains. None if it is not reachable.
+fn retained_bytes(inspector: &Inspector<'_>, object: ObjectIndex) -> Result<Option<u64>, Fault>
+    ensures { IfErr result (λ fault. fault ≡ OutOfMemory) }
+{
+    if !inspector.marks.has(object) {
+        return Ok(None);
+    }
+    let dominators = dominators_of(inspector.alloc, inspector.heap, inspector.weak)?;
+    Ok(Some(dominators.retained(object).bytes))
+}
+
+/// Returns an object as JSON.
+fn object_row(
+    inspector: &Inspector<'_>,
+    object: ObjectIndex,
+    facts: ObjectFacts,
+    retained: Option<u64>,
+) -> Result<ObjectRow, Fault>
+    requires { object < object_count inspector.now.heap.now }
+    ensures { IfErr result (λ fault. fault ≡ OutOfMemory) }
+{
+    let alloc = inspector.alloc;
+    let class = facts.class.map(|class| inspector.address(class));
+    Ok(ObjectRow {
+        address: digits(alloc, facts.address)?,
+        class: inspector.names.name_of_class_of(object)?,
+        class_address: digits_if(alloc, class)?,
+        label: inspector.names.label(object)?,
+        live: retained.is_some(),
+        bytes: facts.bytes,
+        retained,
+        header_words: facts.header_words,
+        format: facts.format,
+        hash: facts.hash,
+        compact_index: facts.compact_index,
+        slots: slot_rows(inspector, object)?,
+        text: text_of(inspector, object)?,
+    })
+}
+
+/// Returns the lines about an object before its slots.
+fn head_lines(
+    inspector: &Inspector<'_>,
+    object: ObjectIndex,
+    facts: ObjectFacts,
+    retained: Option<u64>,
+) -> Result<Vec<String>, Fault>
+    ensures { IfErr result (λ fault. fault ≡ OutOfMemory) }
+{
+    let alloc = inspector.alloc;
+    let label = inspector.names.short_label(object)?;
+    let class = class_text(inspector, object, facts)?;
+    let size = match retained {
+        Some(retained) => format!(in alloc; "{} bytes, retains {retained}", facts.bytes)?,
+        None => format!(in alloc; "{} bytes, not reachable", facts.bytes)?,
+    };
+    let words = counted(alloc, facts.header_words as usize, "word")?;
+    let (format, hash, compact) = (facts.format, facts.hash, facts.compact_index);
+    let mut lines = Vec::new(alloc);
+    lines.push(format!(in alloc; "{label} {:08x}", facts.address)?)?;
+    lines.push(format!(in alloc; "  {:<10}{class}", "class")?)?;
+    lines.push(format!(in alloc; "  {:<10}{size}", "size")?)?;
+    lines.push(format!(in alloc;
+        "  {:<10}{words}, format {format}, hash {hash}, compact index {compact}",
+        "header"
+    )?)?;
+    Ok(lines)
+}
+
+/// Returns the name and the address of an object's class.
+fn class_text(
+    inspector: &Inspector<'_>,
+    object: ObjectIndex,
+    facts: ObjectFacts,
+) -> Result<String, AllocError> {
+    let name = inspector.names.name_of_class_of(object)?;
+    match facts.class {
+        Some(class) => {
+            let address = inspector.address(class);
+            format!(in inspector.alloc; "{name} {address:08x}")
+        }
+        None => Ok(name),
+    }
+}
+
+/// Prints a line for each slot of an object.
+fn print_slots<C: Sink>(
+    inspector: &Inspector<'_>,
+    object: ObjectIndex,
+    out: &mut Out<'_, C>,
+) -> Result<(), Fault>
+    requires { object < object_count inspector.now.heap.now }
+    ensures { IfErr result IsPrintFault }
+{
+    let count = slot_count(inspector, object);
+    if count > 0 {
+        out.line("slots")?;
+    }
+    let names = SlotNames::of(inspector, object)?;
+    for place in 0..out.shown(count) {
+        let slot = slot_at(inspector, object, place);
+        if let Some(facts) = slot_facts(inspector.heap, object, slot) {
+            let line = slot_line(inspector, &names, slot, facts)?;
+            out.line(line.as_str())?;
+        }
+    }
+    out.rest(count, "slot")
+}
+
+/// Prints the bytes of an object as text, if it has any.
+fn print_text<C: Sink>(
+    inspector: &Inspector<'_>,
+    object: ObjectIndex,
+    out: &mut Out<'_, C>,
+) -> Result<(), Fault>
+    requires { object < object_count inspector.now.heap.now }
+    ensures { IfErr result IsPrintFault }
+{
+    let alloc = inspector.alloc;
+    let heap = inspector.heap;
+    let Some(bytes) = all_bytes(alloc, heap.order(), &heap.object(object))? else {
+        return Ok(());
+    };
+    let count = bytes.len();
+    let (shown, _) = bytes.split_at(if out.is_cut() {
+        count.min(MOST_BYTES)
+    } else {
+        count
+    });
+    let text = escaped(alloc, shown)?;
+    let line = format!(in alloc; "  {text}")?;
+    out.line("text")?;
+    out.line(line.as_str())?;
+    if shown.len() < count {
+        let line = format!(in alloc;
+            "... cut after {} of {count} bytes; --all prints each",
+            shown.len()
+        )?;
+        out.line(line.as_str())?;
+    }
+    Ok(())
+}
+
+/// Returns the bytes of a byte object as text.
+fn text_of(inspector: &Inspector<'_>, object: ObjectIndex) -> Result<Option<String>, AllocError>
+    requires { object < object_count inspector.now.heap.now }
+{
+    let heap = inspector.heap;
+    let bytes = all_bytes(inspector.alloc, heap.order(), &heap.object(object))?;
+    match bytes {
+        Some(bytes) => Ok(Some(escaped(inspector.alloc, &bytes)?)),
+        None => Ok(None),
+    }
+}

@@ -1,0 +1,149 @@
+//! The command line that the program accepts.
+
+use clap::{Arg, ArgAction, Command, value_parser};
+use std::alloc::{AllocError, Global};
+
+/// A subcommand: its name, what it says, its own arguments, and an example.
+struct Subcommand {
+    name: &'static str,
+    about: &'static str,
+    arguments: &'static [Argument],
+    example: &'static str,
+}
+
+/// An argument of a subcommand.
+#[derive(Clone, Copy)]
+enum Argument {
+    Image,
+    Images,
+    Object,
+    Class,
+    AllFaults,
+    All,
+    Dead,
+    Raw,
+}
+
+/// All subcommands, in the order of the help.
+const SUBCOMMANDS: [Subcommand; 7] = [
+    Subcommand {
+        name: "check",
+        about: "Say whether images are sound",
+        arguments: &[Argument::Images, Argument::AllFaults],
+        example: "Example:\n  sqzlook check old/*.image",
+    },
+    Subcommand {
+        name: "info",
+        about: "Print the format, size and first fault of an image",
+        arguments: &[Argument::Image],
+        example: "Example:\n  sqzlook info Scratch.image",
+    },
+    Subcommand {
+        name: "census",
+        about: "Print a class histogram of the live objects",
+        arguments: &[Argument::Image, Argument::Dead, Argument::All],
+        example: "Example:\n  sqzlook census --all Scratch.image",
+    },
+    Subcommand {
+        name: "list",
+        about: "List the live instances of a class, largest first",
+        arguments: &[Argument::Image, Argument::Class, Argument::All],
+        example: "Example:\n  sqzlook list Scratch.image SoundBuffer",
+    },
+    Subcommand {
+        name: "show",
+        about: "Print what an object is and what its slots hold",
+        arguments: &[Argument::Image, Argument::Object, Argument::All],
+        example: "Example:\n  sqzlook show Scratch.image 'Point>>+'",
+    },
+    Subcommand {
+        name: "why",
+        about: "Print a shortest path from the roots to an object",
+        arguments: &[
+            Argument::Image,
+            Argument::Object,
+            Argument::Raw,
+            Argument::All,
+        ],
+        example: "Example:\n  sqzlook why Scratch.image 1546cbd8",
+    },
+    Subcommand {
+        name: "refs",
+        about: "Print the live objects that point to an object",
+        arguments: &[Argument::Image, Argument::Object, Argument::All],
+        example: "Example:\n  sqzlook refs Scratch.image SoundBuffer class",
+    },
+];
+
+/// Returns the command line that the program accepts.
+pub(crate) fn command<'a>(alloc: Global) -> Result<Command<'a>, AllocError> {
+    let mut command = Command::new(alloc, "sqzlook")
+        .version("1.0.0")
+        .about("Inspect Squeak images")
+        .subcommand_required(true)
+        .arg_required_else_help(true)
+        .propagate_version(true)
+        .disable_help_subcommand(true);
+    for subcommand in &SUBCOMMANDS {
+        command = command.subcommand(command_of(alloc, subcommand)?)?;
+    }
+    Ok(command)
+}
+
+/// Returns the command line of a subcommand.
+fn command_of<'a>(alloc: Global, subcommand: &Subcommand) -> Result<Command<'a>, AllocError> {
+    let mut command = Command::new(alloc, subcommand.name)
+        .about(subcommand.about)
+        .after_help(subcommand.example);
+    for argument in subcommand.arguments {
+        command = command.arg(arg_of(alloc, *argument))?;
+    }
+    command
+        .arg(flag(
+            alloc,
+            "clear-weak",
+            "Treat weak references to objects that nothing else keeps as cleared",
+        ))?
+        .arg(flag(alloc, "json", "Print lines of JSON"))
+}
+
+/// Returns an argument.
+fn arg_of<'a>(alloc: Global, argument: Argument) -> Arg<'a> {
+    match argument {
+        Argument::Image => required(alloc, "IMAGE", "The image to inspect"),
+        Argument::Images => required(alloc, "IMAGE", "The images to check").num_args(1..),
+        Argument::Object => required(
+            alloc,
+            "OBJECT",
+            "An address in hexadecimal digits, a class, or a method as Point>>+",
+        )
+        .num_args(1..),
+        Argument::Class => required(
+            alloc,
+            "CLASS",
+            "A class by its name or address, or `compact K`",
+        )
+        .num_args(1..),
+        Argument::AllFaults => flag(alloc, "all", "Print every fault, and not only the first"),
+        Argument::All => flag(alloc, "all", "Print all, and not only the first 20 rows"),
+        Argument::Dead => flag(alloc, "dead", "Count the objects that are not live"),
+        Argument::Raw => flag(alloc, "raw", "Print each step of the path"),
+    }
+}
+
+/// Returns a required positional argument.
+fn required<'a>(alloc: Global, name: &'a str, help: &'a str) -> Arg<'a> {
+    Arg::new(alloc, name)
+        .help(help)
+        .required(true)
+        .action(ArgAction::Set)
+}
+
+/// Returns an option without a value.
+fn flag<'a>(alloc: Global, name: &'a str, help: &'a str) -> Arg<'a> {
+    Arg::new(alloc, name)
+        .long(name)
+        .help(help)
+        .action(ArgAction::SetTrue)
+        .value_parser(value_parser!(bool))
+}

@@ -1,0 +1,25 @@
+//! Why there is no answer.
+
+use sqz_image::Fault;
+use std::alloc::AllocError;
+
+/// Why a question has no answer.
+#[derive(Debug, Drop)]
+pub(crate) enum Failure {
+    /// A device failed, or memory ran out.
+    Faulty(Fault),
+    /// What is asked about is not there, or no image could be read.
+    NotThere(String),
+}
+
+impl From<Fault> for Failure {
+    fn from(fault: Fault) -> Failure {
+        Failure::Faulty(fault)
+    }
+}
+
+impl From<AllocError> for Failure {
+    fn from(error: AllocError) -> Failure {
+        Failure::Faulty(Fault::from(error))
+    }
+}
