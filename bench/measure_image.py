@@ -15,15 +15,8 @@ import sys
 import tempfile
 
 from bench.images import MIB, make_image
-from tests.object_memory import (
-    CONTEXT_INDEXES,
-    WEAK,
-    Image,
-    compact_index,
-    format_of,
-    has_bytes,
-    traced_end,
-)
+from tests.image_objects import WEAK, format_of, has_bytes, is_context, traced_end
+from tests.object_memory import Image
 from tests.squeak_image import find_image
 
 SIZE = 4 * MIB
@@ -33,7 +26,7 @@ KINDS = ("pointers", "contexts", "weak", "words", "bytes", "methods")
 def kind_of(header):
     """The kind of an object with this base header."""
     kind = format_of(header)
-    if kind == 3 and compact_index(header) in CONTEXT_INDEXES:
+    if is_context(header):
         return "contexts"
     if kind <= WEAK:
         return "weak" if kind == WEAK else "pointers"

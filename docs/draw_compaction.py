@@ -10,7 +10,8 @@ import pathlib
 import sys
 
 from tests.image_format import image_file
-from tests.object_memory import Image, traced_end
+from tests.image_objects import traced_end
+from tests.object_memory import Image
 
 # The place of the first word, and a word's width and height; the tops of the two rows; and the picture's height.
 LEFT, WIDE, HIGH = 70, 80, 34

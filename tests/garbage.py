@@ -5,7 +5,8 @@ import array
 import bisect
 import typing
 
-from tests.object_memory import WEAK, Image, format_of, has_bytes
+from tests.image_objects import WEAK, format_of, has_bytes
+from tests.object_memory import Image
 
 # Header types by the number of header words before the base header.
 TYPES = (3, 1, 0)

@@ -1,6 +1,5 @@
 """Parses images as docs/FORMAT.md says, independently of the programs: objects, pointers, what is
-live, what an image is compacted to, and its class histogram. Images must have no fault; dead
-objects may hold any words."""
+live, what an image is compacted to, and its class histogram. Objects may have any fault."""
 
 import array
 import collections
@@ -8,10 +7,9 @@ import functools
 import typing
 
 from tests.image_format import HEADER_WORDS, PREFIX, VERSION, bytes_of, image_file, words_of
+from tests.image_objects import WEAK, compact_index, format_of, has_bytes, objects_of, traced_end
 from tests.made_images import Row, report
 
-CONTEXT_INDEXES = (13, 14)
-WEAK = 4
 # The field of the special objects array that points to the compact classes, and the fields of a
 # class.
 COMPACT_CLASSES = 28
@@ -20,61 +18,12 @@ LAYOUT, INSTANCE, NAME = 2, 5, 6
 LONGEST_NAME = 40
 
 
-class Object(typing.NamedTuple):
-    """Data words of an object: the first of its header, its base header, and its end."""
-
-    first: int
-    base: int
-    end: int
-
-
 class Pointer(typing.NamedTuple):
     """A slot that points to an object: its data word, and the numbers of owner and target."""
 
     place: int
     owner: int
     target: int
-
-
-def objects_of(words):
-    """The objects of these data words."""
-    objects, at = [], 0
-    while at < len(words):
-        kind = words[at] & 3
-        if kind == 2:
-            at += words[at] >> 2
-            continue
-        base = at + (2, 1, None, 0)[kind]
-        end = base + (words[at] >> 2 if kind == 0 else words[base] >> 2 & 63)
-        objects.append(Object(at, base, end))
-        at = end
-    return objects
-
-
-def format_of(header):
-    return header >> 8 & 15
-
-
-def compact_index(header):
-    return header >> 12 & 31
-
-
-def has_bytes(header):
-    """Whether this is the base header of a byte object."""
-    return 8 <= format_of(header) <= 11
-
-
-def traced_end(words, it):
-    """The data word after the traced fields of an object."""
-    header, first = words[it.base], it.base + 1
-    end = it.end
-    if format_of(header) >= 12:
-        end = first + 1 + (words[first] >> 10 & 255) if it.end > first else first
-    elif format_of(header) > WEAK:
-        end = first
-    elif format_of(header) == 3 and compact_index(header) in CONTEXT_INDEXES and it.end > first + 2:
-        end = first + 6 + (words[first + 2] >> 1 if words[first + 2] & 1 else 0)
-    return min(end, it.end)
 
 
 class Image:
@@ -149,22 +98,55 @@ class Image:
     def header_of(self, number):
         return self.words[self.objects[number].base]
 
-    def class_of(self, number):
+    def strong_field(self, number, field, clear_weak=True):
+        """As `field`, but None if weak references are cleared and the field is weak."""
+        weak = self.first_weak(number) if clear_weak else None
+        if weak is not None and self.objects[number].base + 1 + field >= weak:
+            return None
+        return self.field(number, field)
+
+    def class_field(self, number, field, clear_weak):
+        """As `strong_field`, but None too if the class of a weak object is not in its header.
+
+        That class would be looked up by this field."""
+        it = self.objects[number]
+        is_weak = format_of(self.words[it.base]) == WEAK
+        if clear_weak and is_weak and it.base == it.first:
+            return None
+        return self.strong_field(number, field, clear_weak)
+
+    def class_of(self, number, clear_weak=False):
         """The number of an object's class, if it has one."""
         it = self.objects[number]
         if it.base > it.first:
-            return self.numbers[self.words[it.base - 1] & ~3]
-        compact_classes = self.field(self.special, COMPACT_CLASSES)
+            return self.numbers.get(self.words[it.base - 1] & ~3)
+        compact_classes = self.class_field(self.special, COMPACT_CLASSES, clear_weak)
         if compact_classes is None or compact_index(self.words[it.base]) == 0:
             return None
-        return self.field(compact_classes, compact_index(self.words[it.base]) - 1)
+        field = compact_index(self.words[it.base]) - 1
+        return self.class_field(compact_classes, field, clear_weak)
+
+    def fixed_fields(self, a_class):
+        """The number of fixed fields that a class states, if it states one. It may be -1."""
+        if a_class is None:
+            return None
+        it = self.objects[a_class]
+        place = it.base + 1 + LAYOUT
+        if place >= it.end or not self.words[place] & 1:
+            return None
+        return (self.words[place] >> 17 & 3) * 64 + (self.words[place] >> 2 & 63) - 1
 
     def first_weak(self, number):
-        """The data word of an object's first weak field, if it is a weak object."""
-        if format_of(self.header_of(number)) != WEAK:
+        """The data word of an object's first weak field, if it is a weak object.
+
+        If its class states no number of fixed fields, or one that is negative or too great, all
+        fields are weak."""
+        it = self.objects[number]
+        if format_of(self.words[it.base]) != WEAK:
             return None
-        layout = self.words[self.objects[self.class_of(number)].base + 1 + LAYOUT]
-        return self.objects[number].base + (layout >> 17 & 3) * 64 + (layout >> 2 & 63)
+        fixed = self.fixed_fields(self.class_of(number, clear_weak=True))
+        first = it.base + 1
+        return first + fixed if fixed is not None and 0 <= fixed <= it.end - first else first
 
     def strong_pointers(self, clear_weak=False):
         """All pointers, or if weak references are cleared, those that are not weak."""
@@ -237,15 +219,14 @@ class Image:
         data = bytes_of(self.words[it.base + 1 : it.end], self.order)
         return data[: max(0, len(data) - (format_of(self.header_of(number)) - 8))]
 
-    def name(self, number):
+    def name(self, number, clear_weak=False):
         """The name of a class, as the programs print it."""
-        text, suffix = self.text(self.field(number, NAME)), ""
+        text, suffix = self.text(self.strong_field(number, NAME, clear_weak)), ""
         if text is None:
-            instance = self.field(number, INSTANCE)
-            text, suffix = (
-                None if instance is None else self.text(self.field(instance, NAME)),
-                " class",
-            )
+            instance = self.strong_field(number, INSTANCE, clear_weak)
+            if instance is not None:
+                text = self.text(self.strong_field(instance, NAME, clear_weak))
+            suffix = " class"
         if text is None:
             return "?"
         return (

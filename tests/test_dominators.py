@@ -9,7 +9,8 @@ import typing
 import unittest
 
 from tests.image_format import BASE, image_file
-from tests.object_memory import WEAK, Image
+from tests.image_objects import WEAK
+from tests.object_memory import Image
 from tests.running import ROOT, SEED, Outcome, ProgramTest, build
 from tests.worked_images import IMAGES
 
