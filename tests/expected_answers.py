@@ -40,10 +40,14 @@ class Answers:
         self.names = Names(image, self.reach.found, clear_weak)
 
     @functools.cached_property
+    def defects(self):
+        """All faults of the image and its live objects."""
+        return Defects(self.names).faults()
+
+    @functools.cached_property
     def faults(self):
-        """All faults of the image and its live objects, as rows."""
-        prefix = len(self.image.prefix)
-        return [fault.row(prefix) for fault in Defects(self.names).faults()]
+        """The rows of these faults."""
+        return [fault.row(len(self.image.prefix)) for fault in self.defects]
 
     def is_live(self, number):
         return number in self.reach.found

@@ -22,24 +22,33 @@ GZIP, ZIP = b"\x1f\x8b", b"PK\x03\x04"
 
 
 class Fault(typing.NamedTuple):
-    """A fault: its number and text, and the data word that it is about, if there is one.
+    """A fault: its number and text, and the address and the data word that it is about, if any.
 
-    `address` is that of an object or a chunk."""
+    `more` follows the text."""
 
     number: int
     text: str
     address: str | None = None
     place: int | None = None
+    more: str = ""
+
+    def byte(self, prefix):
+        """The offset of the data word in a file, if the image is after so many bytes."""
+        return None if self.place is None else prefix + 4 * (HEADER_WORDS + self.place)
 
     def row(self, prefix):
-        """What a line of JSON says about a fault of an image after so many bytes."""
-        byte = None if self.place is None else prefix + 4 * (HEADER_WORDS + self.place)
+        """What a line of JSON says about the fault."""
         return {
             "number": self.number,
-            "text": self.text,
+            "text": self.text + self.more,
             "address": self.address,
-            "byte": byte,
+            "byte": self.byte(prefix),
         }
+
+    def line(self, prefix):
+        """What a text says about the fault."""
+        at = "" if self.place is None else f" (byte {self.byte(prefix)})"
+        return f"fault {self.number}: {self.text}{at}{self.more}"
 
 
 def cause(file):
@@ -104,8 +113,9 @@ class Defects:
         for place, word in self.slots(it):
             if not word & 1 and word not in self.image.numbers:
                 slot = "class" if place < it.base else f"field {place - it.base - 1}"
-                text = f"bad pointer in object {address}, {slot}: word {word:08x}"
-                return Fault(14, text + self.neighbour(word), address, place)
+                text = f"bad pointer in object {address}, {slot}"
+                more = f": word {word:08x}{self.neighbour(word)}"
+                return Fault(14, text, address, place, more)
         return None
 
     def slots(self, it):

@@ -105,7 +105,7 @@ def fault_of(file, line, header):
     name, _, text = line.decode().rstrip("\n").partition(": ")
     number = int(name.removeprefix("fault "))
     if number == 2:
-        return Fault(number, text + cause(file))
+        return Fault(number, text, more=cause(file))
     if number in (7, 8, 9):
         place = int(text.rsplit(maxsplit=1)[1])
         return Fault(number, text, f"{header[2][3] + 4 * place:08x}", place)
@@ -135,8 +135,6 @@ class UnreadableImagesTest(LookTest):
         for path, line, outcome in zip(paths, lines, look_at_all(lines, IMAGES)):
             file, rejected = path.read_bytes(), path.with_suffix(".fault").read_bytes()
             header = header_of(file)
-            row = fault_of(file, rejected, header).row(header[1] if header else 0)
-            byte = "" if row["byte"] is None else f" (byte {row['byte']})"
+            message = fault_of(file, rejected, header).line(header[1] if header else 0)
             with self.subTest(path.stem):
-                message = f"fault {row['number']}: {row['text']}{byte}"
                 self.assert_refused(outcome, line[1], message)
