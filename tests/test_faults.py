@@ -7,8 +7,7 @@ start requested. If other code made the request, the run ends with the fault, wi
 
 The tests of the crate `sqz_test_allocation` run in the same way: each public call that ran out of
 memory is repeated there, and its name printed. So does the test of `sqz_test_marks` that closes a
-mark table again, and `sqzlook`, which prints its answer whole or not at all, or a prefix if a write
-failed.
+mark table again.
 """
 
 import collections
@@ -20,17 +19,8 @@ import re
 from tests.made_images import zigzag_chain
 from tests.preload import PreloadTest
 from tests.requesters import OTHER, PUSH, START, Functions
-from tests.running import (
-    NO_MEMORY,
-    NOT_READ,
-    NOT_WRITTEN,
-    ROOT,
-    SQZCOMPACT,
-    SQZLOOK,
-    Outcome,
-    run,
-)
-from tests.worked_images import IMAGES, worked_image
+from tests.running import NO_MEMORY, NOT_READ, NOT_WRITTEN, ROOT, SQZCOMPACT, Outcome
+from tests.worked_images import worked_image
 
 # A dead array, dead objects in a cycle, class names in both byte orders, and weak objects after 512
 # bytes.
@@ -67,14 +57,6 @@ CLOSES_AGAIN = ROOT / "crates" / "sqz_test_marks" / "out" / "sqz_test_marks_test
 TEST_OF_CLOSING = "steps::one_pass"
 # What that test ends with if another of its calls runs out of memory.
 OUT_OF_MEMORY = (b"error: OutOfMemory\n", b"error: AllocError\n")
-
-QUESTIONS = (
-    ("accepted/dead_cycle.image",),
-    ("accepted/class_names.image", "00001024"),
-    ("accepted/context_stack.image", "0000101c"),
-    ("weak/weak_fields.image", "00001020", "--clear-weak"),
-    ("accepted/class_names.image", "--class", "00001004"),
-)
 
 # The end of a run that ran out of memory.
 FAULT = "the fault"
@@ -257,53 +239,3 @@ class CallsAgainTest(PreloadTest):
 
     def require(self, program):
         self.assertTrue(program.exists(), f"{program} is missing: run `rt test` in its crate")
-
-
-class LooksTest(PreloadTest):
-    """`sqzlook` prints its whole answer, or ends with the fault."""
-
-    def test_allocations(self):
-        functions = Functions(SQZLOOK)
-        for args in QUESTIONS:
-            with self.subTest(args):
-                self.check_allocations(functions, args)
-
-    def test_failed_reads(self):
-        for args in QUESTIONS:
-            with self.subTest(args):
-                outcomes = set(self.failing_looks(self.fail_calls, args, "failed_read"))
-                self.assertEqual(outcomes, {NOT_READ})
-
-    def test_failed_writes(self):
-        for args in QUESTIONS:
-            with self.subTest(args):
-                answer = self.answer(args)
-                outcomes = list(self.failing_looks(self.fail_calls, args, "failed_write"))
-                self.assertEqual({outcome.status for outcome in outcomes}, {3})
-                for outcome in outcomes:
-                    self.assertTrue(answer.startswith(outcome.stdout))
-
-    def check_allocations(self, functions, args):
-        """Fails each allocation: only a start and the reservation of `collect` do without."""
-        whole = Outcome(0, stdout=self.answer(args))
-        ends = collections.Counter()
-        for outcome in self.failing_looks(self.fail_allocations, args, "first_failed"):
-            if outcome == whole:
-                ends[self.requester(functions)] += 1
-            else:
-                self.assert_ends(outcome, NO_MEMORY)
-                ends[FAULT] += 1
-        self.assertGreater(ends[FAULT], 10)
-        self.assertEqual(ends[OTHER], RESERVATIONS)
-        self.assertLessEqual(set(ends), {FAULT, OTHER, START})
-
-    def answer(self, args):
-        """What a question prints if nothing fails."""
-        outcome = run(SQZLOOK, args, folder=IMAGES)
-        self.assertEqual((outcome.status, outcome.stderr), (0, b""))
-        return outcome.stdout
-
-    def failing_looks(self, library, args, failure):
-        image, *rest = args
-        words = (IMAGES / image, *rest)
-        return self.failing(library, SQZLOOK, *words, failure=failure, failed_error=errno.EIO)

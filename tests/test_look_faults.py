@@ -1,0 +1,109 @@
+"""Fails one allocation, read or write of `sqzlook` at a time, until a run makes no more of them.
+
+`sqzlook` prints its answer whole or not at all, or if a write failed, a prefix. A run does without
+the memory that a thread's start requested. If other code made the request, the run ends with the
+fault, with one exception: `collect` reserves room for the words of the command line, and goes on
+without it.
+"""
+
+import collections
+import errno
+import re
+
+from tests.looking import look
+from tests.preload import PreloadTest
+from tests.requesters import OTHER, START, Functions
+from tests.running import SQZLOOK, Outcome
+from tests.worked_images import IMAGES
+
+CHECK = ("check", "accepted/dead_cycle.image")
+QUESTIONS = (
+    CHECK,
+    ("info", "accepted/dead_cycle.image"),
+    ("census", "accepted/class_names.image", "--json"),
+    ("list", "accepted/class_names.image", "00001004"),
+    ("show", "accepted/context_stack.image", "0000101c"),
+    ("show", "accepted/class_names.image", "00001024", "--json"),
+    ("why", "weak/weak_fields.image", "00001020", "--clear-weak"),
+    ("refs", "accepted/class_names.image", "00001004"),
+)
+# A run does without the allocations of `collect`, of which there are so many.
+RESERVATIONS = 1
+# The end of a run that ran out of memory.
+FAULT = "the fault"
+NO_MEMORY, NOT_READ, NOT_WRITTEN = (
+    "fault 15: out of memory",
+    "fault 16: cannot read the image",
+    "fault 17: cannot write the output",
+)
+
+
+def path_in(args):
+    """The path of the image that a question is about."""
+    return str(IMAGES / args[1])
+
+
+class LookFaultsTest(PreloadTest):
+    """`sqzlook` prints its whole answer, or ends with the fault."""
+
+    def test_allocations(self):
+        functions = Functions(SQZLOOK)
+        for args in QUESTIONS:
+            with self.subTest(args):
+                self.check_allocations(functions, args)
+
+    def test_failed_reads(self):
+        for args in QUESTIONS:
+            with self.subTest(args):
+                outcomes = set(self.failing_looks(self.fail_calls, args, "failed_read"))
+                self.assertEqual(outcomes, {self.not_read(args)})
+
+    def test_failed_writes(self):
+        for args in QUESTIONS:
+            with self.subTest(args):
+                answer = self.answer(args)
+                outcomes = list(self.failing_looks(self.fail_calls, args, "failed_write"))
+                self.assertGreater(len(outcomes), 0)
+                for outcome in outcomes:
+                    self.assert_ends_with(outcome, 3, NOT_WRITTEN, args)
+                    self.assertTrue(answer.startswith(outcome.stdout))
+
+    def check_allocations(self, functions, args):
+        """Fails each allocation: only a start and the reservation of `collect` do without."""
+        whole = Outcome(0, stdout=self.answer(args))
+        ends = collections.Counter()
+        for outcome in self.failing_looks(self.fail_allocations, args, "first_failed"):
+            if outcome == whole:
+                ends[self.requester(functions)] += 1
+            else:
+                self.assert_ends_with(outcome, 4, NO_MEMORY, args)
+                self.assertEqual(outcome.stdout, b"")
+                ends[FAULT] += 1
+        self.assertGreater(ends[FAULT], 10)
+        self.assertEqual(ends[OTHER], RESERVATIONS)
+        self.assertLessEqual(set(ends), {FAULT, OTHER, START})
+
+    def not_read(self, args):
+        """The end of a run that cannot read the image. `check` has a line about it."""
+        line = f"{path_in(args)}: {NOT_READ}\n"
+        if args == CHECK:
+            return Outcome(3, stdout=line.encode())
+        return Outcome(3, stderr=f"sqzlook: {line}".encode())
+
+    def assert_ends_with(self, outcome, status, fault, args):
+        """Checks for an exit and a fault, with the path of the image if this was known by then."""
+        line = rf"\Asqzlook: ({re.escape(path_in(args))}: )?{fault}\n\Z"
+        self.assertRegex(outcome.stderr.decode(), line)
+        self.assertEqual(outcome.status, status)
+
+    def answer(self, args):
+        """What a question prints if nothing fails."""
+        command, _, *rest = args
+        outcome = look(command, path_in(args), *rest)
+        self.assertEqual((outcome.status, outcome.stderr), (0, b""))
+        return outcome.stdout
+
+    def failing_looks(self, library, args, failure):
+        command, _, *rest = args
+        words = (command, path_in(args), *rest)
+        return self.failing(library, SQZLOOK, *words, failure=failure, failed_error=errno.EIO)
