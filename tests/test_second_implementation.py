@@ -9,6 +9,7 @@ import re
 import unittest
 
 from tests.expected_answers import Answers
+from tests.looking import difference, rows_of
 from tests.object_memory import Image
 from tests.running import SEED
 from tests.test_dominators import random_files
@@ -25,6 +26,33 @@ def answers_about(worked, clear_weak):
     if number is not None and number <= 10:
         return None
     return Answers(Image.read(worked.image)[0], clear_weak)
+
+
+class RowsTest(unittest.TestCase):
+    """Rows differ by values, by types, by lengths, and by the order of keys."""
+
+    def test_differences(self):
+        rows = [{"slot": 1, "weak": False, "path": [{"name": None}]}]
+        for name, others in {
+            "no row": [],
+            "another value": [{"slot": 2, "weak": False, "path": [{"name": None}]}],
+            "another type": [{"slot": True, "weak": False, "path": [{"name": None}]}],
+            "another order": [{"weak": False, "slot": 1, "path": [{"name": None}]}],
+            "a key more": [{"slot": 1, "weak": False, "path": [{"name": None}], "more": 1}],
+            "a value within": [{"slot": 1, "weak": False, "path": [{"name": "x"}]}],
+            "an empty list": [{"slot": 1, "weak": False, "path": []}],
+        }.items():
+            with self.subTest(name):
+                self.assertIsNotNone(difference(others, rows))
+                self.assertIsNotNone(difference(rows, others))
+
+    def test_no_difference(self):
+        found = rows_of(b'{"slot":1,"weak":false}\n{"path":[]}\n')
+        self.assertIsNone(difference(found, [{"slot": 1, "weak": False}, {"path": []}]))
+
+    def test_a_key_occurs_once(self):
+        with self.assertRaises(ValueError):
+            rows_of(b'{"slot":1,"slot":1}\n')
 
 
 class FaultsTest(unittest.TestCase):
