@@ -1,6 +1,7 @@
 """Asks `sqzlook` about the image of Debian's package `scratch`, as its users do, and about its
 help and its outputs."""
 
+import functools
 import os
 import random
 import re
@@ -22,6 +23,12 @@ SHOWN = 20
 PIPE = 65536
 
 
+@functools.cache
+def answers_about(image):
+    """The answers about an image, which take seconds to find."""
+    return Asking(image, NAME).answers
+
+
 class KnownImageTest(RealImageTest):
     """A test on the known image, which is in the file `Scratch.image`."""
 
@@ -29,7 +36,7 @@ class KnownImageTest(RealImageTest):
     def setUpClass(cls):
         super().setUpClass()
         if cls.path is not None:
-            cls.answers = Asking(cls.image, NAME).answers
+            cls.answers = answers_about(cls.image)
             cls.names = cls.answers.names
 
     def setUp(self):

@@ -5,6 +5,7 @@ The image is asked about as it is, in the other byte order, and with dead object
 between its objects, some of them held weakly. `SQZ_SEED` chooses the objects that are asked about.
 """
 
+import functools
 import gc
 import random
 import typing
@@ -37,6 +38,12 @@ ALL_CLASSES = Counts(show=200, why=60, refs=60, classes=None)
 SOME_CLASSES = Counts(show=40, why=20, refs=20, classes=20)
 
 
+@functools.cache
+def load(path):
+    """The image in a file without its dead objects."""
+    return Image.read(path.read_bytes())[0].compacted()
+
+
 class RealImageTest(SqueakImageTest, LookTest):
     """A test on the image without dead objects, which is in `image`."""
 
@@ -47,7 +54,7 @@ class RealImageTest(SqueakImageTest, LookTest):
         gc.disable()
         cls.addClassCleanup(gc.enable)
         if cls.path is not None:
-            cls.image = Image.read(cls.path.read_bytes())[0].compacted()
+            cls.image = load(cls.path)
 
     def setUp(self):
         super().setUp()
