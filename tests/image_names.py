@@ -6,7 +6,7 @@ class's name and its address."""
 
 import functools
 
-from tests.image_objects import has_bytes, is_method, traced_end
+from tests.image_objects import compact_index, has_bytes, is_method
 from tests.object_memory import LONGEST_NAME
 
 # Fields of the special objects array.
@@ -76,17 +76,16 @@ class Names:
         return number
 
     def fields(self, number):
-        """For each traced field of an object, the object that it points to, if it does."""
+        """For each field of an object, the object that it points to, if it is traced and does."""
         it = self.image.objects[number]
-        count = traced_end(self.image.words, it) - it.base - 1
-        return [self.image.field(number, field) for field in range(count)]
+        return [self.image.field(number, field) for field in range(it.end - it.base - 1)]
 
     def class_name(self, number):
         """The name of an object's class, or what is printed for an object without a class."""
         a_class = self.class_of(number)
         if a_class is not None:
             return self.name(a_class)
-        return f"compact {self.image.header_of(number) >> 12 & 31}"
+        return f"compact {compact_index(self.image.header_of(number))}"
 
     @functools.cached_property
     def classes(self):
