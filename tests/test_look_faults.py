@@ -91,8 +91,9 @@ class LookFaultsTest(PreloadTest):
         return Outcome(3, stderr=f"sqzlook: {line}".encode())
 
     def assert_ends_with(self, outcome, status, fault, args):
-        """Checks for an exit and a fault, with the path of the image if this was known by then."""
-        line = rf"\Asqzlook: ({re.escape(path_in(args))}: )?{fault}\n\Z"
+        """Checks for an exit and a fault, with the name of the program once it has its command line,
+        and with the path of the image once this is known."""
+        line = rf"\A(sqzlook: ({re.escape(path_in(args))}: )?)?{fault}\n\Z"
         self.assertRegex(outcome.stderr.decode(), line)
         self.assertEqual(outcome.status, status)
 
