@@ -35,7 +35,7 @@ class Counts(typing.NamedTuple):
 
 
 ALL_CLASSES = Counts(show=200, why=60, refs=60, classes=None)
-SOME_CLASSES = Counts(show=100, why=30, refs=60, classes=20)
+SOME_CLASSES = Counts(show=50, why=20, refs=40, classes=20)
 
 
 @functools.cache
