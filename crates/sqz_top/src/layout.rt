@@ -1,0 +1,60 @@
+//! Where the boxes of a drawing are.
+
+use crate::rows::Row;
+use std::alloc::{AllocError, Global};
+
+/// The width of a drawing in pixels.
+pub(crate) const WIDTH: u64 = 1200;
+
+/// The height of a level, and that of a box: levels have a gap between them.
+pub(crate) const LEVEL_HEIGHT: u64 = 20;
+
+pub(crate) const BOX_HEIGHT: u64 = 19;
+
+/// The height of what is above the boxes.
+pub(crate) const HEAD_HEIGHT: u64 = 28;
+
+/// Where a box is, across: in hundredths of a pixel from the left.
+#[derive(Clone, Copy, Debug, PartialEq, Eq)]
+pub(crate) struct Span {
+    pub(crate) left: u64,
+    pub(crate) width: u64,
+}
+
+/// Returns where the box of each row is: as wide as its share of the live bytes, under the box of
+/// the row above it, and right of the boxes that were printed before it.
+pub(crate) fn spans_of(alloc: Global, rows: &[Row], live: u64) -> Result<Vec<Span>, AllocError> {
+    let mut spans = Vec::new(alloc);
+    // for each level where its next box begins, in bytes
+    let mut next = Vec::new(alloc);
+    for row in rows {
+        next.truncate(row.depth.saturating_add(1));
+        let start = next.pop().unwrap_or(0);
+        let end = row.retained.saturating_add(start);
+        next.push(end)?;
+        next.push(start)?;
+        let left = hundredths(start, live);
+        let width = hundredths(end, live).saturating_sub(left);
+        spans.push(Span { left, width })?;
+    }
+    Ok(spans)
+}
+
+/// Returns where the box of a row begins, down: in pixels from the top.
+pub(crate) fn top_of(row: &Row) -> u64 {
+    HEAD_HEIGHT.saturating_add(LEVEL_HEIGHT.saturating_mul(row.depth as u64))
+}
+
+/// Returns the height of the drawing in pixels.
+pub(crate) fn height_of(rows: &[Row]) -> u64 {
+    let mut height = HEAD_HEIGHT;
+    for row in rows {
+        height = height.max(top_of(row).saturating_add(LEVEL_HEIGHT));
+    }
+    height
+}
+
+/// Returns how far from the left a number of bytes is, in hundredths of a pixel.
+fn hundredths(bytes: u64, live: u64) -> u64 {
+    bytes.saturating_mul(100 * WIDTH) / live.max(1)
+}
