@@ -12,6 +12,7 @@ use sqz_inspect::{
     Found, Inspector, Out, find_class, find_object, print_census, print_dead_census, print_info,
     print_info_unreadable, print_list, print_refs, print_show, print_why,
 };
+use sqz_top::print_top;
 use std::alloc::Global;
 use std::rt::Files;
 use std::thread::Threads;
@@ -75,6 +76,7 @@ fn answer_about_image<T: Threads + Sync, C: Sink>(
             Found::One(group) => print_list(inspector, group, out)?,
             Found::Nothing(message) => return Err(Failure::NotThere(message)),
         },
+        Question::Top => print_top(inspector, arguments.top, out)?,
         Question::Show | Question::Why | Question::Refs => {
             answer_about_object(inspector, arguments, out)?;
         }

@@ -1,7 +1,9 @@
 //! What a command line asks for.
 
+use crate::failure::Failure;
 use clap::ArgMatches;
 use sqz_inspect::Format;
+use sqz_top::{Percent, TopForm, TopOptions};
 use sqz_trace::Weak;
 use std::alloc::{AllocError, Global};
 
@@ -15,6 +17,7 @@ pub(crate) enum Question {
     Show,
     Why,
     Refs,
+    Top,
 }
 
 /// What a command line asks for.
@@ -30,15 +33,13 @@ pub(crate) struct Arguments<'a> {
     pub(crate) all: bool,
     pub(crate) dead: bool,
     pub(crate) raw: bool,
+    pub(crate) top: TopOptions,
 }
 
 impl<'a> Arguments<'a> {
-    /// Returns what the matches of a subcommand ask for. Fails only if out of memory.
-    pub(crate) fn of(
-        alloc: Global,
-        name: &str,
-        matches: &ArgMatches<'a>,
-    ) -> Result<Self, AllocError> {
+    /// Returns what the matches of a subcommand ask for. Fails if out of memory, and if `--min` has
+    /// no percentage.
+    pub(crate) fn of(alloc: Global, name: &str, matches: &ArgMatches<'a>) -> Result<Self, Failure> {
         let question = question_of(name);
         let subject = match question {
             Question::List => "CLASS",
@@ -59,6 +60,7 @@ impl<'a> Arguments<'a> {
             all,
             dead: matches.get_flag("dead"),
             raw: matches.get_flag("raw"),
+            top: top_options(alloc, matches)?,
         })
     }
 
@@ -78,7 +80,38 @@ fn question_of(name: &str) -> Question {
         "list" => Question::List,
         "show" => Question::Show,
         "why" => Question::Why,
+        "top" => Question::Top,
         _ => Question::Refs,
+    }
+}
+
+/// Returns what is asked for of a tree.
+fn top_options(alloc: Global, matches: &ArgMatches<'_>) -> Result<TopOptions, Failure> {
+    let form = if matches.get_flag("svg") {
+        TopForm::Drawing
+    } else if matches.get_flag("folded") {
+        TopForm::Folded
+    } else {
+        TopForm::Rows
+    };
+    Ok(TopOptions {
+        form,
+        depth: matches.get_one("depth"),
+        min: min_of(alloc, matches)?,
+    })
+}
+
+/// Returns the percentage that `--min` has.
+fn min_of(alloc: Global, matches: &ArgMatches<'_>) -> Result<Option<Percent>, Failure> {
+    let Some(text) = matches.get_str("min") else {
+        return Ok(None);
+    };
+    match Percent::parse(text) {
+        Some(min) => Ok(Some(min)),
+        None => {
+            let message = format!(in alloc; "--min takes 0 to 100 percent, as 0.2: {text}")?;
+            Err(Failure::BadWords(message))
+        }
     }
 }
 

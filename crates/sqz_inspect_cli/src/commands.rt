@@ -1,5 +1,6 @@
 //! The command line that the program accepts.
 
+use clap::builder::ValueParser;
 use clap::{Arg, ArgAction, Command, value_parser};
 use std::alloc::{AllocError, Global};
 
@@ -22,10 +23,14 @@ enum Argument {
     All,
     Dead,
     Raw,
+    Depth,
+    Min,
+    Folded,
+    Svg,
 }
 
 /// All subcommands, in the order of the help.
-const SUBCOMMANDS: [Subcommand; 7] = [
+const SUBCOMMANDS: [Subcommand; 8] = [
     Subcommand {
         name: "check",
         about: "Say whether images are sound",
@@ -73,6 +78,18 @@ const SUBCOMMANDS: [Subcommand; 7] = [
         arguments: &[Argument::Image, Argument::Object, Argument::All],
         example: "Example:\n  sqzlook refs Scratch.image SoundBuffer class",
     },
+    Subcommand {
+        name: "top",
+        about: "Print what retains most, as a tree",
+        arguments: &[
+            Argument::Image,
+            Argument::Depth,
+            Argument::Min,
+            Argument::Folded,
+            Argument::Svg,
+        ],
+        example: "Example:\n  sqzlook top --min 5 Scratch.image",
+    },
 ];
 
 /// Returns the command line that the program accepts.
@@ -96,7 +113,7 @@ fn command_of<'a>(alloc: Global, subcommand: &Subcommand) -> Result<Command<'a>,
         .about(subcommand.about)
         .after_help(subcommand.example);
     for argument in subcommand.arguments {
-        command = command.arg(arg_of(alloc, *argument))?;
+        command = command.arg(arg_of(alloc, *argument)?)?;
     }
     command
         .arg(flag(
@@ -108,8 +125,8 @@ fn command_of<'a>(alloc: Global, subcommand: &Subcommand) -> Result<Command<'a>,
 }
 
 /// Returns an argument.
-fn arg_of<'a>(alloc: Global, argument: Argument) -> Arg<'a> {
-    match argument {
+fn arg_of<'a>(alloc: Global, argument: Argument) -> Result<Arg<'a>, AllocError> {
+    Ok(match argument {
         Argument::Image => required(alloc, "IMAGE", "The image to inspect"),
         Argument::Images => required(alloc, "IMAGE", "The images to check").num_args(1..),
         Argument::Object => required(
@@ -128,7 +145,40 @@ fn arg_of<'a>(alloc: Global, argument: Argument) -> Arg<'a> {
         Argument::All => flag(alloc, "all", "Print all, and not only the first 20 rows"),
         Argument::Dead => flag(alloc, "dead", "Count the objects that are not live"),
         Argument::Raw => flag(alloc, "raw", "Print each step of the path"),
-    }
+        Argument::Depth => depth(alloc),
+        Argument::Min => min(alloc),
+        Argument::Folded => folded(alloc)?,
+        Argument::Svg => flag(alloc, "svg", "Print a drawing, as SVG").conflicts_with("json")?,
+    })
+}
+
+/// Returns the option with the number of levels of a tree.
+fn depth<'a>(alloc: Global) -> Arg<'a> {
+    Arg::new(alloc, "depth")
+        .long("depth")
+        .value_name("N")
+        .help("Print N levels below the first row, at most 100 [default: 4, or 12 with --svg]")
+        .action(ArgAction::Set)
+        .value_parser(ValueParser::unsigned(0, 100))
+}
+
+/// Returns the option with the least share of the live bytes that is a row of a tree.
+fn min<'a>(alloc: Global) -> Arg<'a> {
+    Arg::new(alloc, "min")
+        .long("min")
+        .value_name("PERCENT")
+        .help("Print rows of at least PERCENT of the live bytes [default: 1, or 0.2 with --svg]")
+        .action(ArgAction::Set)
+}
+
+/// Returns the option that asks for folded stacks.
+fn folded<'a>(alloc: Global) -> Result<Arg<'a>, AllocError> {
+    flag(
+        alloc,
+        "folded",
+        "Print folded stacks, which tools for flame graphs read",
+    )
+    .conflicts_with_all(&["svg", "json"])
 }
 
 /// Returns a required positional argument.

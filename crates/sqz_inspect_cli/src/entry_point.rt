@@ -74,7 +74,8 @@ fn answer_matches<T: Files + Threads + Sync, C: Sink, E: Sink>(
     };
     let arguments = match Arguments::of(alloc, name, matches) {
         Ok(arguments) => arguments,
-        Err(error) => return fail(&Fault::from(error), err),
+        Err(Failure::Faulty(fault)) => return fail(&fault, err),
+        Err(failure) => return explain_failure(&failure, "", err),
     };
     let answered = answer(
         rt,
@@ -104,6 +105,12 @@ fn explain_failure<E: Sink>(failure: &Failure, path: &str, err: &mut E) -> u8
             print(err, message.as_bytes());
             print(err, b"\n");
             BAD_IMAGE
+        }
+        Failure::BadWords(message) => {
+            print(err, b"sqzlook: ");
+            print(err, message.as_bytes());
+            print(err, b"\n");
+            BAD_ARGUMENTS
         }
     }
 }

@@ -10,6 +10,8 @@ pub(crate) enum Failure {
     Faulty(Fault),
     /// What is asked about is not there, or no image could be read.
     NotThere(String),
+    /// The command line is at fault.
+    BadWords(String),
 }
 
 impl From<Fault> for Failure {
