@@ -178,7 +178,8 @@ fn folded<'a>(alloc: Global) -> Result<Arg<'a>, AllocError> {
         "folded",
         "Print folded stacks, which tools for flame graphs read",
     )
-    .conflicts_with_all(&["svg", "json"])
+    .conflicts_with("svg")?
+    .conflicts_with("json")
 }
 
 /// Returns a required positional argument.
