@@ -4,13 +4,13 @@ and its drawings with a second implementation."""
 import functools
 import os
 import re
-import typing
 import unittest
 
 from tests.expected_answers import Answers
-from tests.expected_tree import VALUE, Tree, percent
+from tests.expected_tree import Tree, percent
+from tests.held_image import CLASSES, HELD_BYTES, HELD_OBJECTS, Appending
 from tests.looking import CLEAR, look, look_at_all, rows_of
-from tests.named_image import ARRAY, FIXED, ZERO, named_builder
+from tests.named_image import ARRAY, named_builder
 from tests.object_memory import Image
 from tests.test_dominators import random_files
 from tests.test_look_cases import KnownImageTest, answers_about
@@ -36,12 +36,7 @@ TEXTS = (b"one;two", b"<b title=\"x\">&amp;'", b"]]>", b"a\nb;c\x00", b"\xff\xfe
 # A line of text: retained bytes, percent, objects, and a label that is two spaces deeper a level.
 LINE = re.compile(r" *(\d+) +(\d+\.\d) +(\d+)   ((?:  )*)(\S.*)")
 VARIABLE = re.compile(r"class variable (\S+)")
-# The format of a bitmap.
-WORDS = 6
-# What a class variable is made to hold: an array of so many forms, with bitmaps of so many words,
-# and of two points.
-HELD_FORMS, BITMAP_WORDS = 1500, 660
-HOLDER, HELD_OBJECTS, HELD_BYTES = "HandMorph class variable PasteBuffer", 3003, 4_000_000
+HOLDER = "HandMorph class variable PasteBuffer"
 
 
 def trees_of(files):
@@ -179,48 +174,12 @@ class TextTest(KnownImageTest):
         return str(row.retained), share, str(row.objects), "  " * row.depth, row.label
 
 
-class Held(typing.NamedTuple):
-    """An image whose class variable holds much, and the address of the last form that it holds."""
-
-    image: Image
-    address: int
-
-
-class Appending:
-    """Appends objects to a copy of the words of an image. `classes` has classes by name."""
-
-    def __init__(self, image, classes):
-        self.image, self.words = image, image.words[:]
-        self.classes = {name: self.address(number) for name, number in classes.items()}
-
-    def address(self, number):
-        return self.image.address(self.image.objects[number])
-
-    def add(self, kind, name, *fields):
-        """Appends an object with a header of three words, and returns its address."""
-        self.words.extend((len(fields) + 1 << 2, self.classes[name], kind << 8, *fields))
-        return self.image.base + 4 * (len(self.words) - len(fields) - 1)
-
-    def held_by(self, number):
-        """The image in which the association of this number has a value of 4 MB."""
-        forms = [
-            self.add(FIXED, "Form", self.add(WORDS, "Bitmap", *[0] * BITMAP_WORDS), *[ZERO] * 4)
-            for _ in range(HELD_FORMS)
-        ]
-        points = [self.add(FIXED, "Point", ZERO, ZERO) for _ in range(2)]
-        place = self.image.objects[number].base + 1 + VALUE
-        self.words[place] = self.add(ARRAY, "Array", *forms, *points)
-        image = Image(self.image.header, self.words, self.image.order, self.image.prefix)
-        return Held(Image.read(image.file())[0], forms[-1])
-
-
 class HeldTest(TopTest, KnownImageTest):
     """The known image, in which a class variable was made to hold 4 MB."""
 
     def setUp(self):
         super().setUp()
-        names = self.names
-        classes = {name: self.class_named(name) for name in ("Form", "Bitmap", "Point", "Array")}
+        names, classes = self.names, {name: self.class_named(name) for name in CLASSES}
         (holder,) = (number for number, name in names.variables.items() if name == HOLDER)
         self.held = Appending(self.image, classes).held_by(holder)
         self.holder = names.address(holder)
