@@ -7,7 +7,7 @@ pub mod ReferrerLemmas
 pub mod AllDefectLemmas
 pub mod DominatorLemmas
 pub mod TreeLemmas
-pub mod OrderLemmas
+pub mod GrowLemmas
 pub mod ImmediateLemmas
 pub mod TotalLemmas
 pub mod ObjectSumLemmas
