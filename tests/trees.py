@@ -1,11 +1,14 @@
 """Compares what `sqzlook top` prints with what is expected of the tree of an image."""
 
+import re
 import typing
 
 from tests.drawing import Drawing, contrast_with_black
 from tests.expected_tree import Tree, folded, percent
 from tests.looking import LookTest, difference, look_at_all, rows_of
 
+# The words with which a label says what it names.
+KIND = re.compile("^(class variable|class|Smalltalk at:) ")
 # What a box may be off by, in pixels.
 ROUNDED = 0.03
 # The least contrast ratio of a text that is read well.
@@ -108,12 +111,13 @@ class TopTest(LookTest):
             line[row.depth :] = [box]
 
     def check_text(self, drawing, row, box):
-        """The text in a box is its label, or the beginning of it."""
+        """The text in a box is its label, or in a narrow one the beginning of its name."""
         for text in box.texts:
-            shown = text.text
-            if shown != row.label:
+            shown, name = text.text, KIND.sub("", row.label)
+            if shown not in (row.label, name):
+                self.assertIsNotNone(row.number, shown)
                 self.assertTrue(shown.endswith(".."), shown)
-                self.assertTrue(row.label.startswith(shown.removesuffix("..")), shown)
+                self.assertTrue(name.startswith(shown.removesuffix("..")), shown)
             left = float(text.get("x"))
             self.assertTrue(box.left <= left, box)
             self.assertTrue(left + drawing.narrowest(shown) <= box.right, box)

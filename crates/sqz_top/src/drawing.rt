@@ -18,6 +18,9 @@ const CHARACTER: u64 = 640;
 /// The space left and right of a label together, in hundredths of a pixel.
 const MARGIN: u64 = 600;
 
+/// The words with which labels say what they name.
+const KINDS: [&str; 3] = ["class variable ", "class ", "Smalltalk at: "];
+
 /// A label that is cut to fewer characters says nothing.
 const FEWEST: usize = 4;
 
@@ -106,11 +109,8 @@ fn fill_of(inspector: &Inspector<'_>, row: &Row) -> Result<&'static str, AllocEr
 /// Returns the text in a box: as much of the label as there is room for.
 fn box_text(alloc: Global, row: &Row, span: Span) -> Result<String, AllocError> {
     let room = span.width.saturating_sub(MARGIN) / CHARACTER;
-    let label = cut(
-        alloc,
-        row.label.as_str(),
-        usize::try_from(room).unwrap_or(0),
-    )?;
+    let room = usize::try_from(room).unwrap_or(0);
+    let label = cut(alloc, fitting(row, room), room)?;
     if label.is_empty() {
         return Ok(label);
     }
@@ -118,6 +118,24 @@ fn box_text(alloc: Global, row: &Row, span: Span) -> Result<String, AllocError> 
     let left = pixels(alloc, span.left.saturating_add(MARGIN / 2))?;
     let bottom = top_of(row).saturating_add(13);
     format!(in alloc; "<text x=\"{left}\" y=\"{bottom}\">{label}</text>")
+}
+
+/// Returns the label of a row; if there is no room for it, its name without the words that say what
+/// is named, and nothing for a row that stands for several objects: part of a number misleads.
+fn fitting(row: &Row, room: usize) -> &str {
+    let label = row.label.as_str();
+    if label.chars().count() <= room {
+        return label;
+    }
+    if row.object.is_none() {
+        return "";
+    }
+    for kind in KINDS {
+        if let Some(name) = label.strip_prefix(kind) {
+            return name;
+        }
+    }
+    label
 }
 
 /// Returns the first characters of a label and `..`, at most `room` characters together; the whole
