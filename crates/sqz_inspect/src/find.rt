@@ -11,7 +11,7 @@ use sqz_image::Fault;
 use sqz_object::{Address, ObjectIndex};
 use std::alloc::AllocError;
 
-/// An address has at most so many hexadecimal digits.
+/// The maximum number of hexadecimal digits of an address.
 const MOST_DIGITS: usize = 8;
 
 /// What a word stands for, or why it stands for nothing.

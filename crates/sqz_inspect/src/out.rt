@@ -8,10 +8,10 @@ use serde::Serialize;
 use sqz_image::{Fault, Sink, write_all};
 use std::alloc::{AllocError, Global};
 
-/// A list stops at so many rows in the text form, unless all are asked for.
+/// The maximum number of rows of a list in the text form, unless all are requested.
 const MOST_ROWS: usize = 20;
 
-/// The text is passed on in pieces of about so many bytes.
+/// The size in bytes at which buffered text is written to the sink.
 const PIECE: usize = 65536;
 
 /// The form in which answers are printed.
@@ -97,7 +97,7 @@ impl<'a, C: Sink> Out<'a, C> {
         self.line(rest.as_str())
     }
 
-    /// Passes on all that was printed.
+    /// Writes the buffered text to the sink.
     pub fn flush(&mut self) -> Result<(), Fault>
         ensures refused { IfErr result IsPrintFault }
     {

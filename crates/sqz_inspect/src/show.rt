@@ -18,7 +18,7 @@ use sqz_object::ObjectIndex;
 use sqz_paths::dominators_of;
 use std::alloc::AllocError;
 
-/// The text form shows at most so many bytes of a byte object, unless all are asked for.
+/// The maximum number of bytes of a byte object in the text form, unless all are requested.
 const MOST_BYTES: usize = 400;
 
 /// An object as JSON.

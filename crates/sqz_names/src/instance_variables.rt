@@ -12,7 +12,7 @@ const SUPERCLASS: u32 = 0;
 /// The field of a class that points to the array of the names of its instance variables.
 const VARIABLES: u32 = 3;
 
-/// A class has at most so many superclasses, counting itself; the rest is not followed.
+/// The maximum number of classes that are followed from a class up, counting the class itself.
 const MOST_CLASSES: u32 = 100;
 
 impl Names<'_> {

@@ -9,7 +9,7 @@ use crate::variables::{GLOBALS, dictionary_of};
 use sqz_object::{ObjectIndex, base_of};
 use std::alloc::AllocError;
 
-/// A label has at most so many bytes of a string, symbol, key or selector.
+/// The maximum number of bytes of a string, symbol, key or selector in a label.
 const MOST_BYTES: usize = 40;
 
 /// The format of objects that have indexed fields alone.

@@ -21,7 +21,7 @@ const MARGIN: u64 = 600;
 /// The words with which labels say what they name.
 const KINDS: [&str; 3] = ["class variable ", "class ", "Smalltalk at: "];
 
-/// A label that is cut to fewer characters says nothing.
+/// The minimum number of characters of a label that is cut: a shorter one says nothing.
 const FEWEST: usize = 4;
 
 /// Prints rows as an icicle drawing. Fails only with `WriteFailed` or `OutOfMemory`.

@@ -2,10 +2,12 @@
 
 use crate::percent::{LEAST_BOX, LEAST_ROW, Percent};
 
-/// Rows end so many levels below the special objects array, unless another depth is asked for.
+/// The maximum depth of rows, in levels below the special objects array, unless another is
+/// requested.
 const ROW_DEPTH: u32 = 4;
 
-/// The same of the boxes of a drawing.
+/// The maximum depth of the boxes of a drawing, in levels below the special objects array, unless
+/// another is requested.
 const BOX_DEPTH: u32 = 12;
 
 /// No row is deeper than this.
@@ -42,8 +44,8 @@ pub(crate) struct Limits {
 }
 
 impl TopOptions {
-    /// Returns the bounds of the rows of a tree with so many live bytes. A drawing has no box that
-    /// is too narrow to be seen.
+    /// Returns the bounds of the rows of a tree that retains `live` bytes. A drawing has no box
+    /// that is too narrow to be seen.
     pub(crate) fn limits(self, live: u64) -> Limits {
         let is_drawing = self.form == TopForm::Drawing;
         let usual = if is_drawing { BOX_DEPTH } else { ROW_DEPTH };

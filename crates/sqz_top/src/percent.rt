@@ -1,9 +1,9 @@
 //! Percentages.
 
-/// A percentage is counted in so many parts of a percent.
+/// The number of parts into which a percent is divided.
 const PARTS: u32 = 1_000_000;
 
-/// The digits after the point that make such a part.
+/// The maximum number of digits after the point of a percentage: `PARTS` is 10 to this power.
 const DECIMALS: usize = 6;
 
 /// A percentage from 0 to 100, in millionths of a percent.
