@@ -5,7 +5,7 @@ use crate::escape::push_escaped;
 use crate::fields::field_target;
 use crate::names::Names;
 use crate::role::Role;
-use crate::variables::{GLOBALS, dictionary_of};
+use crate::variables::GLOBALS;
 use sqz_object::{ObjectIndex, base_of};
 use std::alloc::AllocError;
 
@@ -93,15 +93,6 @@ impl Names<'_> {
     /// text of any other object is empty.
     pub fn text(&self, object: ObjectIndex) -> Result<String, AllocError> {
         self.shown(object, "", false)
-    }
-
-    /// Returns the dictionary that holds the association of a variable.
-    pub fn dictionary_of(&self, role: Role) -> Option<ObjectIndex> {
-        match role {
-            Role::Global { .. } => dictionary_of(self.heap, None),
-            Role::ClassVariable { class, .. } => dictionary_of(self.heap, Some(class)),
-            _ => None,
-        }
     }
 
     /// Returns the first bytes of a string in quotes. A quote in it is doubled.

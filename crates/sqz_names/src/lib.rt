@@ -19,3 +19,4 @@ pub use escape::escaped;
 pub use fields::{field_target, fixed_fields};
 pub use names::Names;
 pub use role::Role;
+pub use variables::{VALUE, Variable};

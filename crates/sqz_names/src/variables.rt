@@ -2,6 +2,8 @@
 
 use crate::bytes::has_bytes;
 use crate::fields::field_target;
+use crate::names::Names;
+use crate::role::Role;
 use sqz_image::Heap;
 use sqz_object::ObjectIndex;
 use std::alloc::AllocError;
@@ -18,12 +20,50 @@ const ASSOCIATIONS: u32 = 1;
 /// The field of an association that points to its key.
 const KEY: u32 = 0;
 
+/// The field of an association that points to its value.
+pub const VALUE: u32 = 1;
+
 /// An association of a global variable, or of a class variable of `class`.
 #[derive(Clone, Copy, Debug, PartialEq, Eq)]
 pub(crate) struct VariableName {
     pub(crate) association: ObjectIndex,
     pub(crate) class: Option<ObjectIndex>,
     pub(crate) key: ObjectIndex,
+}
+
+/// A global or a class variable: what holds its association, and its value.
+#[derive(Clone, Copy, Debug, PartialEq, Eq)]
+pub struct Variable {
+    /// The dictionary that the association is in.
+    pub dictionary: ObjectIndex,
+    /// The array that the dictionary keeps its associations in.
+    pub array: Option<ObjectIndex>,
+    /// The object that the association points to as its value.
+    pub value: Option<ObjectIndex>,
+}
+
+impl Names<'_> {
+    /// Returns the variable whose association an object is. None if its role is not that of a
+    /// global or a class variable.
+    pub fn variable(&self, association: ObjectIndex) -> Result<Option<Variable>, AllocError> {
+        if self.variable_name(association).is_none() {
+            // the role of an object takes longer to find
+            return Ok(None);
+        }
+        let class = match self.role(association)? {
+            Role::Global { .. } => None,
+            Role::ClassVariable { class, .. } => Some(class),
+            _ => return Ok(None),
+        };
+        let Some(dictionary) = dictionary_of(self.heap, class) else {
+            return Ok(None);
+        };
+        Ok(Some(Variable {
+            dictionary,
+            array: field_target(self.heap, dictionary, ASSOCIATIONS),
+            value: field_target(self.heap, association, VALUE),
+        }))
+    }
 }
 
 /// Returns the dictionary of the global variables, or of the class variables of `class`.
