@@ -109,6 +109,7 @@ impl<'a, C: Sink> Out<'a, C> {
 
 /// Returns the line that says how many rows are not printed.
 fn rest_line(alloc: Global, hidden: usize, what: &str) -> Result<String, AllocError> {
-    let more = counted(alloc, hidden, what)?;
-    format!(in alloc; "... {more} more; --all prints each")
+    let noun = format!(in alloc; "more {what}")?;
+    let more = counted(alloc, hidden, noun.as_str())?;
+    format!(in alloc; "... {more}; --all prints all")
 }

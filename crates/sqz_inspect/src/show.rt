@@ -200,7 +200,7 @@ fn print_text<C: Sink>(
     out.line(line.as_str())?;
     if shown.len() < count {
         let line = format!(in alloc;
-            "... cut after {} of {count} bytes; --all prints each",
+            "... cut after {} of {count} bytes; --all prints all",
             shown.len()
         )?;
         out.line(line.as_str())?;

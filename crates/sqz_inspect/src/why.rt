@@ -215,8 +215,8 @@ fn print_path<C: Sink>(
     let cut = out.is_cut() && count > 2 * HALF;
     for (index, line) in lines.iter().enumerate() {
         if cut && index == HALF {
-            let hidden = counted(inspector.alloc, count.saturating_sub(2 * HALF), "row")?;
-            let line = format!(in inspector.alloc; "  ... {hidden} more; --all prints each")?;
+            let hidden = counted(inspector.alloc, count.saturating_sub(2 * HALF), "more row")?;
+            let line = format!(in inspector.alloc; "  ... {hidden}; --all prints all")?;
             out.line(line.as_str())?;
         }
         if !cut || index < HALF || count.saturating_sub(index) <= HALF {
