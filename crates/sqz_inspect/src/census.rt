@@ -10,7 +10,6 @@ use serde::Serialize;
 use sqz_census::{Group, GroupTotal, compact_name, histogram};
 use sqz_facts::complement;
 use sqz_image::{Fault, Sink};
-use sqz_trace::Marks;
 use std::alloc::AllocError;
 use std::thread::Threads;
 

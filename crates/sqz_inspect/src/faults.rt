@@ -1,15 +1,13 @@
 //! A fault, and where it is.
 
 use crate::inspector::Inspector;
+use crate::opening::HEADER_SIZE;
 use crate::texts::{digits, digits_if};
 use serde::Serialize;
 use sqz_facts::slot_facts;
 use sqz_image::{Fault, Heap, Slot};
 use sqz_object::{Address, ObjectIndex, WordIndex};
 use std::alloc::{AllocError, Global};
-
-/// The size of the header of an image in bytes.
-const HEADER_SIZE: u64 = 64;
 
 /// A fault, and where it is.
 #[derive(Drop)]
@@ -55,7 +53,7 @@ impl FaultReport {
             Fault::BadPointer { slot, .. } => Some(slot),
             _ => None,
         };
-        let before = inspector.image.prefix().len() as u64 + HEADER_SIZE;
+        let before = inspector.image.prefix().len() as u64 + HEADER_SIZE as u64;
         report.byte = Some(before + 4 * u64::from(word_of(heap, object, slot)));
         if let Some(slot) = slot {
             report.detail = pointer_detail(inspector, object, slot)?;

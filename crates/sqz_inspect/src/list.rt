@@ -9,7 +9,8 @@ use crate::out::Out;
 use crate::texts::{counted, digits};
 use serde::Serialize;
 use sqz_census::Group;
-use sqz_image::{Fault, Heap, Sink};
+use sqz_facts::file_facts;
+use sqz_image::{Fault, Sink};
 use sqz_object::base_of;
 use sqz_paths::{Dominators, Member, dominators_of, members_of};
 use sqz_trace::{Marks, class_of, reachable_without};
@@ -138,16 +139,7 @@ fn retained_together(inspector: &Inspector<'_>, members: &[Member]) -> Result<u6
     }
     let set = Marks::listed(alloc, heap, &objects)?;
     let others = reachable_without(alloc, heap, inspector.weak, &set)?;
-    Ok(marked_bytes(heap, &inspector.marks).saturating_sub(marked_bytes(heap, &others)))
-}
-
-/// Returns the bytes of the marked objects.
-fn marked_bytes(heap: &Heap, marks: &Marks) -> u64 {
-    let mut bytes = 0u64;
-    for object in 0..heap.len() {
-        if marks.has(object) {
-            bytes = bytes.saturating_add(4 * u64::from(heap.chunk_length(object)));
-        }
-    }
-    bytes
+    let live = file_facts(inspector.image, &inspector.marks).live_bytes;
+    let not_retained = file_facts(inspector.image, &others).live_bytes;
+    Ok(live.saturating_sub(not_retained))
 }

@@ -2,14 +2,11 @@
 
 use crate::faults::FaultReport;
 use crate::opening::{HEADER_SIZE, Header, Opening};
-use sqz_image::Fault;
+use sqz_image::{DATA_SIZE_WORD, Fault};
 use sqz_object::{Address, Kind, WordIndex, Words, chunk_in};
 use std::alloc::{AllocError, Global};
 
-/// The header words with the size of the data in bytes, the address of the first data word, and
-/// that of the special objects array.
-pub(crate) const DATA_SIZE_WORD: usize = 2;
-
+/// The header words with the address of the first data word, and that of the special objects array.
 pub(crate) const BASE_WORD: usize = 3;
 
 pub(crate) const SPECIAL_WORD: usize = 4;
