@@ -1,7 +1,8 @@
 //! Whether an image is sound.
 
-ghost use Rattle.std.specs.Prelude.{IfErr, ◌≡◌};
+ghost use Rattle.std.specs.Prelude.{IfErr, IfOk, IsTrue, ◌≡◌, ◌↔◌};
 ghost use Rattle.sqz_image.specs.declared.fault.Fault.TheVariants.{OutOfMemory};
+ghost use Rattle.sqz_facts.specs.Faults.{first_fault};
 ghost use Rattle.sqz_inspect.specs.Failures.{IsPrintFault};
 
 use crate::faults::{FaultReport, FaultRow};
@@ -28,7 +29,8 @@ struct CheckRow<'a> {
 }
 
 /// Prints whether an image is sound: its first fault, or all if `all`, or its objects and live
-/// bytes. Returns whether it is sound. Fails only with `WriteFailed` or `OutOfMemory`.
+/// bytes. Returns whether it is sound: whether there is no fault for which a compaction rejects it.
+/// Fails only with `WriteFailed` or `OutOfMemory`.
 pub fn print_check<C: Sink>(
     rt: &(impl Threads + Sync),
     inspector: &Inspector<'_>,
@@ -37,32 +39,17 @@ pub fn print_check<C: Sink>(
     out: &mut Out<'_, C>,
 ) -> Result<bool, Fault>
     ensures refused { IfErr result IsPrintFault }
+    ensures sound { IfOk result (λ sound. IsTrue sound ↔ (first_fault
+        inspector.now.heap.now inspector.now.weak inspector.now.marks ≡ None)) }
 {
-    let alloc = inspector.alloc;
-    let facts = file_facts(inspector.image, &inspector.marks);
-    let mut reports = Vec::new(alloc);
-    for fault in &faults(rt, inspector, all)? {
-        reports.push(FaultReport::in_image(inspector, *fault)?)?;
-    }
-    let is_sound = reports.is_empty();
-    if out.is_json() {
-        let row = CheckRow {
-            image: path,
-            sound: is_sound,
-            objects: Some(facts.objects),
-            live_bytes: Some(facts.live_bytes),
-            faults: fault_rows(alloc, &reports)?,
-        };
-        out.json(&row)?;
-    } else if is_sound {
-        let objects = counted(alloc, facts.objects as usize, "object")?;
-        let bytes = facts.live_bytes;
-        let line = format!(in alloc; "{path}: sound, {objects}, {bytes} bytes live")?;
-        out.line(line.as_str())?;
+    let first = first_fault(rt, inspector.heap, inspector.weak, &inspector.marks);
+    let faults = if all {
+        all_faults(inspector)?
     } else {
-        print_faults(alloc, path, &reports, out)?;
-    }
-    Ok(is_sound)
+        listed(inspector.alloc, first)?
+    };
+    print_found(inspector, path, &faults, out)?;
+    Ok(first.is_none())
 }
 
 /// Prints that no image could be read from a file, and why. Fails only with `WriteFailed` or
@@ -125,25 +112,62 @@ fn print_unread<C: Sink>(
     out.json(&row)
 }
 
-/// Returns the first fault of an image, or all of them.
-fn faults(
-    rt: &(impl Threads + Sync),
-    inspector: &Inspector<'_>,
-    all: bool,
-) -> Result<Vec<Fault>, Fault>
+/// Returns all faults of an image.
+fn all_faults(inspector: &Inspector<'_>) -> Result<Vec<Fault>, Fault>
     ensures { IfErr result (λ fault. fault ≡ OutOfMemory) }
 {
     let (alloc, heap, weak) = (inspector.alloc, inspector.heap, inspector.weak);
     let mut faults = Vec::new(alloc);
-    if all {
-        if lacks_nil(heap, weak) {
-            faults.push(Fault::NoNil)?;
-        }
-        faults.extend_from_slice(&defects_of(alloc, heap, weak, &inspector.marks)?)?;
-    } else if let Some(fault) = first_fault(rt, heap, weak, &inspector.marks) {
+    if lacks_nil(heap, weak) {
+        faults.push(Fault::NoNil)?;
+    }
+    faults.extend_from_slice(&defects_of(alloc, heap, weak, &inspector.marks)?)?;
+    Ok(faults)
+}
+
+/// Returns the first fault of an image as a list, which is empty if there is none.
+fn listed(alloc: Global, first: Option<Fault>) -> Result<Vec<Fault>, Fault>
+    ensures { IfErr result (λ fault. fault ≡ OutOfMemory) }
+{
+    let mut faults = Vec::new(alloc);
+    if let Some(fault) = first {
         faults.push(fault)?;
     }
     Ok(faults)
+}
+
+/// Prints these faults of an image, or that it is sound if there are none.
+fn print_found<C: Sink>(
+    inspector: &Inspector<'_>,
+    path: &str,
+    faults: &[Fault],
+    out: &mut Out<'_, C>,
+) -> Result<(), Fault>
+    ensures { IfErr result IsPrintFault }
+{
+    let alloc = inspector.alloc;
+    let facts = file_facts(inspector.image, &inspector.marks);
+    let mut reports = Vec::new(alloc);
+    for fault in faults {
+        reports.push(FaultReport::in_image(inspector, *fault)?)?;
+    }
+    if out.is_json() {
+        let row = CheckRow {
+            image: path,
+            sound: reports.is_empty(),
+            objects: Some(facts.objects),
+            live_bytes: Some(facts.live_bytes),
+            faults: fault_rows(alloc, &reports)?,
+        };
+        return out.json(&row);
+    }
+    if !reports.is_empty() {
+        return print_faults(alloc, path, &reports, out);
+    }
+    let objects = counted(alloc, facts.objects as usize, "object")?;
+    let bytes = facts.live_bytes;
+    let line = format!(in alloc; "{path}: sound, {objects}, {bytes} bytes live")?;
+    out.line(line.as_str())
 }
 
 /// Returns faults as JSON.

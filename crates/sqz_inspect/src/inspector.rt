@@ -3,6 +3,7 @@
 ghost use Rattle.std.specs.Prelude.{IfErr, length, ◌≡◌};
 ghost use Rattle.sqz_image.specs.Objects.{object_count};
 ghost use Rattle.sqz_image.specs.declared.fault.Fault.TheVariants.{OutOfMemory};
+ghost use Rattle.sqz_trace.specs.Reachability.{IsReachability};
 
 use sqz_image::{Fault, Heap, Image};
 use sqz_names::Names;
@@ -22,6 +23,7 @@ pub struct Inspector<'a> {
     pub names: Names<'a>,
     ghost one_heap: { heap.now ≡ image.now.memory },
     ghost one_each: { length marks ≡ object_count heap.now },
+    ghost live: { ∥ IsReachability heap.now weak marks ∥₁ },
 }
 
 impl<'a> Inspector<'a> {
