@@ -1,7 +1,9 @@
 //! What the words of a command line stand for.
 
-ghost use Rattle.std.specs.Prelude.{IfErr, ◌≡◌};
+ghost use Rattle.std.specs.Prelude.{Contains, IfErr, IfOk, ◌≡◌, ◌<◌};
+ghost use Rattle.sqz_image.specs.Objects.{object_count};
 ghost use Rattle.sqz_image.specs.declared.fault.Fault.TheVariants.{OutOfMemory};
+ghost use Rattle.sqz_inspect.specs.Found.{IfOne};
 
 use crate::inspector::Inspector;
 use crate::texts::digits;
@@ -25,6 +27,8 @@ pub enum Found<T> {
 /// Returns the object that a word stands for: an address in hexadecimal digits after `0x`, else a
 /// class or a method by its name, else an address without `0x`. Fails only if out of memory.
 pub fn find_object(inspector: &Inspector<'_>, word: &str) -> Result<Found<ObjectIndex>, Fault>
+    ensures inside { IfOk result (λ found.
+        IfOne found (λ object. object < object_count inspector.now.heap.now)) }
     ensures refused { IfErr result (λ fault. fault ≡ OutOfMemory) }
 {
     if let Some(address) = explicit_address(word) {
@@ -105,7 +109,8 @@ fn the_one(
     name: &str,
     objects: &[ObjectIndex],
 ) -> Result<Found<ObjectIndex>, Fault>
-    ensures { IfErr result (λ fault. fault ≡ OutOfMemory) }
+    ensures only { IfOk result (λ found. IfOne found (Contains objects.now)) }
+    ensures refused { IfErr result (λ fault. fault ≡ OutOfMemory) }
 {
     let mut live = Vec::new(inspector.alloc);
     for object in objects {
@@ -135,7 +140,9 @@ fn ambiguous(
 
 /// Returns the object with an address, or what is there instead.
 fn object_at(inspector: &Inspector<'_>, address: Address) -> Result<Found<ObjectIndex>, Fault>
-    ensures { IfErr result (λ fault. fault ≡ OutOfMemory) }
+    ensures inside { IfOk result (λ found.
+        IfOne found (λ object. object < object_count inspector.now.heap.now)) }
+    ensures refused { IfErr result (λ fault. fault ≡ OutOfMemory) }
 {
     let alloc = inspector.alloc;
     let what = match site_of(inspector.heap, address) {

@@ -22,6 +22,7 @@ pub struct Inspector<'a> {
     pub marks: Marks,
     pub names: Names<'a>,
     ghost one_heap: { heap.now ≡ image.now.memory },
+    ghost same_heap: { names.heap.now ≡ heap.now },
     ghost one_each: { length marks ≡ object_count heap.now },
     ghost live: { ∥ IsReachability heap.now weak marks ∥₁ },
 }

@@ -1,6 +1,7 @@
 //! What a name stands for.
 
-ghost use Rattle.std.specs.Prelude.{◌≡◌, IfErr};
+ghost use Rattle.std.specs.Prelude.{◌≡◌, ◌<◌, All, IfErr, IfOk, IsTrue};
+ghost use Rattle.sqz_image.specs.Objects.{object_count};
 ghost use Rattle.sqz_image.specs.declared.fault.Fault.TheVariants.{OutOfMemory};
 
 use crate::bytes::all_bytes;
@@ -14,6 +15,8 @@ impl Names<'_> {
     /// Returns the classes with this name, by address. A metaclass is named `NAME class`. Fails
     /// only if out of memory.
     pub fn classes_named(&self, name: &str) -> Result<Vec<ObjectIndex>, Fault>
+        ensures inside { IfOk result (λ found.
+            All (λ class. class < object_count self.now.heap.now) found.items) }
         ensures refused { IfErr result (λ fault. fault ≡ OutOfMemory) }
     {
         let mut found = Vec::new(self.alloc);
@@ -28,6 +31,8 @@ impl Names<'_> {
     /// Returns the methods with this name, as `Point>>x:y:`, by address. Fails only if out of
     /// memory.
     pub fn methods_named(&self, name: &str) -> Result<Vec<ObjectIndex>, Fault>
+        ensures inside { IfOk result (λ found.
+            All (λ method. method < object_count self.now.heap.now) found.items) }
         ensures refused { IfErr result (λ fault. fault ≡ OutOfMemory) }
     {
         let mut found = Vec::new(self.alloc);
@@ -45,9 +50,11 @@ impl Names<'_> {
 
     /// Returns whether a method is the one of this class under this selector.
     fn is_named(&self, method: &MethodName, class: &str, selector: &str) -> Result<bool, Fault>
-        ensures { IfErr result (λ fault. fault ≡ OutOfMemory) }
+        ensures inside { IfOk result (λ is_named.
+            IsTrue is_named → method.now.method < object_count self.now.heap.now) }
+        ensures refused { IfErr result (λ fault. fault ≡ OutOfMemory) }
     {
-        if method.selector >= self.heap.len() {
+        if method.method >= self.heap.len() || method.selector >= self.heap.len() {
             return Ok(false);
         }
         let chunk = self.heap.object(method.selector);

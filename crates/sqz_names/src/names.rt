@@ -1,6 +1,6 @@
 //! All names of an image.
 
-ghost use Rattle.std.specs.Prelude.{◌≡◌, ◌<◌, IfErr, IfSome};
+ghost use Rattle.std.specs.Prelude.{◌≡◌, ◌<◌, IfErr, IfOk, IfSome};
 ghost use Rattle.sqz_image.specs.declared.fault.Fault.TheVariants.{OutOfMemory};
 ghost use Rattle.sqz_image.specs.Objects.{object_count};
 
@@ -24,7 +24,8 @@ const NAME: u32 = 6;
 #[derive(Drop)]
 pub struct Names<'a> {
     pub(crate) alloc: Global,
-    pub(crate) heap: &'a Heap,
+    /// The objects of the image.
+    pub heap: &'a Heap,
     pub(crate) weak: Weak,
     /// For each object whether it is a class.
     pub(crate) classes: Vec<bool>,
@@ -38,6 +39,7 @@ impl<'a> Names<'a> {
     /// Returns the names of an image. An object is a class if it is the class of a marked object,
     /// or the instance of a metaclass, with a name of its own. Fails only if out of memory.
     pub fn of(alloc: Global, heap: &'a Heap, weak: Weak, marks: &Marks) -> Result<Self, Fault>
+        ensures heap { IfOk result (λ names. names.heap.now ≡ heap.now) }
         ensures refused { IfErr result (λ fault. fault ≡ OutOfMemory) }
     {
         let classes = classes_in(alloc, heap, weak, marks)?;
