@@ -44,11 +44,15 @@ fn answer_about_one<T: Files + Threads + Sync, C: Sink>(
 ) -> Result<u8, Failure>
     ensures exit { IfOk result (λ exit. exit ≤ 3) }
 {
-    let path = arguments.image();
+    let Some(path) = arguments.image() else {
+        // clap accepts one image for these questions
+        let message = String::from_str(alloc, "this command takes one IMAGE")?;
+        return Err(Failure::BadWords(message));
+    };
     match load(rt, alloc, path)? {
         Loaded::Image(image) => {
             let inspector = Inspector::of(alloc, &image, arguments.weak)?;
-            answer_about_image(rt, &inspector, arguments, out)?;
+            answer_about_image(rt, &inspector, arguments, path, out)?;
             Ok(DONE)
         }
         Loaded::Unreadable(unreadable) if arguments.question == Question::Info => {
@@ -64,12 +68,11 @@ fn answer_about_image<T: Threads + Sync, C: Sink>(
     rt: &T,
     inspector: &Inspector<'_>,
     arguments: &Arguments<'_>,
+    path: &str,
     out: &mut Out<'_, C>,
 ) -> Result<(), Failure> {
     match arguments.question {
-        Question::Check | Question::Info => {
-            print_info(rt, inspector, arguments.image(), out)?;
-        }
+        Question::Check | Question::Info => print_info(rt, inspector, path, out)?,
         Question::Census if arguments.dead => print_dead_census(rt, inspector, out)?,
         Question::Census => print_census(rt, inspector, out)?,
         Question::List => match find_class(inspector, arguments.subject.as_str())? {

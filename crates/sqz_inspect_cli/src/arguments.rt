@@ -64,10 +64,12 @@ impl<'a> Arguments<'a> {
         })
     }
 
-    /// Returns the path of the only image.
-    pub(crate) fn image(&self) -> &'a str {
-        // words without a path were rejected before
-        self.images.first().map_or("", |path| *path)
+    /// Returns the path of the image, if there is only one.
+    pub(crate) fn image(&self) -> Option<&'a str> {
+        match self.images.as_slice() {
+            [path] => Some(*path),
+            _ => None,
+        }
     }
 }
 

@@ -1,6 +1,7 @@
 //! Whether images are sound.
 
-ghost use Rattle.std.specs.Prelude.{◌≤◌, IfOk};
+ghost use Rattle.std.specs.Prelude.{◌≡◌, ◌≤◌, ◌↔◌, IfOk};
+ghost use Rattle.sqz_facts.specs.Faults.{first_fault};
 
 use crate::arguments::Arguments;
 use crate::loading::{Loaded, load};
@@ -11,8 +12,8 @@ use std::alloc::Global;
 use std::rt::Files;
 use std::thread::Threads;
 
-/// Prints whether the images in some files are sound, and returns the exit: that of the worst
-/// image. Fails with `WriteFailed`, or `OutOfMemory`.
+/// Prints whether the images in some files are sound, each before the next is read, and returns the
+/// exit: that of the worst image. Fails with `WriteFailed`, or `OutOfMemory`.
 pub(crate) fn check_all<T: Files + Threads + Sync, C: Sink>(
     rt: &T,
     alloc: Global,
@@ -24,6 +25,8 @@ pub(crate) fn check_all<T: Files + Threads + Sync, C: Sink>(
     let mut exit = DONE;
     for path in &arguments.images {
         exit = exit.max(check_one(rt, alloc, arguments, path, out)?);
+        // what was found of this image is not lost if memory runs out at a later one
+        out.flush()?;
     }
     Ok(exit)
 }
@@ -41,8 +44,7 @@ fn check_one<T: Files + Threads + Sync, C: Sink>(
     match load(rt, alloc, path) {
         Ok(Loaded::Image(image)) => {
             let inspector = Inspector::of(alloc, &image, arguments.weak)?;
-            let is_sound = print_check(rt, &inspector, path, arguments.all, out)?;
-            Ok(if is_sound { DONE } else { BAD_IMAGE })
+            check_image(rt, &inspector, path, arguments.all, out)
         }
         Ok(Loaded::Unreadable(unreadable)) => {
             print_check_unreadable(alloc, &unreadable, path, out)?;
@@ -54,4 +56,20 @@ fn check_one<T: Files + Threads + Sync, C: Sink>(
         }
         Err(fault) => Err(fault),
     }
+}
+
+/// Prints whether an image is sound, and returns the exit.
+fn check_image<T: Threads + Sync, C: Sink>(
+    rt: &T,
+    inspector: &Inspector<'_>,
+    path: &str,
+    all: bool,
+    out: &mut Out<'_, C>,
+) -> Result<u8, Fault>
+    ensures exit { IfOk result (λ exit. exit ≤ BAD_IMAGE) }
+    ensures sound { IfOk result (λ exit. (exit ≡ DONE) ↔ (first_fault
+        inspector.now.heap.now inspector.now.weak inspector.now.marks ≡ None)) }
+{
+    let is_sound = print_check(rt, inspector, path, all, out)?;
+    Ok(if is_sound { DONE } else { BAD_IMAGE })
 }

@@ -74,8 +74,7 @@ fn answer_matches<T: Files + Threads + Sync, C: Sink, E: Sink>(
     };
     let arguments = match Arguments::of(alloc, name, matches) {
         Ok(arguments) => arguments,
-        Err(Failure::Faulty(fault)) => return fail(&fault, err),
-        Err(failure) => return explain_failure(&failure, "", err),
+        Err(failure) => return explain_failure(&failure, None, err),
     };
     let answered = answer(
         rt,
@@ -89,8 +88,9 @@ fn answer_matches<T: Files + Threads + Sync, C: Sink, E: Sink>(
     }
 }
 
-/// Prints why there is no answer, and returns the exit.
-fn explain_failure<E: Sink>(failure: &Failure, path: &str, err: &mut E) -> u8
+/// Prints why there is no answer, with the path of the file that it is about if it is about one,
+/// and returns the exit.
+fn explain_failure<E: Sink>(failure: &Failure, path: Option<&str>, err: &mut E) -> u8
     ensures exits { result ≤ 4 }
     ensures failed { 0 < result }
 {
@@ -101,15 +101,11 @@ fn explain_failure<E: Sink>(failure: &Failure, path: &str, err: &mut E) -> u8
             refuse(fault, err)
         }
         Failure::NotThere(message) => {
-            print_names(path, err);
-            print(err, message.as_bytes());
-            print(err, b"\n");
+            print_message(path, message.as_str(), err);
             BAD_IMAGE
         }
         Failure::BadWords(message) => {
-            print(err, b"sqzlook: ");
-            print(err, message.as_bytes());
-            print(err, b"\n");
+            print_message(None, message.as_str(), err);
             BAD_ARGUMENTS
         }
     }
@@ -120,13 +116,22 @@ fn fail<E: Sink>(fault: &Fault, err: &mut E) -> u8
     ensures exits { result ≤ 4 }
     ensures failed { 0 < result }
 {
-    print(err, b"sqzlook: ");
+    print_names(None, err);
     refuse(fault, err)
 }
 
-/// Prints the names of the program and of the file, with which a line begins.
-fn print_names<E: Sink>(path: &str, err: &mut E) {
+/// Prints the line of a message.
+fn print_message<E: Sink>(path: Option<&str>, message: &str, err: &mut E) {
+    print_names(path, err);
+    print(err, message.as_bytes());
+    print(err, b"\n");
+}
+
+/// Prints the name of the program, and that of the file if there is one, with which a line begins.
+fn print_names<E: Sink>(path: Option<&str>, err: &mut E) {
     print(err, b"sqzlook: ");
-    print(err, path.as_bytes());
-    print(err, b": ");
+    if let Some(path) = path {
+        print(err, path.as_bytes());
+        print(err, b": ");
+    }
 }
