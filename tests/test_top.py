@@ -12,6 +12,7 @@ from tests.held_image import CLASSES, HELD_BYTES, HELD_OBJECTS, Appending
 from tests.looking import CLEAR, look, look_at_all, rows_of
 from tests.named_image import ARRAY, named_builder
 from tests.object_memory import Image
+from tests.running import ROOT
 from tests.test_dominators import random_files
 from tests.test_look_cases import KnownImageTest, answers_about
 from tests.test_look_real_image import NAME, RealImageTest
@@ -158,6 +159,9 @@ class TextTest(KnownImageTest):
             r" +574852 +10\.1 +13469 +class variable ScratchSkin\n",
         ):
             self.assertRegex(text, line)
+
+    def test_drawing_in_docs(self):
+        self.assertEqual(self.printed("top", "--svg"), (ROOT / "docs" / "top.svg").read_bytes())
 
     def test_lines(self):
         tree = tree_of(self.answers)
