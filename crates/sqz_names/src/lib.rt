@@ -17,6 +17,7 @@ mod variables;
 pub use bytes::{all_bytes, has_bytes};
 pub use escape::escaped;
 pub use fields::{field_target, fixed_fields};
+pub use methods::MethodName;
 pub use names::Names;
 pub use role::Role;
-pub use variables::{VALUE, Variable};
+pub use variables::{VALUE, Variable, VariableName};

@@ -18,10 +18,13 @@ const FIRST_SELECTOR: u32 = 2;
 
 /// A method of a class under a selector.
 #[derive(Clone, Copy, Debug, PartialEq, Eq)]
-pub(crate) struct MethodName {
-    pub(crate) method: ObjectIndex,
-    pub(crate) class: ObjectIndex,
-    pub(crate) selector: ObjectIndex,
+pub struct MethodName {
+    /// The compiled method.
+    pub method: ObjectIndex,
+    /// The class in whose method dictionary it is.
+    pub class: ObjectIndex,
+    /// The byte object with the characters of its selector.
+    pub selector: ObjectIndex,
 }
 
 /// Appends the methods of a class, in the order of its method dictionary.

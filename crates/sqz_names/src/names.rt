@@ -64,6 +64,18 @@ impl<'a> Names<'a> {
         })
     }
 
+    /// Returns the methods of all classes, by the address of the method. A method that several
+    /// classes or selectors have occurs once for each.
+    pub fn methods(&self) -> &[MethodName] {
+        &self.methods
+    }
+
+    /// Returns the global variables and the class variables, by the address of the association. An
+    /// association that is in several dictionaries occurs once for each.
+    pub fn variables(&self) -> &[VariableName] {
+        &self.variables
+    }
+
     /// Returns whether the object is a class.
     pub fn is_class(&self, object: ObjectIndex) -> bool {
         self.classes.get(object as usize) == Some(&true)

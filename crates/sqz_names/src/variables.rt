@@ -25,10 +25,13 @@ pub const VALUE: u32 = 1;
 
 /// An association of a global variable, or of a class variable of `class`.
 #[derive(Clone, Copy, Debug, PartialEq, Eq)]
-pub(crate) struct VariableName {
-    pub(crate) association: ObjectIndex,
-    pub(crate) class: Option<ObjectIndex>,
-    pub(crate) key: ObjectIndex,
+pub struct VariableName {
+    /// The association of the variable.
+    pub association: ObjectIndex,
+    /// The class of a class variable. None for a global variable.
+    pub class: Option<ObjectIndex>,
+    /// The byte object with the characters of its name.
+    pub key: ObjectIndex,
 }
 
 /// A global or a class variable: what holds its association, and its value.
