@@ -1,0 +1,68 @@
+//! Differences as JSON.
+
+ghost use Rattle.std.specs.Prelude.{IfErr};
+ghost use Rattle.sqz_inspect.specs.Failures.{IsPrintFault};
+
+use crate::differences::Differences;
+use crate::size::Size;
+use serde::Serialize;
+use sqz_image::{Fault, Sink};
+use sqz_inspect::Out;
+
+/// The sizes of the live objects or of those of a class as JSON. The live objects have no name.
+#[derive(Drop, Serialize)]
+struct SizeRow<'a> {
+    kind: &'a str,
+    name: Option<&'a str>,
+    old: Option<Size>,
+    new: Option<Size>,
+}
+
+/// The bytes of a variable or a method as JSON.
+#[derive(Drop, Serialize)]
+struct BytesRow<'a> {
+    kind: &'a str,
+    name: &'a str,
+    old: Option<u64>,
+    new: Option<u64>,
+}
+
+/// Prints differences as lines of JSON. Fails only with `WriteFailed` or `OutOfMemory`.
+pub(crate) fn print_json<C: Sink>(
+    differences: &Differences,
+    out: &mut Out<'_, C>,
+) -> Result<(), Fault>
+    ensures refused { IfErr result IsPrintFault }
+{
+    out.json(&SizeRow {
+        kind: "total",
+        name: None,
+        old: Some(differences.old),
+        new: Some(differences.new),
+    })?;
+    for change in &differences.classes {
+        out.json(&SizeRow {
+            kind: "class",
+            name: Some(change.name.as_str()),
+            old: change.old,
+            new: change.new,
+        })?;
+    }
+    for change in &differences.variables {
+        out.json(&BytesRow {
+            kind: "retained",
+            name: change.name.as_str(),
+            old: change.old.map(|held| held.bytes),
+            new: change.new.map(|held| held.bytes),
+        })?;
+    }
+    for change in &differences.methods.changes {
+        out.json(&BytesRow {
+            kind: "method",
+            name: change.name.as_str(),
+            old: change.old.map(|method| method.bytes),
+            new: change.new.map(|method| method.bytes),
+        })?;
+    }
+    Ok(())
+}

@@ -1,0 +1,19 @@
+//! What changed between two images: objects and bytes, classes, what variables retain, and methods,
+//! printed as text or as lines of JSON. Everything is compared by its name, and nothing by address.
+#![tactic(auto)]
+
+mod bytecodes;
+mod change;
+mod classes;
+mod contents;
+mod diff;
+mod differences;
+mod json;
+mod literals;
+mod methods;
+mod numbers;
+mod size;
+mod text;
+mod variables;
+
+pub use diff::print_diff;

@@ -1,0 +1,106 @@
+//! What the literals of methods are compared by.
+
+use sqz_inspect::Inspector;
+use sqz_names::{Role, all_bytes};
+use sqz_object::{Layout, ObjectIndex, Value, Words, base_of, value_of};
+use std::alloc::{AllocError, Global};
+
+/// The format of objects that have indexed fields alone.
+const INDEXED: u32 = 2;
+
+/// What a literal of a method, or an element of an array in one, is compared by.
+#[derive(Drop)]
+pub(crate) enum Literal<'a> {
+    /// The word of a SmallInteger.
+    Integer(u32),
+    /// The label of an object that has a name.
+    Named(String),
+    Bytes { class: String, bytes: Vec<u8> },
+    Words { class: String, words: Words<'a> },
+    /// An object that has indexed fields alone.
+    Array { class: String, elements: Words<'a> },
+    /// Any other object.
+    Other { class: String },
+    /// A word that is no SmallInteger and points to no object.
+    Bad,
+}
+
+impl<'a> Literal<'a> {
+    /// Returns what a word is compared by.
+    pub(crate) fn of(inspector: &'a Inspector<'a>, word: u32) -> Result<Self, AllocError> {
+        let address = match value_of(word) {
+            Value::Int(_) => return Ok(Literal::Integer(word)),
+            Value::Odd(_) => return Ok(Literal::Bad),
+            Value::Pointer(address) => address,
+        };
+        let Some(object) = inspector.heap.find(address) else {
+            return Ok(Literal::Bad);
+        };
+        match inspector.names.role(object)? {
+            Role::String | Role::Symbol | Role::Other => Literal::of_object(inspector, object),
+            _ => Ok(Literal::Named(inspector.names.label(object)?)),
+        }
+    }
+
+    /// Returns what an object without a name is compared by.
+    fn of_object(inspector: &'a Inspector<'a>, object: ObjectIndex) -> Result<Self, AllocError> {
+        let class = inspector.names.name_of_class_of(object)?;
+        if object >= inspector.heap.len() {
+            return Ok(Literal::Bad);
+        }
+        let chunk = inspector.heap.object(object);
+        if let Some(bytes) = all_bytes(inspector.alloc, inspector.heap.order(), &chunk)? {
+            return Ok(Literal::Bytes { class, bytes });
+        }
+        let fields = chunk.fields();
+        if chunk.layout() == Layout::Words {
+            let words = fields;
+            return Ok(Literal::Words { class, words });
+        }
+        if base_of(chunk.header().base).format == INDEXED {
+            let elements = fields;
+            return Ok(Literal::Array { class, elements });
+        }
+        Ok(Literal::Other { class })
+    }
+
+    /// Returns what is compared of a literal that is not compared by its elements: of an array its
+    /// class.
+    pub(crate) fn without_elements(self) -> Self {
+        match self {
+            Literal::Array { class, elements: _ } => Literal::Other { class },
+            literal => literal,
+        }
+    }
+
+    /// Returns a description that two literals share only if they are equal, but for the elements
+    /// of arrays.
+    pub(crate) fn description(&self, alloc: Global) -> Result<Vec<u8>, AllocError> {
+        match self {
+            Literal::Integer(word) => described(alloc, b'i', "", &word.to_le_bytes()),
+            Literal::Named(label) => described(alloc, b'n', label.as_str(), &[]),
+            Literal::Bytes { class, bytes } => described(alloc, b'b', class.as_str(), bytes),
+            Literal::Words { class, words } => {
+                let mut text = described(alloc, b'w', class.as_str(), &[])?;
+                for word in words.iter() {
+                    text.extend_from_slice(&word.to_le_bytes())?;
+                }
+                Ok(text)
+            }
+            Literal::Array { class, .. } => described(alloc, b'a', class.as_str(), &[]),
+            Literal::Other { class } => described(alloc, b'o', class.as_str(), &[]),
+            Literal::Bad => described(alloc, b'?', "", &[]),
+        }
+    }
+}
+
+/// Returns the description of a literal of a kind, with a name of printable characters.
+fn described(alloc: Global, kind: u8, name: &str, bytes: &[u8]) -> Result<Vec<u8>, AllocError> {
+    let mut text = Vec::new(alloc);
+    text.push(kind)?;
+    text.extend_from_slice(name.as_bytes())?;
+    // no name has this byte
+    text.push(0)?;
+    text.extend_from_slice(bytes)?;
+    Ok(text)
+}
