@@ -4,6 +4,7 @@ ghost use Rattle.std.specs.Prelude.{◌≤◌, IfOk};
 
 use crate::arguments::{Arguments, Question};
 use crate::checks::check_all;
+use crate::comparison::compare;
 use crate::failure::Failure;
 use crate::loading::{Loaded, load};
 use sqz_cli::{BAD_IMAGE, DONE};
@@ -26,10 +27,10 @@ pub(crate) fn answer<T: Files + Threads + Sync, C: Sink>(
 ) -> Result<u8, Failure>
     ensures exit { IfOk result (λ exit. exit ≤ 3) }
 {
-    let exit = if arguments.question == Question::Check {
-        check_all(rt, alloc, arguments, out)?
-    } else {
-        answer_about_one(rt, alloc, arguments, out)?
+    let exit = match arguments.question {
+        Question::Check => check_all(rt, alloc, arguments, out)?,
+        Question::Diff => compare(rt, alloc, arguments, out)?,
+        _ => answer_about_one(rt, alloc, arguments, out)?,
     };
     out.flush()?;
     Ok(exit)
@@ -72,7 +73,9 @@ fn answer_about_image<T: Threads + Sync, C: Sink>(
     out: &mut Out<'_, C>,
 ) -> Result<(), Failure> {
     match arguments.question {
-        Question::Check | Question::Info => print_info(rt, inspector, path, out)?,
+        Question::Check | Question::Diff | Question::Info => {
+            print_info(rt, inspector, path, out)?;
+        }
         Question::Census if arguments.dead => print_dead_census(rt, inspector, out)?,
         Question::Census => print_census(rt, inspector, out)?,
         Question::List => match find_class(inspector, arguments.subject.as_str())? {

@@ -18,13 +18,14 @@ pub(crate) enum Question {
     Why,
     Refs,
     Top,
+    Diff,
 }
 
 /// What a command line asks for.
 #[derive(Drop)]
 pub(crate) struct Arguments<'a> {
     pub(crate) question: Question,
-    /// The paths of the images: one, or several to be checked.
+    /// The paths of the images: one, several to be checked, or the old one and the new one.
     pub(crate) images: Vec<&'a str>,
     /// The words of the object or class that the question is about, joined by spaces.
     pub(crate) subject: String,
@@ -53,7 +54,7 @@ impl<'a> Arguments<'a> {
         };
         Ok(Arguments {
             question,
-            images: values_of(alloc, matches, "IMAGE")?,
+            images: images_of(alloc, question, matches)?,
             subject: joined(alloc, &values_of(alloc, matches, subject)?)?,
             weak: Weak::clear_if(matches.get_flag("clear-weak")),
             format,
@@ -71,6 +72,28 @@ impl<'a> Arguments<'a> {
             _ => None,
         }
     }
+
+    /// Returns the paths of the old image and the new one, if there are two.
+    pub(crate) fn old_and_new(&self) -> Option<(&'a str, &'a str)> {
+        match self.images.as_slice() {
+            [old, new] => Some((*old, *new)),
+            _ => None,
+        }
+    }
+}
+
+/// Returns the paths of the images that a question is about.
+fn images_of<'a>(
+    alloc: Global,
+    question: Question,
+    matches: &ArgMatches<'a>,
+) -> Result<Vec<&'a str>, AllocError> {
+    if question != Question::Diff {
+        return values_of(alloc, matches, "IMAGE");
+    }
+    let mut images = values_of(alloc, matches, "OLD")?;
+    images.extend_from_slice(&values_of(alloc, matches, "NEW")?)?;
+    Ok(images)
 }
 
 /// Returns the question that a subcommand asks.
@@ -83,6 +106,7 @@ fn question_of(name: &str) -> Question {
         "show" => Question::Show,
         "why" => Question::Why,
         "top" => Question::Top,
+        "diff" => Question::Diff,
         _ => Question::Refs,
     }
 }

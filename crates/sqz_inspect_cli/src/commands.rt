@@ -17,6 +17,8 @@ struct Subcommand {
 enum Argument {
     Image,
     Images,
+    Old,
+    New,
     Object,
     Class,
     AllFaults,
@@ -30,7 +32,7 @@ enum Argument {
 }
 
 /// All subcommands, in the order of the help.
-const SUBCOMMANDS: [Subcommand; 8] = [
+const SUBCOMMANDS: [Subcommand; 9] = [
     Subcommand {
         name: "check",
         about: "Say whether images are sound",
@@ -90,6 +92,12 @@ const SUBCOMMANDS: [Subcommand; 8] = [
         ],
         example: "Example:\n  sqzlook top --min 5 Scratch.image",
     },
+    Subcommand {
+        name: "diff",
+        about: "Print what changed between two images",
+        arguments: &[Argument::Old, Argument::New, Argument::All],
+        example: "Example:\n  sqzlook diff 1.2.image 1.3.image",
+    },
 ];
 
 /// Returns the command line that the program accepts.
@@ -129,6 +137,8 @@ fn arg_of<'a>(alloc: Global, argument: Argument) -> Result<Arg<'a>, AllocError> 
     Ok(match argument {
         Argument::Image => required(alloc, "IMAGE", "The image to inspect"),
         Argument::Images => required(alloc, "IMAGE", "The images to check").num_args(1..),
+        Argument::Old => required(alloc, "OLD", "The old image"),
+        Argument::New => required(alloc, "NEW", "The new image"),
         Argument::Object => required(
             alloc,
             "OBJECT",

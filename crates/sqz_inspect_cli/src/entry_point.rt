@@ -16,10 +16,11 @@ use std::rt::Files;
 use std::thread::Threads;
 
 /// Answers the question that a command line asks about images, and returns the exit: 0 if the
-/// answer was printed, and the images are sound if that is the question; 1 if an image is not
-/// sound or not readable, or does not hold what is asked about; 2 if the words are wrong; 3 if a
-/// file could not be read or the answer not printed; and 4 if out of memory. The first word is the
-/// program's name; `out` and `err` stand for standard output and standard error.
+/// answer was printed, and the images are sound or alike if that is the question; 1 if an image is
+/// not sound or not readable, or does not hold what is asked about, or if two images differ; 2 if
+/// the words are wrong; 3 if a file could not be read or the answer not printed; and 4 if out of
+/// memory. The first word is the program's name; `out` and `err` stand for standard output and
+/// standard error.
 ///
 /// A failure is one line on `err`, with the name of the program and of the file.
 pub fn look<T: Files + Threads + Sync, C: Sink, E: Sink>(
@@ -99,6 +100,10 @@ fn explain_failure<E: Sink>(failure: &Failure, path: Option<&str>, err: &mut E) 
         Failure::Faulty(fault) => {
             print_names(path, err);
             refuse(fault, err)
+        }
+        Failure::NotRead(path) => {
+            print_names(Some(path.as_str()), err);
+            refuse(&Fault::ReadFailed, err)
         }
         Failure::NotThere(message) => {
             print_message(path, message.as_str(), err);

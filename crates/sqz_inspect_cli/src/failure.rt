@@ -8,6 +8,8 @@ use std::alloc::AllocError;
 pub(crate) enum Failure {
     /// A device failed, or memory ran out.
     Faulty(Fault),
+    /// The file with this path cannot be read.
+    NotRead(String),
     /// What is asked about is not there, or no image could be read.
     NotThere(String),
     /// The command line is at fault.

@@ -5,6 +5,7 @@ mod answers;
 mod arguments;
 mod checks;
 mod commands;
+mod comparison;
 mod entry_point;
 mod failure;
 mod loading;
