@@ -10,7 +10,7 @@ from tests.image_format import bytes_of
 from tests.image_names import escaped
 from tests.image_objects import METHOD, format_of, has_bytes, traced_end
 
-# A text shows so many rows of each kind.
+# The maximum number of rows of each kind in the text, unless all are requested.
 SHOWN = 20
 # The elements of an array in a literal are compared down to this depth.
 DEPTH = 3
@@ -256,4 +256,4 @@ def note(old, new):
 
 def rest_line(count):
     """The line about rows that are not shown."""
-    return f"... {count} row{'' if count == 1 else 's'} more; --all prints each"
+    return f"... {count} more row{'' if count == 1 else 's'}; --all prints all"

@@ -9,7 +9,7 @@ from tests.expected_answers import Answers
 from tests.running import SQZLOOK, ProgramTest, run
 
 CLEAR = ("--clear-weak",)
-COMMANDS = ("check", "info", "census", "list", "show", "why", "refs", "top")
+COMMANDS = ("check", "info", "census", "list", "show", "why", "refs", "top", "diff")
 
 
 class Question(typing.NamedTuple):

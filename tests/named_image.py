@@ -10,6 +10,8 @@ from tests.image_objects import WEAK
 EMPTY, FIXED, ARRAY, BYTES, METHOD = 0, 1, 2, 8, 12
 # Header types of objects without and with a class word.
 ONE_WORD, TWO_WORDS = 3, 1
+# An object with more fields than this has a header word for its size.
+MOST_FIELDS = 62
 ZERO = 1
 # The first field of a method with one literal, and its bytes.
 ONE_LITERAL, BYTECODES = 1 << 10 | 1, 0x7C
@@ -37,7 +39,9 @@ class Item(typing.NamedTuple):
 
     @property
     def header_words(self):
-        return 2 if isinstance(self.a_class, str) else 1
+        if not isinstance(self.a_class, str):
+            return 1
+        return 2 if len(self.fields) <= MOST_FIELDS else 3
 
 
 def word_of(field, addresses, named):
@@ -116,7 +120,9 @@ class Builder:
         named = {name: addresses[number] for name, (number,) in self.classes.items()}
         for it in self.items:
             size = len(it.fields) + 1 << 2 | it.kind << 8
-            if isinstance(it.a_class, str):
+            if it.header_words == 3:
+                words.extend((len(it.fields) + 1 << 2, named[it.a_class], it.kind << 8))
+            elif it.header_words == 2:
                 words.extend((named[it.a_class] | TWO_WORDS, size | TWO_WORDS))
             else:
                 words.append(size | it.a_class << 12 | ONE_WORD)

@@ -26,7 +26,15 @@ QUESTIONS = (
     ("show", "accepted/class_names.image", "00001024", "--json"),
     ("why", "weak/weak_fields.image", "00001020", "--clear-weak"),
     ("refs", "accepted/class_names.image", "00001004"),
+    ("top", "accepted/dozen_classes.image", "--min", "0"),
+    ("top", "accepted/class_names.image", "--json"),
+    ("top", "accepted/class_names.image", "--folded"),
+    ("top", "accepted/class_names.image", "--svg"),
+    ("diff", "accepted/dozen_classes.image", "accepted/class_names.image"),
+    ("diff", "accepted/metaclass.image", "accepted/class_names.image", "--json"),
 )
+# Commands whose answer has another exit than 0.
+EXITS = {"diff": 1}
 # A run does without the allocations of `collect`, of which there are so many.
 RESERVATIONS = 1
 # The end of a run that ran out of memory.
@@ -38,9 +46,14 @@ NO_MEMORY, NOT_READ, NOT_WRITTEN = (
 )
 
 
-def path_in(args):
-    """The path of the image that a question is about."""
-    return str(IMAGES / args[1])
+def paths_in(args):
+    """The paths of the images that a question is about."""
+    return [str(IMAGES / word) for word in args if word.endswith(".image")]
+
+
+def words_of(args):
+    """The words of a question, with the whole paths of images."""
+    return [str(IMAGES / word) if word.endswith(".image") else word for word in args]
 
 
 class LookFaultsTest(PreloadTest):
@@ -56,7 +69,7 @@ class LookFaultsTest(PreloadTest):
         for args in QUESTIONS:
             with self.subTest(args):
                 outcomes = set(self.failing_looks(self.fail_calls, args, "failed_read"))
-                self.assertEqual(outcomes, {self.not_read(args)})
+                self.assertEqual(outcomes, {self.not_read(args, it) for it in paths_in(args)})
 
     def test_failed_writes(self):
         for args in QUESTIONS:
@@ -66,11 +79,11 @@ class LookFaultsTest(PreloadTest):
                 self.assertGreater(len(outcomes), 0)
                 for outcome in outcomes:
                     self.assert_ends_with(outcome, 3, NOT_WRITTEN, args)
-                    self.assertTrue(answer.startswith(outcome.stdout))
+                    self.assertTrue(answer.stdout.startswith(outcome.stdout))
 
     def check_allocations(self, functions, args):
         """Fails each allocation: only a start and the reservation of `collect` do without."""
-        whole = Outcome(0, stdout=self.answer(args))
+        whole = self.answer(args)
         ends = collections.Counter()
         for outcome in self.failing_looks(self.fail_allocations, args, "first_failed"):
             if outcome == whole:
@@ -83,28 +96,27 @@ class LookFaultsTest(PreloadTest):
         self.assertEqual(ends[OTHER], RESERVATIONS)
         self.assertLessEqual(set(ends), {FAULT, OTHER, START})
 
-    def not_read(self, args):
-        """The end of a run that cannot read the image. `check` has a line about it."""
-        line = f"{path_in(args)}: {NOT_READ}\n"
+    def not_read(self, args, path):
+        """The end of a run that cannot read an image. `check` has a line about it."""
+        line = f"{path}: {NOT_READ}\n"
         if args == CHECK:
             return Outcome(3, stdout=line.encode())
         return Outcome(3, stderr=f"sqzlook: {line}".encode())
 
     def assert_ends_with(self, outcome, status, fault, args):
         """Checks for an exit and a fault, with the name of the program once it has its command line,
-        and with the path of the image once this is known."""
-        line = rf"\A(sqzlook: ({re.escape(path_in(args))}: )?)?{fault}\n\Z"
+        and with the path of an image once this is known."""
+        paths = "|".join(map(re.escape, paths_in(args)))
+        line = rf"\A(sqzlook: (({paths}): )?)?{fault}\n\Z"
         self.assertRegex(outcome.stderr.decode(), line)
         self.assertEqual(outcome.status, status)
 
     def answer(self, args):
-        """What a question prints if nothing fails."""
-        command, _, *rest = args
-        outcome = look(command, path_in(args), *rest)
-        self.assertEqual((outcome.status, outcome.stderr), (0, b""))
-        return outcome.stdout
+        """The end of a run about a question if nothing fails."""
+        outcome = look(*words_of(args))
+        self.assertEqual((outcome.status, outcome.stderr), (EXITS.get(args[0], 0), b""))
+        return outcome
 
     def failing_looks(self, library, args, failure):
-        command, _, *rest = args
-        words = (command, path_in(args), *rest)
-        return self.failing(library, SQZLOOK, *words, failure=failure, failed_error=errno.EIO)
+        options = {"failure": failure, "failed_error": errno.EIO}
+        return self.failing(library, SQZLOOK, *words_of(args), **options)

@@ -60,6 +60,22 @@ def class_named(names, name):
     return number
 
 
+def with_random_words(generator):
+    """The image with some random words."""
+    image = named_image()
+    objects = [it for it in image.objects if not has_bytes(image.words[it.base])]
+    addresses = list(image.numbers)
+    for _ in range(WORDS):
+        it = generator.choice(objects)
+        place = generator.choice([it.first, *range(it.base + 1, it.end)])
+        word = generator.choice((generator.choice(addresses), generator.getrandbits(32)))
+        if place > it.base:
+            image.words[place] = word
+        elif it.first < it.base:
+            image.words[place] = word & ~3 | image.words[place] & 3
+    return Image(image.header, image.words)
+
+
 def set_field(image, number, field, word):
     """Sets a field of an object to a word."""
     image.words[image.objects[number].base + 1 + field] = word
@@ -106,7 +122,7 @@ class WrongNamesTest(LookTest):
     def test_answers_each_question(self):
         generator, questions = random.Random(SEED), []
         for number in range(COPIES):
-            image, name = self.copy(generator), f"{number}.image"
+            image, name = with_random_words(generator), f"{number}.image"
             self.write(name, image.file())
             for options in ((), CLEAR):
                 asking, count = Asking(image, name, options), len(image.objects)
@@ -114,21 +130,6 @@ class WrongNamesTest(LookTest):
                 questions += asking.of_image()
                 questions += asking.of_objects(show=self.largest(image), why=some, refs=some)
         self.check_questions(questions)
-
-    def copy(self, generator):
-        """The image with some random words."""
-        image = named_image()
-        objects = [it for it in image.objects if not has_bytes(image.words[it.base])]
-        addresses = list(image.numbers)
-        for _ in range(WORDS):
-            it = generator.choice(objects)
-            place = generator.choice([it.first, *range(it.base + 1, it.end)])
-            word = generator.choice((generator.choice(addresses), generator.getrandbits(32)))
-            if place > it.base:
-                image.words[place] = word
-            elif it.first < it.base:
-                image.words[place] = word & ~3 | image.words[place] & 3
-        return Image(image.header, image.words)
 
     def largest(self, image):
         """The objects with the most fields, which point to most others."""
