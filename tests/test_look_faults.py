@@ -1,9 +1,9 @@
 """Fails one allocation, read or write of `sqzlook` at a time, until a run makes no more of them.
 
-`sqzlook` prints its answer whole or not at all, or if a write failed, a prefix. A run does without
-the memory that a thread's start requested. If other code made the request, the run ends with the
-fault, with one exception: `collect` reserves room for the words of the command line, and goes on
-without it.
+`sqzlook` prints its answer whole or not at all, or if a write failed, a prefix. `check` prints the
+row of each image before it reads the next one. A run does without the memory that a thread's start
+requested. If other code made the request, the run ends with the fault, with one exception:
+`collect` reserves room for the words of the command line, and goes on without it.
 """
 
 import collections
@@ -35,6 +35,8 @@ QUESTIONS = (
 )
 # Commands whose answer has another exit than 0.
 EXITS = {"diff": 1}
+# Two images with different rows.
+TWO_IMAGES = ("accepted/dead_cycle.image", "accepted/class_names.image")
 # A run does without the allocations of `collect`, of which there are so many.
 RESERVATIONS = 1
 # The end of a run that ran out of memory.
@@ -64,6 +66,23 @@ class LookFaultsTest(PreloadTest):
         for args in QUESTIONS:
             with self.subTest(args):
                 self.check_allocations(functions, args)
+
+    def test_allocations_of_two_images(self):
+        """The row of the first image is printed even if memory runs out at the second one. A message
+        has no path, since it could be that of either."""
+        words = ("check", *(str(IMAGES / name) for name in TWO_IMAGES))
+        whole = look(*words)
+        self.assertEqual((whole.status, whole.stderr), (0, b""))
+        first, second = whole.stdout.splitlines(keepends=True)
+        self.assertNotEqual(first, second)
+        printed = collections.Counter()
+        for outcome in self.failing(self.fail_allocations, SQZLOOK, *words):
+            if outcome != whole:
+                self.assertEqual(outcome.status, 4)
+                self.assertRegex(outcome.stderr.decode(), rf"\A(sqzlook: )?{NO_MEMORY}\n\Z")
+                printed[outcome.stdout] += 1
+        self.assertEqual(set(printed), {b"", first})
+        self.assertGreater(min(printed.values()), 10)
 
     def test_failed_reads(self):
         for args in QUESTIONS:
