@@ -27,7 +27,7 @@ def side_of(file, options=()):
 
 def pairs_of(files, chosen):
     """The pairs of these paths, under both policies. `files` has the files by path."""
-    pairs = []
+    pairs, chosen = [], list(chosen)
     for options in ((), CLEAR):
         sides = {path: side_of(file, options) for path, file in files.items()}
         pairs += [Pair(sides[old], sides[new], (old, new), options) for old, new in chosen]
