@@ -99,7 +99,7 @@ def check_census(command):
 
 
 def columns(size, it):
-    """What was measured over a file of so many bytes."""
+    """What was measured over a file of `size` bytes."""
     own = 1024 * resource.getrusage(resource.RUSAGE_SELF).ru_maxrss
     if it.peak <= own:
         return f"{it.seconds:9.3f} {'-':>9} {'-':>8}"

@@ -5,7 +5,7 @@ import xml.etree.ElementTree
 
 SPACE = "{http://www.w3.org/2000/svg}"
 ELEMENTS = {f"{SPACE}{name}" for name in ("svg", "g", "rect", "text", "tspan", "title", "desc")}
-# A character of a label is at least about so many times as wide as the font is high.
+# The minimum width of a character of a label, about, as a fraction of the font size.
 NARROWEST = 0.4
 
 

@@ -8,7 +8,8 @@ from tests.object_memory import Image
 
 # The format of a bitmap.
 WORDS = 6
-# The variable holds an array of so many forms, with bitmaps of so many words, and of two points.
+# The variable holds an array of forms and two points. The number of forms, and of words in the
+# bitmap of each.
 HELD_FORMS, BITMAP_WORDS = 1500, 660
 HELD_OBJECTS, HELD_BYTES = 3003, 4_000_000
 CLASSES = ("Form", "Bitmap", "Point", "Array")

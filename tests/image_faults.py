@@ -33,7 +33,7 @@ class Fault(typing.NamedTuple):
     more: str = ""
 
     def byte(self, prefix):
-        """The offset of the data word in a file, if the image is after so many bytes."""
+        """The offset of the data word in a file that has `prefix` bytes before the image."""
         return None if self.place is None else prefix + 4 * (HEADER_WORDS + self.place)
 
     def row(self, prefix):

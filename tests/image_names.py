@@ -18,7 +18,7 @@ SUPERCLASS, METHODS, VARIABLES, INSTANCE, NAME, POOL = 0, 1, 3, 5, 6, 7
 ARRAY, KEY = 1, 0
 # The first field of a method dictionary with a selector.
 SELECTORS = 2
-# A chain of superclasses ends after so many classes.
+# The maximum number of classes in a chain of superclasses.
 LONGEST_CHAIN = 100
 STRINGS, SYMBOLS = ("String", "ByteString"), ("Symbol", "ByteSymbol")
 

@@ -2,7 +2,7 @@
  *
  * Usage: make_large BYTES BASE IMAGE ANSWER
  *
- * The data have so many bytes, and BASE is their first address. After nil and the special
+ * BYTES is the size of the data, and BASE their first address. After nil and the special
  * objects array come frames of 64 words, each with the same chunks: an object with a class word,
  * a dead array, an array, a byte object, a free chunk and an object with three header words. The
  * first object of a frame points to that of the next frame and to the others of its own, so that

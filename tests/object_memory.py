@@ -14,7 +14,7 @@ from tests.made_images import Row, report
 # class.
 COMPACT_CLASSES = 28
 LAYOUT, INSTANCE, NAME = 2, 5, 6
-# At most so many bytes of a name are printed.
+# The maximum number of bytes of a name that are printed.
 LONGEST_NAME = 40
 
 

@@ -16,7 +16,7 @@ SQZCOMPACT = ROOT / "crates" / "sqzcompact" / "out" / "sqzcompact"
 SQZLOOK = ROOT / "crates" / "sqzlook" / "out" / "sqzlook"
 # The seed of tests that make random choices.
 SEED = int(os.environ.get("SQZ_SEED", "1"))
-# A run is killed, and its test fails, after so many seconds.
+# The time limit of a run in seconds: then it is killed, and its test fails.
 SECONDS = 60
 # What stands in OUT before a run.
 OLD = b"as it was\n"

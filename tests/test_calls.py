@@ -13,7 +13,7 @@ from tests.made_images import blocks, made, pairs, varied
 from tests.preload import PreloadTest
 from tests.running import NO_MEMORY, SQZCOMPACT, SUCCESS
 
-# The program asks for as many bytes at once, and has a region every so many bytes.
+# The size in bytes of a read or write of the program, and of a region.
 PIECE = 1 << 16
 REGION = 4 << 16
 # Further calls: one that finds the end, one for each part before the data, and a few more.
@@ -42,7 +42,7 @@ class CountsTest(PreloadTest):
         self.check_counts(large, PIECE)
 
     def check_counts(self, it, most):
-        """Runs the program with calls of at most so many bytes, and checks their numbers."""
+        """Runs the program with calls of at most `most` bytes, and checks how many there are."""
         self.write("in", it.image)
         outcome = self.run_with(self.fail_calls, SQZCOMPACT, "in", "out", most_bytes=most)
         reads, writes = self.counts("counted")

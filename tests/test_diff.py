@@ -273,7 +273,7 @@ class KnownDiffTest(DiffTest, KnownImageTest):
         self.assertEqual((outcome.status, outcome.stderr), (0, b""))
 
     def test_with_another_image(self):
-        """Thousands of rows, of which the text shows 20 of each kind."""
+        """Thousands of rows. The text shows 20 of each kind."""
         self.check_copy(Image.read(named_file())[0])
 
     def test_variable_that_holds_4_mb(self):

@@ -33,7 +33,7 @@ NAMES = (
 )
 # One worker starts no thread over these images.
 WORKERS = ("1", "2")
-# A run does without the allocations of `collect`, of which there are so many.
+# The number of allocations of `collect`, which a run does without.
 RESERVATIONS = 1
 # The objects of a chain: to go over all of them for each of them takes longer than a run may.
 CHAIN = 500_000
@@ -186,7 +186,7 @@ class DevicesTest(CompactionTest):
                     check(it, 2, **variables)
 
     def check_reads(self, it, least, **variables):
-        """Fails each read, of which there are at least so many."""
+        """Fails each read. There are at least `least`."""
         faults = 0
         for outcome in self.failing_compactions(it, self.fail_calls, "failed_read", **variables):
             self.assert_ends(outcome, NOT_READ)
@@ -195,7 +195,7 @@ class DevicesTest(CompactionTest):
         self.assertGreaterEqual(faults, least)
 
     def check_writes(self, it, least, **variables):
-        """Fails each write, of which there are at least so many."""
+        """Fails each write. There are at least `least`."""
         faults = 0
         for outcome in self.failing_compactions(it, self.fail_calls, "failed_write", **variables):
             self.assert_cut(outcome, it)

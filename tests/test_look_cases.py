@@ -17,7 +17,7 @@ NAME = "Scratch.image"
 # A sound buffer that a class variable keeps alive, and the bytes that it retains.
 BUFFER, RETAINED = "1546cbd8", 97580
 METHODS, NAMED_METHODS, COMPARED_METHODS = 16255, 16000, 200
-# A text shows so many rows of a list.
+# The maximum number of rows of a list in the text form.
 SHOWN = 20
 # The bytes that a pipe holds.
 PIPE = 65536

@@ -27,7 +27,7 @@ class Checked(typing.NamedTuple):
 
 
 def with_bad_pointers(image, count):
-    """The image with a bad pointer in so many live objects: an address with one bit flipped, or
+    """The image with a bad pointer in `count` live objects: an address with one bit flipped, or
     that of a field."""
     chosen = [
         it

@@ -37,7 +37,7 @@ QUESTIONS = (
 EXITS = {"diff": 1}
 # Two images with different rows.
 TWO_IMAGES = ("accepted/dead_cycle.image", "accepted/class_names.image")
-# A run does without the allocations of `collect`, of which there are so many.
+# The number of allocations of `collect`, which a run does without.
 RESERVATIONS = 1
 # The end of a run that ran out of memory.
 FAULT = "the fault"

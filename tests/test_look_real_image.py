@@ -61,7 +61,7 @@ class RealImageTest(SqueakImageTest, LookTest):
         self.generator = random.Random(SEED)
 
     def sample(self, items, count):
-        """So many of these items, or all of them if there are not more."""
+        """`count` of these items, or all of them if there are not more."""
         return self.generator.sample(items, min(len(items), count))
 
 

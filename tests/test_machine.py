@@ -34,8 +34,8 @@ WIDTH, HEIGHT = 1024, 768
 PROJECT = pathlib.Path("Projects", "Games", "1 GuessingGame.sb")
 KEEP = os.environ.get("SQZ_KEEP")
 COUNT = 20_000
-# A screen counts that has been the same at so many looks, half a second apart. There are more of
-# them if no screen is expected, since an image may pause while it starts.
+# How often a screen must look the same, half a second apart, before it counts: more often if no
+# screen is expected, since an image may pause while it starts.
 LOOKS, FIRST_LOOKS, PAUSE = 6, 20, 0.5
 # The most seconds until a screen stands still, or is the expected one.
 SECONDS = 90

@@ -90,7 +90,7 @@ class MemoryTest(LargeTest):
     """A test that limits the address space of a run."""
 
     def least_memory(self, answer, *options, step, limits, **how):
-        """The least address space in which the file `in` is compacted, in steps of so many bytes.
+        """The least address space in which the file `in` is compacted, in steps of `step` bytes.
 
         Over a small image, that is the program, the C library, the stack and the first room for IN.
         """

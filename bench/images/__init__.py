@@ -13,7 +13,7 @@ from bench.images.mixed import mixed_words
 from tests.image_format import BASE, HEADER_WORDS, image_file
 
 MIB = 1 << 20
-# What generates so many data words, by the name of the part of a table.
+# What generates the data words, given their number, by the name of the part of a table.
 PARTS = {
     "1 MiB": near_words,
     "anywhere": far_words,
@@ -25,6 +25,6 @@ CENSUS_PARTS = {**PARTS, "1 class": one_class_words, "many": many_classes_words}
 
 
 def make_image(path, size, part):
-    """Makes a file of so many bytes with an image of this part."""
+    """Makes a file of `size` bytes with an image of this part."""
     words = CENSUS_PARTS[part](size // 4 - HEADER_WORDS)
     path.write_bytes(image_file(words, BASE + 4))

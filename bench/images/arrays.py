@@ -11,12 +11,12 @@ ANYWHERE = 1 << 30
 
 
 def array_header(words):
-    """The base header of an array of so many words, with its base header."""
+    """The base header of an array that takes `words` words, its base header included."""
     return 3 << 12 | 2 << 8 | words << 2 | 3
 
 
 def sizes_of_arrays(generator, words):
-    """The sizes of objects that fill so many words: nil, the special objects array, and others."""
+    """The sizes of objects that fill the words: nil, the special objects array, and others."""
     sizes = list(FIRSTS)
     left = words - sum(sizes)
     while left > 0:

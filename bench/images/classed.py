@@ -40,7 +40,7 @@ def can_be_class(chunk):
 
 
 def choose_classes(generator, objects, live, most):
-    """Which live objects are classes, in order: at most so many, and no more than class words."""
+    """Which live objects are classes, in order: at most `most`, and no more than class words."""
     others = range(len(CLASSED_FIRSTS), len(objects))
     able = [index for index in others if live[index] and can_be_class(objects[index][0])]
     worded = sum(alive and chunk.before > 0 for (chunk, _), alive in zip(objects, live))
@@ -82,7 +82,7 @@ def put_words_of_classes(generator, data, objects, addresses, live, classes):
 
 
 def classed_words(words, worded, most):
-    """Data words as `mixed_words` has them, with at most so many classes.
+    """Data words as `mixed_words` has them, with at most `most` classes.
 
     This share of the small objects has a class word."""
     mix = MIXED._replace(worded=worded)

@@ -5,7 +5,7 @@ import typing
 
 # The largest array, and the largest chunk but for a few, in words.
 LARGEST = 20
-# How far a pointer goes, in objects. So many live objects are less than a MiB.
+# How far a pointer goes, in objects. That number of live objects takes less than a MiB.
 NEAR = 50
 FAR = 12_500
 # The words of the first objects of an image, which are live: nil and the special objects array.
@@ -65,7 +65,7 @@ def fill_fields(generator, data, fields, addresses, live, reach):
 
 
 def choose_live(generator, count, firsts):
-    """Which of so many objects are live: the first ones, and two thirds of the others."""
+    """Which of `count` objects are live: the first ones, and two thirds of the others."""
     return [index < len(firsts) or generator.random() < 2 / 3 for index in range(count)]
 
 

@@ -80,7 +80,7 @@ def random_chunk(generator, mix):
 
 
 def random_chunks(generator, words, firsts, mix):
-    """Chunks that fill so many words: first objects of these sizes, and others."""
+    """Chunks that fill the words: first objects of these sizes, and others."""
     chunks = [Chunk(POINTERS, 0, size) for size in firsts]
     left = words - sum(firsts)
     while left > 0:

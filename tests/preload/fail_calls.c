@@ -2,7 +2,7 @@
  *
  * FAILED_READ or FAILED_WRITE has the number of the call that fails, counted from 1, with the
  * error FAILED_ERROR. The file `failed` is then created. If MOST_BYTES is set, a call transfers
- * at most so many bytes. */
+ * at most that number of bytes. */
 #include "preload.h"
 #include <sys/syscall.h>
 
