@@ -1,14 +1,14 @@
 -- A loop of reads: what it has read so far, and how it ends.
 -- Serves `read_whole::read_all`.
 use Rattle.std.proofs.Common.{◌≡◌, Bool, ℕ, ◌+◌, ◌<◌, arith, List, ◌++◌, take, Ok, Err, Result, sym, ap, ◌∙◌, refl, inl, inr}
-use Rattle.std.proofs.Common.{subst}
+use Rattle.std.proofs.Common.{◌≤◌, ◌⊎◌, true}
 use Rattle.std.specs.Io.KnownBytes.{Consumes}
 use Rattle.std.proofs.KnownBytes.{Consumes-trans, Consumes-kept}
 use Rattle.sqz_image.specs.declared.device.DeviceFault.{DeviceFault}
 use Rattle.sqz_image.specs.declared.fault.Fault.TheVariants.{OutOfMemory, ReadFailed}
-use Rattle.sqz_image.specs.Devices.{SourceState, IsRead, one_more, turn_limit, MeetsLimit, count_after, ReadStops}
+use Rattle.sqz_image.specs.Devices.{SourceState, IsRead, one_more, turn_limit, count_after, StopsWithin, ReadStops}
 use Rattle.std.proofs.lemmas.Bool.{ne_eqb}
-use Rattle.sqz_image.proofs.Turns.{one_more-count_after, count_after-lt, MeetsLimit-all}
+use Rattle.sqz_image.proofs.Turns.{one_more-count_after, count_after-lt}
 
 -- this many reads gave these bytes, each of them some
 pub record HasRead (old now : SourceState) (file : List ℕ) (turns : ℕ) : Type 0 where
@@ -21,20 +21,26 @@ module _ (gives_all : Bool) (old now new : SourceState) (file piece : List ℕ) 
   counted_more : new.reads ≡ one_more now.reads → new.reads ≡ count_after old.reads (turns + 1)
   counted_more e = e ∙ ap one_more so_far.counted ∙ one_more-count_after old.reads turns
 
+  -- the calls so far and one more
+  stops : (cause : (new.failed ≡ true) ⊎ (turns + 1 ≡ turn_limit)) → new.reads ≡ one_more now.reads → turns < turn_limit
+      → StopsWithin turn_limit new.failed old.reads new.reads
+  stops cause counted some =
+      record { turns = turns + 1; within = omega arith; counted = counted_more counted; cause = cause; }
+
   -- a read failed
-  pub ReadStops-failed : (fault : DeviceFault) → IsRead gives_all now new piece (Err fault) → ReadStops old new ReadFailed
-  ReadStops-failed fault read =
-      ((file, Consumes-kept old.left now.left new.left file so_far.bytes read.1), inr (refl, inl read.0))
+  pub ReadStops-failed : (fault : DeviceFault) → IsRead gives_all now new piece (Err fault) → turns < turn_limit → ReadStops old new ReadFailed
+  ReadStops-failed fault read some =
+      ((file, Consumes-kept old.left now.left new.left file so_far.bytes read.1), inr (refl, stops (inl read.0) read.2 some))
 
   -- the last turn was taken
   pub ReadStops-limit : (result : Result ℕ DeviceFault)
       → IsRead gives_all now new piece result → turns + 1 ≡ turn_limit → ReadStops old new ReadFailed
   ReadStops-limit (Ok count) read all =
-      let at_limit = counted_more read.5 ∙ ap (count_after old.reads) all in (
+      (
         (file ++ take count piece, Consumes-trans old.left now.left new.left file (take count piece) so_far.bytes read.3),
-        inr (refl, inr (subst (MeetsLimit old.reads) (sym at_limit) (MeetsLimit-all old.reads))),
+        inr (refl, stops (inr all) read.5 (omega arith)),
       )
-  ReadStops-limit (Err fault) read all = ReadStops-failed fault read
+  ReadStops-limit (Err fault) read all = ReadStops-failed fault read (omega arith)
 
   -- there is no memory for what was read
   pub ReadStops-memory : (count : ℕ) → IsRead gives_all now new piece (Ok count) → 0 < count → turns + 1 < turn_limit → ReadStops old new OutOfMemory

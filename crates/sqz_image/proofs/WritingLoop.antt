@@ -1,13 +1,15 @@
 -- A loop of writes: what it has written so far, and how it ends.
 -- Serves `write_whole::send`, `write_words::send_words` and `write_words::write_words`.
 use Rattle.std.proofs.Common.{◌≡◌, ◌≢◌, ℕ, ◌+◌, ◌-◌, ◌<◌, List, [], ◌++◌, append-nil, append_assoc, take-append-drop}
-use Rattle.std.proofs.Common.{length, take, drop, Ok, sym, ap, ◌∙◌, refl, inl, inr, subst, arith}
+use Rattle.std.proofs.Common.{Option, Some, None, length, take, drop, Ok, Err, sym, ap, subst, ◌∙◌, refl, inl, inr, arith}
 use Rattle.std.proofs.lemmas.List.{take_rest}
+use Rattle.std.specs.Io.KnownBytes.{Keeps, Appends}
 use Rattle.std.proofs.KnownBytes.{Appends-nil, Appends-trans}
+use Rattle.sqz_image.specs.declared.device.DeviceFault.{DeviceFault}
 use Rattle.sqz_image.specs.declared.fault.Fault.{Fault}
 use Rattle.sqz_image.specs.declared.fault.Fault.TheVariants.{WriteFailed}
-use Rattle.sqz_image.specs.Devices.{SinkState, IsWrite, turn_limit, MeetsLimit, count_after, Sends, SendStops, WriteStops}
-use Rattle.sqz_image.proofs.Turns.{count_after-count_after, MeetsLimit-all}
+use Rattle.sqz_image.specs.Devices.{SinkState, IsWrite, IsFlush, turn_limit, count_after, StopsWithin, Sends, SendStops, WriteStops}
+use Rattle.sqz_image.proofs.Turns.{count_after-count_after}
 
 -- ---- one write
 
@@ -34,7 +36,26 @@ SendStops-limit old new piece count left write last =
       of_bytes = sym (take-append-drop count piece);
       bytes_added = write.4;
       named = refl;
-      cause = inr (write.5 ∙ ap (count_after old.writes) last);
+      counted = record { turns = 1; within = omega arith; counted = write.5; cause = inr last };
+    }
+
+-- bytes that stay as they were grow by none
+Appends-kept : (old new : Option (List ℕ)) → Keeps old new → Appends old new []
+Appends-kept None new kept = tt
+Appends-kept (Some bytes) None kept = absurd kept
+Appends-kept (Some bytes) (Some more) kept = kept ∙ sym (append-nil bytes)
+
+-- a write failed
+pub SendStops-failed : (old new : SinkState) (piece : List ℕ) (fault : DeviceFault) (left : ℕ)
+    → IsWrite old new piece (Err fault) → 0 < left → SendStops old new piece left WriteFailed
+SendStops-failed old new piece fault left write some =
+    record {
+      front = [];
+      rest = piece;
+      of_bytes = refl;
+      bytes_added = Appends-kept old.contents new.contents write.1;
+      named = refl;
+      counted = record { turns = 1; within = omega arith; counted = write.2; cause = inl write.0 };
     }
 
 -- ---- writes so far
@@ -105,7 +126,12 @@ module _ (old now : SinkState) (bytes rest : List ℕ) (turns left : ℕ)
               Appends-trans old.contents now.contents new.contents so_far.sent stops.front
               so_far.sends.bytes_added stops.bytes_added;
           named = stops.named;
-          cause = elim (stops.cause) [ inl h ↦ inl h | inr h ↦ inr (counted_more left turns h (omega arith)) ];
+          counted = record {
+            turns = turns - left + stops.counted.turns;
+            within = omega (arith, stops.counted.within, so_far.sends.none_won);
+            counted = counted_more stops.counted.turns _ stops.counted.counted refl;
+            cause = elim (stops.counted.cause) [ inl h ↦ inl h | inr h ↦ inr (omega (arith, so_far.sends.none_won)) ];
+          };
         }
 
   -- ---- the same of one write of all the rest
@@ -126,6 +152,13 @@ module _ (old now : SinkState) (bytes rest : List ℕ) (turns left : ℕ)
         SendStops-more new rest [] (sym (append-nil rest)) WriteFailed
         (SendStops-limit now new rest count left write (omega (arith, so_far.sends.some_left)))
 
+  -- a write of the rest failed
+  pub SendStops-write_failed : (new : SinkState) (fault : DeviceFault)
+      → IsWrite now new rest (Err fault) → SendStops old new bytes turns WriteFailed
+  SendStops-write_failed new fault write =
+      SendStops-more new rest [] (sym (append-nil rest)) WriteFailed
+      (SendStops-failed now new rest fault left write so_far.sends.some_left)
+
 -- ---- the whole call
 
 -- not all was sent
@@ -138,8 +171,26 @@ WriteStops-sent old new bytes fault stops =
       of_bytes = stops.of_bytes;
       bytes_added = stops.bytes_added;
       named = stops.named;
-      cause = elim (stops.cause) [
-        | inl h ↦ inl h
-        | inr h ↦ inr (subst (MeetsLimit old.writes) (sym h) (MeetsLimit-all old.writes))
-      ];
+      counted = stops.counted;
+    }
+
+-- all that was to be sent was sent, and the flush failed
+pub WriteStops-flush : (old now new : SinkState) (bytes rest : List ℕ) (left : ℕ) (fault : DeviceFault)
+    → IsSending old now bytes rest turn_limit left → IsFlush {T = Unit {0}} now new (Err fault) → WriteStops old new bytes WriteFailed
+WriteStops-flush old now new bytes rest left fault sending flush =
+    record {
+      front = sending.sent;
+      rest = rest;
+      of_bytes = sending.parts;
+      bytes_added =
+          subst (Appends old.contents new.contents) (append-nil sending.sent)
+          (Appends-trans old.contents now.contents new.contents sending.sent [] sending.sends.bytes_added
+          (Appends-kept now.contents new.contents flush.1));
+      named = refl;
+      counted = record {
+        turns = turn_limit - left;
+        within = omega arith;
+        counted = flush.2 ∙ sending.sends.counted;
+        cause = inl flush.0;
+      };
     }

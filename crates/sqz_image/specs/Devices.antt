@@ -62,9 +62,17 @@ IsFlush old new (Err fault) =
 abbrev pub turn_limit : ℕ
 turn_limit = 2 ^ 32
 
--- the counts before and after show that the limit was met; a saturated count shows it too
-abbrev pub MeetsLimit : ℕ → ℕ → Type 0
-MeetsLimit old new = (old + turn_limit ≤ new) ⊎ (new ≡ 2 ^ 64 - 1)
+-- the count after `turns` more calls
+abbrev pub count_after : ℕ → ℕ → ℕ
+count_after count turns = if turns == 0 then count else min (count + turns) (2 ^ 64 - 1)
+
+-- the counts before and after a loop of calls that did not do all its work: it made as many calls
+-- as the limit allows, or fewer if its device failed
+pub record StopsWithin (limit : ℕ) (failed : Bool) (old new : ℕ) : Type 0 where
+  pub turns : ℕ
+  pub within : turns ≤ limit
+  pub counted : new ≡ count_after old turns
+  pub cause : (failed ≡ true) ⊎ (turns ≡ limit)
 
 -- the source gave these bytes before the first read that returned 0; if it promises to give all
 -- its bytes, it has none left
@@ -86,7 +94,7 @@ pub record IsUnfinished (old new : SourceState) : Type 0 where
 abbrev pub ReadStops : SourceState → SourceState → Fault → Type 0
 ReadStops old new fault =
     ((file : List ℕ) × Consumes old.left new.left file)
-    × (((fault ≡ OutOfMemory) × IsUnfinished old new) ⊎ ((fault ≡ ReadFailed) × ((new.failed ≡ true) ⊎ MeetsLimit old.reads new.reads)))
+    × (((fault ≡ OutOfMemory) × IsUnfinished old new) ⊎ ((fault ≡ ReadFailed) × StopsWithin turn_limit new.failed old.reads new.reads))
 
 -- the sink took these bytes and nothing else, and was flushed
 pub record WritesWhole (old new : SinkState) (bytes : List ℕ) : Type 0 where
@@ -103,11 +111,7 @@ pub record WriteStops (old new : SinkState) (bytes : List ℕ) (fault : Fault) :
   pub of_bytes : bytes ≡ front ++ rest
   pub bytes_added : Appends old.contents new.contents front
   pub named : fault ≡ WriteFailed
-  pub cause : (new.failed ≡ true) ⊎ MeetsLimit old.writes new.writes
-
--- the count after `turns` more calls
-abbrev pub count_after : ℕ → ℕ → ℕ
-count_after count turns = if turns == 0 then count else min (count + turns) (2 ^ 64 - 1)
+  pub counted : StopsWithin turn_limit new.failed old.writes new.writes
 
 -- the sink took these bytes and nothing else, in `turns` - `left` writes, and some turns are left
 pub record Sends (old new : SinkState) (bytes : List ℕ) (turns left : ℕ) : Type 0 where
@@ -124,4 +128,4 @@ pub record SendStops (old new : SinkState) (bytes : List ℕ) (turns : ℕ) (fau
   pub of_bytes : bytes ≡ front ++ rest
   pub bytes_added : Appends old.contents new.contents front
   pub named : fault ≡ WriteFailed
-  pub cause : (new.failed ≡ true) ⊎ (new.writes ≡ count_after old.writes turns)
+  pub counted : StopsWithin turns new.failed old.writes new.writes

@@ -8,7 +8,7 @@ use crate::device::Source;
 use crate::fault::Fault;
 use std::alloc::Global;
 
-/// The greatest number of reads: the call fails after this many, if the end was not reached.
+/// The greatest number of reads: the call fails after this many.
 const TURNS: u64 = 1 << 32;
 
 /// The number of bytes that one read asks for.
@@ -20,8 +20,8 @@ const LEAST_ROOM: usize = 1 << 20;
 /// Returns the bytes that the source gives before the first read that returns 0. If the source
 /// promises to give all its bytes, it has none left after that.
 ///
-/// Fails with `OutOfMemory`, or with `ReadFailed` if a read fails or 2^32 reads do not reach the
-/// end. The bytes read so far are then lost.
+/// Fails with `OutOfMemory`, or with `ReadFailed` if a read fails or if 2^32 reads were made. The
+/// bytes read so far are then lost.
 pub fn read_all<R: Source>(alloc: Global, source: &mut R) -> Result<Vec<u8>, Fault>
     ensures whole { IfOk result (λ file.
         ReadsWhole R.gives_all (R.state source.old) (R.state source.new) file.items) }

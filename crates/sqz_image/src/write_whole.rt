@@ -6,12 +6,12 @@ ghost use Rattle.sqz_image.specs.Devices.{WritesWhole, WriteStops, Sends, SendSt
 use crate::device::Sink;
 use crate::fault::Fault;
 
-/// The greatest number of writes: the call fails after this many, if bytes are left.
+/// The greatest number of writes: the call fails after this many.
 pub(crate) const TURNS: u64 = 1 << 32;
 
 /// Writes all the bytes, and then flushes. It allocates no memory.
 ///
-/// Fails with `WriteFailed` if a write or the flush fails, or if 2^32 writes do not suffice. The
+/// Fails with `WriteFailed` if a write or the flush fails, or if 2^32 writes were made. The
 /// sink has then taken some of the bytes, from the front on, perhaps all.
 pub fn write_all<W: Sink>(sink: &mut W, bytes: &[u8]) -> Result<(), Fault>
     ensures whole { OnOk result (WritesWhole (W.state sink.old) (W.state sink.new) bytes.now) }

@@ -19,7 +19,7 @@ const BLOCK: usize = 4 * BLOCK_WORDS;
 /// Writes the bytes of the prefix, then the header words and the words of each piece, in this byte
 /// order, and then flushes. It allocates no memory.
 ///
-/// Fails with `WriteFailed` if a write or the flush fails, or if 2^32 writes do not suffice. The
+/// Fails with `WriteFailed` if a write or the flush fails, or if 2^32 writes were made. The
 /// sink has then taken some of the bytes, from the front on, perhaps all.
 pub(crate) fn write_words<W: Sink>(
     sink: &mut W,
@@ -41,7 +41,10 @@ pub(crate) fn write_words<W: Sink>(
     for piece in pieces {
         send_words(sink, order, piece, &mut block, &mut turns)?;
     }
-    sink.flush().map_err(|_| Fault::WriteFailed)
+    let Ok(()) = sink.flush() else {
+        return Err(Fault::WriteFailed);
+    };
+    Ok(())
 }
 
 /// Writes all the words, block by block.

@@ -21,7 +21,7 @@ use sqz_object::Address;
 /// (`BadSpecialObjects`), so a caller states in its own contract which address it passes, as `run`
 /// does.
 ///
-/// Fails with `WriteFailed` if a write or the flush fails, or if 2^32 writes do not suffice. The
+/// Fails with `WriteFailed` if a write or the flush fails, or if 2^32 writes were made. The
 /// sink has then taken some of the bytes, from the front on, perhaps all.
 pub fn write_image<W: Sink>(
     image: &Image,

@@ -1,7 +1,7 @@
 use Rattle.std.proofs.Common.{◌≡◌, ◌+◌, ◌-◌, ◌^◌, arith, rules}
 use Rattle.std.proofs.lemmas.Grind.{common_steps}
 use Rattle.std.proofs.lemmas.Result.{err_from_is_err_and}
-use Rattle.sqz_image.proofs.ReadingLoop.{ReadStops-memory, ReadStops-limit}
+use Rattle.sqz_image.proofs.ReadingLoop.{ReadStops-failed, ReadStops-memory, ReadStops-limit}
 use Rattle.sqz_image.proofs.read_whole.read_all.Goals as goal
 
 pub returns-in_err-append-clause-stopped : goal.returns-in_err-append-clause-stopped
@@ -16,7 +16,9 @@ returns-clause-stopped g c =
     ReadStops-limit _ _ _ _ _ _ _ c.loop.invariant.has_read _ c.read-2.ensures.read last
 
 pub returns-in_default-clause-stopped : goal.returns-in_default-clause-stopped
-returns-in_default-clause-stopped g c = search rules
+returns-in_default-clause-stopped g c =
+    ReadStops-failed g.R.Source.gives_all _ _ _ _ c.read.new.into _ c.loop.invariant.has_read c.in_default.field-0
+    c.in_default.ensures.read (omega arith)
 
 pub loop-preserved : goal.loop-preserved
 loop-preserved g c = grind (arith, common_steps)
