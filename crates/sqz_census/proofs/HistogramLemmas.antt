@@ -6,10 +6,9 @@ use Rattle.std.specs.List.{Contains, AllByRecursion}
 use Rattle.std.proofs.lemmas.Bool.{cases_lt, lt-ltb}
 use Rattle.std.proofs.lemmas.List.{length-map, get_or-map}
 use Rattle.sqz_object.specs.Chunk.{IsChunk}
-use Rattle.sqz_image.specs.Objects.{Memory, object_count, address_of}
+use Rattle.sqz_image.specs.Objects.{Memory, object_count, address_of, words_in}
 use Rattle.sqz_trace.specs.declared.weak.Weak.{Weak}
 use Rattle.sqz_trace.specs.Live.{live}
-use Rattle.sqz_regions.specs.Places.{words_in}
 use Rattle.sqz_census.specs.declared.group.Group.{Group}
 use Rattle.sqz_census.specs.declared.group.GroupTotal.{GroupTotal}
 use Rattle.sqz_census.specs.declared.tallies.Tally.{Tally}

@@ -13,9 +13,9 @@ use Rattle.sqz_census.specs.Shares.{no_share, IsShareOf, AreShares, AreSharesInO
 abbrev key_in : Share → ℕ
 key_in share = share.key
 
--- its words
-abbrev words_in : Share → ℕ
-words_in share = share.words
+-- its number of words
+abbrev share_words : Share → ℕ
+share_words share = share.words
 
 -- what shares are sorted by
 abbrev pub sort_key : Share → Reverse ℕ × ℕ
@@ -60,9 +60,9 @@ IsShareOf-key tallies key share lt fit some is =
 
 -- sorted shares are in order
 pub AreSharesInOrder-sorted : (tallies : List Tally) (shares sorted : List Share) → AreShares tallies (length tallies) shares
-    → IsPermutation shares sorted → IsSortedBy (is_before key_in words_in) sorted → AreSharesInOrder tallies sorted
+    → IsPermutation shares sorted → IsSortedBy (is_before key_in share_words) sorted → AreSharesInOrder tallies sorted
 AreSharesInOrder-sorted tallies shares sorted are moved ordered =
     let in_order =
-    AreRanked-sorted key_in no_share (IsShareOf tallies) (HasSome tallies) (length tallies) shares (filled are) sorted moved words_in
+    AreRanked-sorted key_in no_share (IsShareOf tallies) (HasSome tallies) (length tallies) shares (filled are) sorted moved share_words
     ordered in
     record { each = in_order.each; all = in_order.all; ordered = in_order.ordered }

@@ -5,10 +5,10 @@ use Rattle.std.proofs.Common.{filter, refl, sym, ap, subst, ◌∙◌, inl, inr,
 use Rattle.std.specs.List.{Contains, sum_by}
 use Rattle.std.proofs.lemmas.Bool.{cases_Bool, eq-eqb}
 use Rattle.std.proofs.lemmas.List.Sums.{sum_by-cons}
-use Rattle.sqz_image.specs.Objects.{Memory, Object, address_of}
+use Rattle.sqz_image.specs.Objects.{Memory, Object, address_of, words_in}
 use Rattle.sqz_trace.specs.declared.weak.Weak.{Weak}
 use Rattle.sqz_trace.specs.Live.{live}
-use Rattle.sqz_regions.specs.Places.{words_in, live_words, place}
+use Rattle.sqz_regions.specs.Places.{live_words, place}
 use Rattle.sqz_regions.proofs.PlaceLemmas.{words_in-cons}
 use Rattle.sqz_census.specs.declared.group.Group.{Group}
 use Rattle.sqz_census.specs.declared.group.Group.TheVariants.{Class, Compact}

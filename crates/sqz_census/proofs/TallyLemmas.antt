@@ -9,11 +9,10 @@ use Rattle.std.proofs.lemmas.List.{length-append, length-set, get_or-set_same, g
 use Rattle.std.proofs.lemmas.List.{length-replicate, get_or-replicate}
 use Rattle.std.proofs.lemmas.List.Sums.{length-filter, count_by-le-length, sum_by-append}
 use Rattle.std.proofs.lemmas.List.Elements.{filter-append}
-use Rattle.sqz_image.specs.Objects.{Memory, Object, objects, object_count, object_at, chunk_words}
+use Rattle.sqz_image.specs.Objects.{Memory, Object, objects, object_count, object_at, chunk_words, words_in}
 use Rattle.sqz_trace.specs.declared.weak.Weak.{Weak}
 use Rattle.sqz_trace.specs.Graph.{is_marked}
 use Rattle.sqz_trace.specs.Live.{marked, live}
-use Rattle.sqz_regions.specs.Places.{words_in}
 use Rattle.sqz_regions.proofs.MarkedLemmas.{marked_more_yes, marked_more_no, marked_all}
 use Rattle.sqz_regions.proofs.PlaceLemmas.{size, words_in-cons, live_objects-le, live_words_more_yes}
 use Rattle.sqz_regions.proofs.SumLemmas.{live_words_below-le-words, live_words-le-words}

@@ -3,11 +3,10 @@ use Rattle.std.specs.Prelude.{◌≡◌, ◌↔◌, ◌⊎◌, ℕ, ◌*◌, ◌
 use Rattle.std.specs.Prelude.{filter, slice_index_or, Option, Some, None}
 use Rattle.std.specs.List.{Contains}
 use Rattle.sqz_object.specs.Chunk.{compact_index}
-use Rattle.sqz_image.specs.Objects.{Memory, Object}
+use Rattle.sqz_image.specs.Objects.{Memory, Object, words_in}
 use Rattle.sqz_trace.specs.declared.weak.Weak.{Weak}
 use Rattle.sqz_trace.specs.Strong.{class_of}
 use Rattle.sqz_trace.specs.Live.{live}
-use Rattle.sqz_regions.specs.Places.{words_in}
 use Rattle.sqz_census.specs.declared.group.Group.{Group}
 use Rattle.sqz_census.specs.declared.group.Group.TheVariants.{Class, Compact}
 

@@ -1,9 +1,8 @@
 -- The number of marked objects of each group, by its key.
 use Rattle.std.specs.Prelude.{◌≡◌, ℕ, ◌^◌, ◌<◌, Bool, List, length, take, filter, slice_index_or}
-use Rattle.sqz_image.specs.Objects.{Memory, Object, objects, object_count}
+use Rattle.sqz_image.specs.Objects.{Memory, Object, objects, object_count, words_in}
 use Rattle.sqz_trace.specs.declared.weak.Weak.{Weak}
 use Rattle.sqz_trace.specs.Live.{marked, live}
-use Rattle.sqz_regions.specs.Places.{words_in}
 use Rattle.sqz_census.specs.declared.tallies.Tally.{Tally}
 use Rattle.sqz_census.specs.declared.group.Group.{Group}
 use Rattle.sqz_census.specs.Groups.{is_same, group_of}

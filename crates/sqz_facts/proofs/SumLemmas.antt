@@ -14,12 +14,12 @@ use Rattle.sqz_object.specs.Chunk.{IsChunk, is_object}
 use Rattle.sqz_object.specs.Reading.{BeginsWith, description}
 use Rattle.sqz_object.proofs.ChunkLemmas.{length-chunk}
 use Rattle.sqz_object.proofs.PartitionLemmas.{concat-push}
-use Rattle.sqz_image.specs.Objects.{Object, objects_of, moved_on}
+use Rattle.sqz_image.specs.Objects.{Object, objects_of, moved_on, words_in}
 use Rattle.sqz_image.proofs.IndexLemmas.{objects_of-push, objects_of-push_free}
 use Rattle.sqz_trace.specs.Graph.{is_marked}
 use Rattle.sqz_trace.specs.Live.{marked}
 use Rattle.sqz_facts.specs.declared.sums.ChunkSums.{ChunkSums}
-use Rattle.sqz_facts.specs.Dead.{unmarked, words_in}
+use Rattle.sqz_facts.specs.Dead.{unmarked}
 use Rattle.sqz_facts.specs.FreeChunks.{free_among}
 use Rattle.sqz_facts.specs.Sums.{sums_of}
 use Rattle.sqz_facts.proofs.WalkLemmas.{IsWalked, IsAtChunk, IsWalked-none, at_end, here, header_is, header_length}

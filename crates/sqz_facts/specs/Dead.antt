@@ -1,7 +1,7 @@
 -- The elements of a list that are not marked, in order. With the marks of the reachable objects:
 -- the garbage.
 use Rattle.std.specs.Prelude.{◌≡◌, ◌*◌, ◌<◌, ℕ, Bool, true, false, not, List, [], ◌∷◌, length, sum_by}
-use Rattle.sqz_image.specs.Objects.{Memory, Object, objects}
+use Rattle.sqz_image.specs.Objects.{Memory, Object, objects, words_in}
 use Rattle.sqz_trace.specs.Graph.{is_marked}
 
 -- an element without a mark is not marked
@@ -14,10 +14,7 @@ unmarked (false ∷ marks) (x ∷ xs) = x ∷ unmarked marks xs
 abbrev pub dead : Memory → List Bool → List Object
 dead memory marks = unmarked marks (objects memory)
 
--- the words of the chunks of objects, header words included, and their bytes
-abbrev pub words_in : List Object → ℕ
-words_in objects = sum_by (λ object. length object.chunk) objects
-
+-- the bytes of the chunks of objects, header words included
 abbrev pub bytes_in : List Object → ℕ
 bytes_in objects = 4 * words_in objects
 

@@ -37,16 +37,16 @@ spelling_of-parts order words front after spelled parts is_spelled =
     ap (spelling_of order) parts ∙ spelling_of-append order front after ∙ ap (λ l. l ++ spelling_of order after) (sym is_spelled)
 
 -- the words of each piece, one piece after the other
-abbrev pub words_in : List (Vec ℕ Global) → List ℕ
-words_in pieces = concat (map (λ v. v.items) pieces)
+abbrev pub piece_words : List (Vec ℕ Global) → List ℕ
+piece_words pieces = concat (map (λ v. v.items) pieces)
 
 -- from a place on: the piece there, and what follows it
-pub spelling_of-words_in : (order : Order) (pieces : List (Vec ℕ Global)) (k : ℕ) (piece : Vec ℕ Global) (words : List ℕ)
+pub spelling_of-piece_words : (order : Order) (pieces : List (Vec ℕ Global)) (k : ℕ) (piece : Vec ℕ Global) (words : List ℕ)
     → k < length pieces
     → piece ≡ get_or pieces k piece → words ≡ piece.items
-    → spelling_of order (words_in (drop k pieces)) ≡ spelling_of order words ++ spelling_of order (words_in (drop (k + 1) pieces))
-spelling_of-words_in order pieces k piece words inside is_piece is_words =
-    let after = words_in (drop (k + 1) pieces) in
-    let parts : words_in (drop k pieces) ≡ words ++ after =
-    ap words_in (drop_more pieces k piece inside) ∙ ap (λ v. v.items ++ after) (sym is_piece) ∙ ap (λ l. l ++ after) (sym is_words) in
-    spelling_of-parts order (words_in (drop k pieces)) words after (spelling_of order words) parts refl
+    → spelling_of order (piece_words (drop k pieces)) ≡ spelling_of order words ++ spelling_of order (piece_words (drop (k + 1) pieces))
+spelling_of-piece_words order pieces k piece words inside is_piece is_words =
+    let after = piece_words (drop (k + 1) pieces) in
+    let parts : piece_words (drop k pieces) ≡ words ++ after =
+    ap piece_words (drop_more pieces k piece inside) ∙ ap (λ v. v.items ++ after) (sym is_piece) ∙ ap (λ l. l ++ after) (sym is_words) in
+    spelling_of-parts order (piece_words (drop k pieces)) words after (spelling_of order words) parts refl

@@ -1,6 +1,6 @@
 -- The object memory as a list of chunks, and its objects: the chunks that are not free.
 use Rattle.std.specs.Prelude.{ℕ, suc, ◌+◌, ◌*◌, ◌==◌, if◌then◌else◌, List, [], ◌∷◌, ◌++◌, map, length, slice_index_or}
-use Rattle.std.specs.Prelude.{Option, Some, None, option_map}
+use Rattle.std.specs.Prelude.{sum_by, Option, Some, None, option_map}
 use Rattle.std.specs.List.{concat}
 use Rattle.sqz_object.specs.declared.order.Order.{Order}
 use Rattle.sqz_object.specs.Bytes.{spelling_of}
@@ -43,6 +43,10 @@ object_at memory index = slice_index_or (objects memory) index record { first = 
 -- the words of an object's chunk
 abbrev pub chunk_words : Memory → ℕ → List ℕ
 chunk_words memory index = (object_at memory index).chunk
+
+-- the total length in words of the chunks of these objects, header words included
+abbrev pub words_in : List Object → ℕ
+words_in objects = sum_by (λ object. length object.chunk) objects
 
 -- the index of an object's base header among the data words
 abbrev pub header_index : Object → ℕ

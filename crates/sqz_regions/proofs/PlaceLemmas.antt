@@ -8,10 +8,10 @@ use Rattle.std.proofs.Common.{map, length, get_or, take, refl, ap, ◌∙◌, ar
 use Rattle.std.specs.List.{count_by}
 use Rattle.std.proofs.lemmas.List.{length-take}
 use Rattle.std.proofs.lemmas.List.Sums.{sum_by-cons, sum_by_push}
-use Rattle.sqz_image.specs.Objects.{Memory, Object, moved_on, objects, object_count, object_at}
+use Rattle.sqz_image.specs.Objects.{Memory, Object, moved_on, objects, object_count, object_at, words_in}
 use Rattle.sqz_image.specs.Objects.{chunk_words}
 use Rattle.sqz_trace.specs.Live.{marked, live}
-use Rattle.sqz_regions.specs.Places.{words_in, live_words_below, live_words}
+use Rattle.sqz_regions.specs.Places.{live_words_below, live_words}
 use Rattle.sqz_regions.proofs.MarkedLemmas.{marked_more_yes, marked_more_no, marked_all}
 use Rattle.sqz_regions.proofs.MarkedLemmas.{length-marked, length-marked_count}
 

@@ -10,9 +10,9 @@ use Rattle.std.proofs.lemmas.Bool.{cases_order, lt-ltb, le-ltb, eq-eqb, ne_eqb}
 use Rattle.std.proofs.lemmas.List.{length-append, take_all}
 use Rattle.std.proofs.lemmas.List.Sums.{sum_by-cons, sum_by_more, sum_by-take-le}
 use Rattle.sqz_object.specs.Chunk.{is_object}
-use Rattle.sqz_image.specs.Objects.{Memory, Object, objects_of, moved_on, objects, object_count}
+use Rattle.sqz_image.specs.Objects.{Memory, Object, objects_of, moved_on, objects, object_count, words_in}
 use Rattle.sqz_trace.specs.Live.{live}
-use Rattle.sqz_regions.specs.Places.{words_in, live_words_below, live_words}
+use Rattle.sqz_regions.specs.Places.{live_words_below, live_words}
 use Rattle.sqz_regions.specs.Regions.{Cutting, Regioning, region_of, region_count, objects_before, live_words_in}
 use Rattle.sqz_regions.specs.Bases.{AreSums, AreBasesOf}
 use Rattle.sqz_regions.proofs.PlaceLemmas.{size, words_in-cons, words_in-moved_on, words_in-marked, live_words_all}

@@ -2,9 +2,8 @@
 -- region.
 use Rattle.std.specs.Prelude.{ℕ, ◌+◌, ◌-◌, ◌/◌, ◌==◌, nat_le, nat_lt, Bool, List, length, filter, count_by}
 use Rattle.std.specs.List.{concat}
-use Rattle.sqz_image.specs.Objects.{Memory, Object, objects, object_at}
+use Rattle.sqz_image.specs.Objects.{Memory, Object, objects, object_at, words_in}
 use Rattle.sqz_trace.specs.Live.{live}
-use Rattle.sqz_regions.specs.Places.{words_in}
 
 -- a cut of data words: at each multiple of a number of words from that number on, or at these words
 pub data Cutting : Type 0 where

@@ -8,12 +8,12 @@ use Rattle.std.proofs.lemmas.List.{length-append, length-map, length-drop, lengt
 use Rattle.std.proofs.lemmas.List.Sums.{sum_by-cons}
 use Rattle.sqz_object.specs.Chunk.{IsChunk, chunk_kind, before, fields}
 use Rattle.sqz_object.proofs.ChunkLemmas.{chunk_kind_is, chunk_has_header}
-use Rattle.sqz_image.specs.Objects.{Memory, Object, objects}
+use Rattle.sqz_image.specs.Objects.{Memory, Object, objects, words_in}
 use Rattle.sqz_image.proofs.ObjectLemmas.{objects_keep}
 use Rattle.sqz_trace.specs.declared.weak.Weak.{Weak}
 use Rattle.sqz_trace.specs.Strong.{is_weak, strong}
 use Rattle.sqz_trace.specs.Live.{marked, live}
-use Rattle.sqz_regions.specs.Places.{words_in, live_words}
+use Rattle.sqz_regions.specs.Places.{live_words}
 use Rattle.sqz_slide.specs.Moved.{moved_field, moved_weak, moved_header, moved_others, moved_fields, moved, moved_objects}
 use Rattle.sqz_slide.proofs.HeaderLemmas.{length-moved_header}
 

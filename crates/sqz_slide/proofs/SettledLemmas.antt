@@ -12,7 +12,7 @@ use Rattle.sqz_object.specs.declared.chunk.Kind.TheVariants.{Three, Two, Free, S
 use Rattle.sqz_object.specs.Value.{signed_31}
 use Rattle.sqz_object.specs.Chunk.{IsChunk, IsChunkOf, chunk_kind, is_object, words_before, fields, before}
 use Rattle.sqz_object.proofs.ChunkLemmas.{chunk_kind_is}
-use Rattle.sqz_image.specs.Objects.{Memory, Object, moved_on, objects_of, objects, object_count, object_at, chunk_words}
+use Rattle.sqz_image.specs.Objects.{Memory, Object, moved_on, objects_of, objects, object_count, object_at, chunk_words, words_in}
 use Rattle.sqz_image.specs.Objects.{address_of, find}
 use Rattle.sqz_image.proofs.FoundLemmas.{address-find, objects_of-all, object-all}
 use Rattle.sqz_trace.specs.declared.weak.Weak.{Weak}
@@ -22,7 +22,7 @@ use Rattle.sqz_trace.specs.Targets.{object_named, named_by}
 use Rattle.sqz_trace.specs.Strong.{is_weak, strong}
 use Rattle.sqz_trace.specs.Live.{marked, live}
 use Rattle.sqz_trace.proofs.CopyLemmas.{all_marked}
-use Rattle.sqz_regions.specs.Places.{words_in, live_words_below, live_words, place}
+use Rattle.sqz_regions.specs.Places.{live_words_below, live_words, place}
 use Rattle.sqz_regions.proofs.PlaceLemmas.{words_in-cons, words_in-moved_on}
 use Rattle.sqz_slide.specs.Moved.{new_address, moved_field, nil_place, address_or, moved_weak, moved_class, moved_header}
 use Rattle.sqz_slide.specs.Moved.{moved_others, moved_fields, moved, moved_objects}
