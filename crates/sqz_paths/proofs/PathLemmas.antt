@@ -30,15 +30,15 @@ module _ (memory : Memory) (weak : Weak) where
       → LeadsBySlots memory weak from steps goal → Leads (graph_from start memory weak) from (objects_on steps) goal
   Leads-by_slots start from [] goal inside same = same
   Leads-by_slots start from (step ∷ steps) goal inside by_slots = (
-    record { inside = inside; slot = step.slot; names = by_slots.0 },
-    Leads-by_slots start step.object steps goal (strong_target-lt from step.slot step.object by_slots.0) by_slots.1,
+    record { inside = inside; slot = step.slot; names = by_slots.0.names },
+    Leads-by_slots start step.object steps goal (strong_target-lt from step.slot step.object by_slots.0.names) by_slots.1,
   )
 
   -- what steps come to are objects
   pub steps-inside : (from : ℕ) (steps : List Step) (goal : ℕ) → LeadsBySlots memory weak from steps goal
       → All (λ step. step.object < object_count memory) steps
   steps-inside from [] goal same k d lt = absurd (omega arith)
-  steps-inside from (step ∷ steps) goal by_slots zero d lt = strong_target-lt from step.slot step.object by_slots.0
+  steps-inside from (step ∷ steps) goal by_slots zero d lt = strong_target-lt from step.slot step.object by_slots.0.names
   steps-inside from (step ∷ steps) goal by_slots (suc k) d lt = steps-inside step.object steps goal by_slots.1 k d (omega arith)
 
 -- ---- a look-up that is compared with an object

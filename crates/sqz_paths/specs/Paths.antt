@@ -1,24 +1,33 @@
 -- Shortest paths along strong slots from the special objects array.
-use Rattle.std.specs.Prelude.{◌≡◌, ◌<◌, ◌≤◌, ℕ, List, [], ◌∷◌, length, map, All, Some}
+use Rattle.std.specs.Prelude.{◌≡◌, ◌<◌, ◌≤◌, ℕ, List, [], ◌∷◌, ◌++◌, length, map, All, Some}
+use Rattle.sqz_image.specs.declared.slot.Slot.{Slot}
 use Rattle.sqz_image.specs.Objects.{Memory, object_count, find}
 use Rattle.sqz_trace.specs.declared.weak.Weak.{Weak}
-use Rattle.sqz_trace.specs.Edges.{strong_target}
+use Rattle.sqz_trace.specs.Edges.{OutEdges, out_edges, strong_slots, edge_target, IsTargetAmong}
 use Rattle.sqz_trace.specs.Graph.{Leads, IsReachable}
 use Rattle.sqz_trace.specs.Reachability.{graph_from}
 use Rattle.sqz_paths.specs.declared.path.Step.{Step}
 
--- from an object on, each step's slot points to the object of the step, and the last one is the
--- goal
+-- the first of the strong slots that points to the object; the class word comes before the fields
+pub record IsFirstSlotTo (edges : OutEdges) (object : ℕ) (slot : Slot) : Type 0 where
+  pub names : edge_target edges slot ≡ Some object
+  pub before : List Slot
+  pub after : List Slot
+  pub slots : strong_slots edges ≡ before ++ slot ∷ after
+  pub none : IsTargetAmong edges before object → ⊥
+
+-- from an object on, each step goes along the first slot that points to the object of the step, and
+-- the last one is the goal
 abbrev pub LeadsBySlots : Memory → Weak → ℕ → List Step → ℕ → Type 0
 LeadsBySlots memory weak from [] goal = from ≡ goal
 LeadsBySlots memory weak from (step ∷ steps) goal =
-    (strong_target memory weak from step.slot ≡ Some step.object) × LeadsBySlots memory weak step.object steps goal
+    IsFirstSlotTo (out_edges memory weak from) step.object step.slot × LeadsBySlots memory weak step.object steps goal
 
 -- the objects of the steps, in order
 abbrev pub objects_on : List Step → List ℕ
 objects_on steps = map (λ step. step.object) steps
 
--- the steps are a path to the object along their slots, and no path to it has fewer
+-- the steps are a path to the object along their slots, and no path to it has fewer steps
 pub record IsShortestPath (memory : Memory) (weak : Weak) (object : ℕ) (steps : List Step) : Type 0 where
   pub start : ℕ
   pub is_special : find memory memory.special ≡ Some start

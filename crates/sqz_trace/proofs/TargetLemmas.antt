@@ -92,6 +92,17 @@ slots_at_end all begin is yielded left went answer after none last =
     sym (map-id yielded)
     ∙ (YieldsList-end (YieldsList-from_first (λ slot. slot) (λ rest. rest) all is) yielded left went answer after none last).0
 
+-- a loop over slots has gone over all slots before the next one
+slots_before : (begin yielded left : List Slot) → Yields (YieldsFirst (λ rest. rest)) begin yielded left → begin ≡ yielded ++ left
+slots_before begin [] left went = went
+slots_before begin (slot ∷ yielded) left went = went.1 ∙ ap (λ rest. slot ∷ rest) (slots_before went.0 yielded left went.2)
+
+pub slots_at : (all begin : List Slot) → begin ≡ all → (yielded left : List Slot)
+    → Yields (YieldsFirst (λ rest. rest)) begin yielded left → (slot : Slot) (after : List Slot) → left ≡ slot ∷ after
+    → all ≡ yielded ++ slot ∷ after
+slots_at all begin is yielded left went slot after next =
+    sym is ∙ slots_before begin yielded left went ∙ ap (λ rest. yielded ++ rest) next
+
 -- ---- the objects that slots point to
 
 module _ (edges : OutEdges) (slots : List Slot) where

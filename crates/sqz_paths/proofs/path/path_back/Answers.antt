@@ -1,10 +1,10 @@
 use Rattle.std.proofs.Common.{◌≡◌, ℕ, ◌∙◌, Some, length, refl, sym, ap, subst, arith}
 use Rattle.std.specs.Prelude.{reverse, slice_index}
 use Rattle.std.proofs.lemmas.List.{length-reverse, length_push, reverse-append}
-use Rattle.sqz_trace.specs.Edges.{OutEdges, edge_target, strong_slots, strong_target, HasEdge}
+use Rattle.sqz_trace.specs.Edges.{OutEdges, out_edges, strong_slots, HasEdge}
 use Rattle.sqz_trace.proofs.TargetLemmas.{IsTargetAmong-edge}
 use Rattle.sqz_paths.specs.declared.path.Step.{Step}
-use Rattle.sqz_paths.specs.Paths.{LeadsBySlots}
+use Rattle.sqz_paths.specs.Paths.{IsFirstSlotTo, LeadsBySlots}
 use Rattle.sqz_paths.proofs.PathLemmas.{IsReadBack, found-is, found-inside, before-earlier, before-edge, before-deep, before-is}
 use Rattle.sqz_paths.proofs.path.path_back.Goals as goal
 use Rattle.sqz_paths.proofs.path.path_back.Goals.{After-of-arg-1}
@@ -60,11 +60,11 @@ loop-next-preserved c =
     in
     let there = before-is _ _ _ _ _ _ _ _ read c.index-in-loop-next.result.now c.index-in-loop-next.ensures in
     let rest = subst (λ (i : ℕ). LeadsBySlots memory c.args.search.now.weak i (reverse c.loop-next.steps.items) end) (sym is) so_far.leads in
-    let leads = subst (λ (it : OutEdges). edge_target it c.in-Some.slot ≡ Some object) c.of-edges.ensures c.in-Some.ensures.names in
-    let names = subst (λ (i : ℕ). strong_target memory c.args.search.now.weak i c.in-Some.slot ≡ Some object) there leads in
+    let leads = subst (λ (it : OutEdges). IsFirstSlotTo it object c.in-Some.slot) c.of-edges.ensures c.in-Some.ensures.first in
+    let first = subst (λ (i : ℕ). IsFirstSlotTo (out_edges memory c.args.search.now.weak i) object c.in-Some.slot) there leads in
     record {
       inside = omega (arith, before-earlier _ _ _ _ _ _ _ _ read, so_far.inside);
-      leads = rw (pushed, reverse-append) (names, rest);
+      leads = rw (pushed, reverse-append) (first, rest);
       deep = λ law.
           omega (
             arith,
