@@ -2,7 +2,12 @@
 -- Serves `passes::raced`, `steps::assert_blackens`, `::assert_claims`, `::assert_each_blackens`, `::assert_looks`,
 -- `::assert_marked`, `::claim`, `::mark_dead_cycle`, `::mark_named`, `::mark_special`, `targets::claim_target` and
 -- `targets::mark_targets`; `InOrderLemmas`.
-use Rattle.std.proofs.Common.{◌≡◌, ◌≢◌, ◌⊎◌, ℕ, ◌<◌, List, ◌∷◌, Option, Some, None, refl, sym, ap, subst, ◌∙◌, arith, inl, inr}
+use Rattle.std.proofs.Common.{◌≡◌, ◌≢◌, ◌⊎◌, ℕ, ◌<◌, List, [], ◌∷◌, ◌++◌, length, length-append, Option, Some, None, refl, sym, ap, subst, ◌∙◌}
+use Rattle.std.proofs.Common.{arith, inl, inr}
+use Rattle.std.specs.Prelude.{slice_index_or}
+use Rattle.std.proofs.Math.ListN.{get_or-append}
+use Rattle.std.proofs.Math.Seq.{get_or-append_seam}
+use Rattle.std.proofs.lemmas.List.Elements.{All-push}
 use Rattle.sqz_image.specs.declared.slot.Slot.{Slot}
 use Rattle.sqz_trace.specs.declared.shades.Shade.{Shade}
 use Rattle.sqz_trace.specs.declared.shades.Shade.TheVariants.{White, Grey, Black}
@@ -15,7 +20,7 @@ use Rattle.sqz_marks.specs.Core.{kept_of, part_of, joined}
 use Rattle.sqz_marks.specs.Table.{HeldPass, HasCountedAll, knowing}
 use Rattle.sqz_marks.specs.Claims.{IsClaim}
 use Rattle.sqz_marks.proofs.TimesLemmas.{times-same, times-more, times-either, times-append, times-in_two}
-use Rattle.sqz_test_marks.specs.Passes.{IsLater, Knows, ClaimsTargets}
+use Rattle.sqz_test_marks.specs.Passes.{IsLater, Knows, AreSeen, ClaimsTargets}
 
 -- ---- one pass after the other
 
@@ -31,6 +36,34 @@ IsLater-then first second third old new =
       keeps = λ object seen. new.keeps object (old.keeps object seen);
       counts = λ all. new.counts (old.counts all);
     }
+
+-- ---- lists of objects that a pass has seen
+
+-- they stay so
+pub AreSeen-later : (count : ℕ) (old new : HeldPass) (list : List ℕ) → IsLater old new → AreSeen count old.view list
+    → AreSeen count new.view list
+AreSeen-later count old new list later seen k d lt =
+    let item = seen k d lt in (item.0, later.keeps (slice_index_or list k d) item.1)
+
+-- the last of a list, and those before it
+pub AreSeen-last : (count : ℕ) (view : View) (list : List ℕ) (object : ℕ) → AreSeen count view (list ++ object ∷ [])
+    → (object < count) × HasSeen view object
+AreSeen-last count view list object seen =
+    let long : length list < length (list ++ object ∷ []) = omega (arith, length-append list (object ∷ [])) in
+    subst (λ (o : ℕ). (o < count) × HasSeen view o) (get_or-append_seam list object [] 0) (seen (length list) 0 long)
+
+pub AreSeen-front : (count : ℕ) (view : View) (list : List ℕ) (object : ℕ) → AreSeen count view (list ++ object ∷ [])
+    → AreSeen count view list
+AreSeen-front count view list object seen k d lt =
+    let long : k < length (list ++ object ∷ []) = omega (arith, lt, length-append list (object ∷ [])) in
+    subst (λ (o : ℕ). (o < count) × HasSeen view o) (get_or-append list (object ∷ []) d k lt) (seen k d long)
+
+-- the list that marking begins with
+pub AreSeen-first : (count : ℕ) (view : View) {workers : ℕ} (start : ℕ) → view ≡ first_view workers start → start < count
+    → AreSeen count view (start ∷ [])
+AreSeen-first count view start is inside =
+    All-push (λ object. (object < count) × HasSeen view object) [] start (λ k d lt. absurd (omega (arith, lt)))
+    (inside, subst (λ (v : View). HasSeen v start) (sym is) (omega (arith, times-same start [])))
 
 -- ---- looks and claims
 
@@ -223,3 +256,19 @@ ClaimsTargets-blackened IsTarget object first second third step some =
       };
       targets = some.targets;
     })
+
+-- an object that was won and counted is added to a list
+pub AreSeen-won : (count : ℕ) (old new third : HeldPass) (named : Option ℕ) (found : ℕ) (list : List ℕ)
+    → IsClaim named old new (Won found)
+    → third ≡ knowing new (counted found new.view) → found < count → AreSeen count old.view list
+    → AreSeen count third.view (list ++ found ∷ [])
+AreSeen-won count old new third named found list claim step inside listed =
+    let both = IsClaim-counted old new named found third claim step in
+    All-push (λ object. (object < count) × HasSeen third.view object) list found
+    (AreSeen-later count old third list both.1 listed) (inside, both.0)
+
+-- a pass that knows an object to be black has seen what it had seen
+pub AreSeen-blackened : (count object : ℕ) (old new : HeldPass) (list : List ℕ) → new ≡ knowing old (blackened object old.view)
+    → AreSeen count old.view list → AreSeen count new.view list
+AreSeen-blackened count object old new list step listed =
+    subst (λ (p : HeldPass). AreSeen count p.view list) (sym step) listed

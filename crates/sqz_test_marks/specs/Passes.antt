@@ -1,5 +1,5 @@
 -- What calls leave of a pass, and what it has seen of what they claimed.
-use Rattle.std.specs.Prelude.{◌≡◌, ℕ}
+use Rattle.std.specs.Prelude.{◌≡◌, ◌<◌, ℕ, List, All}
 use Rattle.sqz_marks.specs.declared.view.View.{View}
 use Rattle.sqz_marks.specs.declared.claim.Claim.{Claim}
 use Rattle.sqz_marks.specs.declared.claim.Claim.TheVariants.{Won, Seen, Nothing}
@@ -19,6 +19,14 @@ abbrev pub Knows : View → Claim → Type 0
 Knows view (Won object) = HasSeen view object
 Knows view (Seen object) = HasSeen view object
 Knows view Nothing = Unit {0}
+
+-- a list of objects of a heap with this many, each of which the pass has seen
+abbrev pub AreSeen : ℕ → View → List ℕ → Type 0
+AreSeen count view list = All (λ object. (object < count) × HasSeen view object) list
+
+-- what was a list of seen objects became another
+abbrev pub KeepsSeenIn : ℕ → HeldPass → HeldPass → List ℕ → List ℕ → Type 0
+KeepsSeenIn count old new list longer = AreSeen count old.view list → AreSeen count new.view longer
 
 -- all targets were claimed
 pub record ClaimsTargets (IsTarget : ℕ → Type 0) (old new : HeldPass) : Type 0 where

@@ -5,7 +5,7 @@ ghost use Rattle.sqz_image.specs.Objects.{object_count};
 ghost use Rattle.sqz_trace.specs.Edges.{edge_target, HasEdge};
 ghost use Rattle.sqz_marks.specs.Core.{HasSeen};
 ghost use Rattle.sqz_marks.specs.Table.{IsPassOf, AreEdgesOfSeen};
-ghost use Rattle.sqz_test_marks.specs.Passes.{ClaimsTargets};
+ghost use Rattle.sqz_test_marks.specs.Passes.{ClaimsTargets, KeepsSeenIn};
 
 use sqz_image::Slot;
 use sqz_marks::{Claim, MarkTable, Pass};
@@ -23,8 +23,10 @@ fn claim_target(
 ) -> Result<(), AllocError>
     requires of { IsPassOf table.now pass.old }
     requires seen { AreEdgesOfSeen table.now.heap.memory table.now.weak pass.old.view edges.now }
-    ensures { OnOk result (ClaimsTargets (λ object. edge_target edges.now slot ≡ Some object)
+    ensures claims { OnOk result (ClaimsTargets (λ object. edge_target edges.now slot ≡ Some object)
         pass.old pass.new) }
+    ensures listed { OnOk result (KeepsSeenIn (object_count table.now.heap.memory) pass.old pass.new
+        won.old.items won.new.items) }
 {
     if let Claim::Won(found) = table.claim_of(pass, edges, slot) {
         table.count(pass, found);
@@ -44,8 +46,10 @@ pub(crate) fn mark_targets(
     requires of { IsPassOf table.now pass.old }
     requires inside { object < object_count table.now.heap.memory }
     requires seen { HasSeen pass.old.view object }
-    ensures { OnOk result (ClaimsTargets (HasEdge table.now.heap.memory table.now.weak object)
+    ensures claims { OnOk result (ClaimsTargets (HasEdge table.now.heap.memory table.now.weak object)
         pass.old pass.new) }
+    ensures listed { OnOk result (KeepsSeenIn (object_count table.now.heap.memory) pass.old pass.new
+        won.old.items won.new.items) }
 {
     let edges = table.edges(object);
     for slot in edges.slots() {
