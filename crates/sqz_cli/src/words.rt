@@ -5,6 +5,7 @@ ghost use Rattle.std.specs.Prelude.{◌⊎◌, ◌≡◌, IfErr, IsOk};
 use crate::refusals::refuse;
 use crate::wrong_words::refuse_words;
 use sqz_image::{Fault, Sink};
+use std::alloc::Global;
 use std::io::ErrorKind;
 use std::rt::Env;
 use std::{env, io};
@@ -13,11 +14,15 @@ use std::{env, io};
 ///
 /// If out of memory, or if a word is not valid text, it prints one line on `err` and fails with
 /// the exit code of the program.
-pub fn words_or_exit<R: Env + AllocGlobal, E: Sink>(rt: &R, err: &mut E) -> Result<Vec<String>, u8>
+pub fn words_or_exit<R: Env + AllocGlobal, E: Sink>(
+    rt: &R,
+    alloc: Global,
+    err: &mut E,
+) -> Result<Vec<String>, u8>
     ensures exit { IfErr result (λ exit. (exit ≡ 4) ⊎ (exit ≡ 2)) }
     ensures silent { IsOk result → err.new ≡ err.old }
 {
-    match words(rt) {
+    match words(rt, alloc) {
         Ok(words) => Ok(words),
         Err(error) if error.kind() == ErrorKind::OutOfMemory => {
             Err(refuse(&Fault::OutOfMemory, err))
@@ -27,6 +32,6 @@ pub fn words_or_exit<R: Env + AllocGlobal, E: Sink>(rt: &R, err: &mut E) -> Resu
 }
 
 /// Returns the words of the command line. Fails if a word is not valid text, or if out of memory.
-fn words<R: Env + AllocGlobal>(rt: &R) -> io::Result<Vec<String>> {
-    Ok(env::args(rt)?.collect(rt.alloc())?)
+fn words<R: Env + AllocGlobal>(rt: &R, alloc: Global) -> io::Result<Vec<String>> {
+    Ok(env::args(rt)?.collect(alloc)?)
 }

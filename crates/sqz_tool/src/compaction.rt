@@ -44,6 +44,7 @@ pub(crate) struct Compaction {
 /// fails only if out of memory.
 pub(crate) fn compaction_of<T: Threads + Sync, G: Gate, O: StageObserver>(
     session: &mut Session<'_, T, G, O>,
+    alloc: Global,
     plan: &Plan,
     image: &Image,
 ) -> Result<Compaction, Fault>
@@ -58,16 +59,17 @@ pub(crate) fn compaction_of<T: Threads + Sync, G: Gate, O: StageObserver>(
     if lacks_nil(heap, plan.weak) {
         return Err(Fault::NoNil);
     }
-    let regions = Regions::of(session.alloc, heap, &plan.cut)?;
+    let regions = Regions::of(alloc, heap, &plan.cut)?;
     session.observer.finished(Stage::Cut);
-    let marked = sound_marks(session, plan, image, &regions)?;
-    move_live_objects(session, plan, image, &regions, &marked)
+    let marked = sound_marks(session, alloc, plan, image, &regions)?;
+    move_live_objects(session, alloc, plan, image, &regions, &marked)
 }
 
 /// Returns the result of marking. Fails with the defect of the lowest reachable object that has
 /// one. Otherwise fails only if out of memory.
 fn sound_marks<T: Threads + Sync, G: Gate, O: StageObserver>(
     session: &mut Session<'_, T, G, O>,
+    alloc: Global,
     plan: &Plan,
     image: &Image,
     regions: &Regions<'_>,
@@ -90,7 +92,7 @@ fn sound_marks<T: Threads + Sync, G: Gate, O: StageObserver>(
     let heap = image.heap();
     let marked = mark(
         session.rt,
-        session.alloc,
+        alloc,
         heap,
         plan.weak,
         regions,
@@ -109,6 +111,7 @@ fn sound_marks<T: Threads + Sync, G: Gate, O: StageObserver>(
 /// memory.
 fn move_live_objects<T: Threads + Sync, G: Gate, O: StageObserver>(
     session: &mut Session<'_, T, G, O>,
+    alloc: Global,
     plan: &Plan,
     image: &Image,
     regions: &Regions<'_>,
@@ -131,11 +134,11 @@ fn move_live_objects<T: Threads + Sync, G: Gate, O: StageObserver>(
     let heap = image.heap();
     let weak = plan.weak;
     heap_bounds(heap); // fewer than 2^30 words, with addresses up to 2^32
-    let forward = places_of(session.rt, session.alloc, heap, regions, marked)?;
+    let forward = places_of(session.rt, alloc, heap, regions, marked)?;
     session.observer.finished(Stage::Place);
     let pieces = slide(
         session.rt,
-        session.alloc,
+        alloc,
         heap,
         weak,
         regions,
@@ -144,7 +147,7 @@ fn move_live_objects<T: Threads + Sync, G: Gate, O: StageObserver>(
         session.gate,
     )?;
     session.observer.finished(Stage::Slide);
-    let census = census_text(session, plan, heap, &marked.marks, &forward)?;
+    let census = census_text(session, alloc, plan, heap, &marked.marks, &forward)?;
     let special = forward.place(heap.special()).unwrap();
     let summary = Summary {
         objects: heap.len(),
@@ -182,6 +185,7 @@ fn places_of(
 /// Returns the text of the census, if the plan asks for one. Fails only if out of memory.
 fn census_text<T: Threads + Sync, G: Gate, O: StageObserver>(
     session: &mut Session<'_, T, G, O>,
+    alloc: Global,
     plan: &Plan,
     heap: &Heap,
     marks: &Marks,
@@ -198,8 +202,8 @@ fn census_text<T: Threads + Sync, G: Gate, O: StageObserver>(
     if !plan.census {
         return Ok(None);
     }
-    let rows = census(session.rt, session.alloc, heap, plan.weak, marks, forward)?;
-    let text = print(session.alloc, &rows)?;
+    let rows = census(session.rt, alloc, heap, plan.weak, marks, forward)?;
+    let text = print(alloc, &rows)?;
     session.observer.finished(Stage::Census);
     Ok(Some(text))
 }

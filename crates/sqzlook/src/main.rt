@@ -9,7 +9,7 @@ use std::process::ExitCode;
 fn main(rt: HostRuntime) -> ExitCode {
     let mut out = WriteSink::new(QuietPipe::new(rt.stdout()));
     let mut err = WriteSink::new(rt.stderr());
-    let exit = match words_or_exit(&rt, &mut err) {
+    let exit = match words_or_exit(&rt, rt.alloc(), &mut err) {
         Ok(words) => look(&rt, rt.alloc(), &words, &mut out, &mut err),
         Err(exit) => exit,
     };
