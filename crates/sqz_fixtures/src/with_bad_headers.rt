@@ -1,8 +1,6 @@
 //! Images whose headers state what no image may state.
 
-use super::accepted::DEAD_ARRAY;
-use super::chunks::Chunk::Array;
-use super::chunks::NIL;
+use super::accepted::{DEAD_ARRAY, HIGHEST_BASE};
 use super::images::{EMPTY, TestImage};
 
 /// Another version.
@@ -29,12 +27,11 @@ pub const UNEVEN_BASE: TestImage = TestImage {
     ..DEAD_ARRAY
 };
 
-/// Data that reach past the last address.
+/// The image with the highest base, with a base that is higher by a word: the data reach past the
+/// last address.
 pub const BASE_TOO_HIGH: TestImage = TestImage {
     base: 0xFFFF_FFEC,
-    chunks: &[NIL, Array(&[1, 1]), Array(&[0xFFFF_FFEC])],
-    special: 0xFFFF_FFFC,
-    ..EMPTY
+    ..HIGHEST_BASE
 };
 
 /// Another version counts before another size of the header.
