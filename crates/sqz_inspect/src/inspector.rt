@@ -1,7 +1,7 @@
 //! What an image is inspected with.
 
-ghost use Rattle.std.specs.Prelude.{IfErr, length, ◌≡◌};
-ghost use Rattle.sqz_image.specs.Objects.{object_count};
+ghost use Rattle.std.specs.Prelude.{IfOk, IfErr, length, ◌≡◌, ◌*◌, ◌<◌};
+ghost use Rattle.sqz_image.specs.Objects.{object_count, chunk_words, address_of};
 ghost use Rattle.sqz_image.specs.declared.fault.Fault.TheVariants.{OutOfMemory};
 ghost use Rattle.sqz_trace.specs.Reachability.{IsReachability};
 
@@ -30,6 +30,8 @@ pub struct Inspector<'a> {
 impl<'a> Inspector<'a> {
     /// Returns an inspector of an image under a policy on weak slots. Fails only if out of memory.
     pub fn of(alloc: Global, image: &'a Image, weak: Weak) -> Result<Self, Fault>
+        ensures same { IfOk result (λ inspector.
+            (inspector.image.now ≡ image.now) × (inspector.weak ≡ weak)) }
         ensures refused { IfErr result (λ fault. fault ≡ OutOfMemory) }
     {
         let heap = image.heap();
@@ -45,16 +47,22 @@ impl<'a> Inspector<'a> {
         })
     }
 
-    /// Returns the length in bytes of an object's chunk.
-    pub fn bytes(&self, object: ObjectIndex) -> u64 {
+    /// Returns the length in bytes of an object's chunk; 0 if there is no such object.
+    pub fn bytes(&self, object: ObjectIndex) -> u64
+        ensures { object < object_count self.now.heap.now →
+            result ≡ 4 * length (chunk_words self.now.heap.now object) }
+    {
         if object >= self.heap.len() {
             return 0;
         }
         4 * u64::from(self.heap.chunk_length(object))
     }
 
-    /// Returns the address of an object.
-    pub fn address(&self, object: ObjectIndex) -> u32 {
+    /// Returns the address of an object; 0 if there is no such object.
+    pub fn address(&self, object: ObjectIndex) -> u32
+        ensures { object < object_count self.now.heap.now →
+            result ≡ address_of self.now.heap.now object }
+    {
         if object >= self.heap.len() {
             return 0;
         }
