@@ -13,7 +13,7 @@ mod difference;
 use anyhow::Result;
 use difference::{Difference, first_difference};
 use sqz_image::{Fault, Image, ReadSource, image_of_file, read_all};
-use sqz_paths::dominators_of;
+use sqz_dominators::dominators_of;
 use sqz_trace::Weak;
 use std::alloc::Global;
 use std::env;

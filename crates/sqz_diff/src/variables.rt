@@ -7,7 +7,7 @@ use crate::change::{Change, changes_of};
 use sqz_image::Fault;
 use sqz_inspect::Inspector;
 use sqz_names::{Role, Variable};
-use sqz_paths::dominators_of;
+use sqz_dominators::dominators_of;
 use std::alloc::AllocError;
 use std::cmp::Reverse;
 use std::collections::BTreeMap;

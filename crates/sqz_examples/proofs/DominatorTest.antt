@@ -17,10 +17,10 @@ use Rattle.sqz_trace.specs.Graph.{Graph, Leads, IsReachable, is_marked, MarksRea
 use Rattle.sqz_trace.specs.Reachability.{graph_from}
 use Rattle.sqz_trace.proofs.CopyLemmas.{marked_inside}
 use Rattle.sqz_trace.proofs.ReachabilityLemmas.{MarksReachable-from_tracing}
-use Rattle.sqz_paths.specs.Dominators.{Dominates, IsImmediate, AreImmediate}
-use Rattle.sqz_paths.proofs.BasicLemmas.{Contains-first, Contains-later, Contains-cases}
-use Rattle.sqz_paths.proofs.DominatorLawLemmas.{Leads-then}
-use Rattle.sqz_paths.proofs.DominatorLemmas.{Dominates-start}
+use Rattle.sqz_dominators.specs.Dominators.{Dominates, IsImmediate, AreImmediate}
+use Rattle.sqz_dominators.proofs.BasicLemmas.{Contains-first, Contains-later, Contains-cases}
+use Rattle.sqz_dominators.proofs.DominatorLawLemmas.{Leads-then}
+use Rattle.sqz_dominators.proofs.DominatorLemmas.{Dominates-start}
 use Rattle.sqz_examples.proofs.TracingTest.{marks_of, leads_to, leads_to-true, is_closed_from, closed_along}
 use Rattle.sqz_examples.proofs.TracingTest.{is_tracing_from, is_tracing_from-true}
 

@@ -15,9 +15,9 @@ use Rattle.sqz_trace.specs.Graph.{Leads, is_marked}
 use Rattle.sqz_trace.specs.Live.{live}
 use Rattle.sqz_trace.specs.Reachability.{graph_from}
 use Rattle.sqz_trace.proofs.ReachabilityLemmas.{MarksReachable-from_tracing}
-use Rattle.sqz_paths.specs.declared.retained.Retained.{Retained}
-use Rattle.sqz_paths.specs.Dominators.{Dominates}
-use Rattle.sqz_paths.specs.Retained.{IsRetained}
+use Rattle.sqz_dominators.specs.declared.retained.Retained.{Retained}
+use Rattle.sqz_dominators.specs.Dominators.{Dominates}
+use Rattle.sqz_dominators.specs.Retained.{IsRetained}
 use Rattle.sqz_examples.proofs.TracingTest.{marks_of, leads_to, leads_to-true, all_lead}
 use Rattle.sqz_examples.proofs.TracingTest.{is_tracing_from, is_tracing_from-true, is_tracing_from-leads}
 use Rattle.sqz_examples.proofs.DominatorTest.{is_closed_without, Dominates-computed}

@@ -7,8 +7,8 @@
 ghost use Rattle.std.specs.Prelude.{[], ◌∷◌, Some, None};
 ghost use Rattle.sqz_trace.specs.declared.weak.Weak.TheVariants.{Keep, Clear};
 ghost use Rattle.sqz_trace.specs.Reachability.{graph_from};
-ghost use Rattle.sqz_paths.specs.Dominators.{AreImmediate};
-ghost use Rattle.sqz_paths.specs.Retained.{IsRetained, nothing};
+ghost use Rattle.sqz_dominators.specs.Dominators.{AreImmediate};
+ghost use Rattle.sqz_dominators.specs.Retained.{IsRetained, nothing};
 ghost use Rattle.sqz_examples.specs.DeadCycle.{dead_cycle};
 ghost use Rattle.sqz_examples.specs.Shapes.{diamond, chain, cycle_with_two_entries, root_in_cycle};
 ghost use Rattle.sqz_examples.specs.Shapes.{weak_fields};

@@ -15,7 +15,7 @@ use sqz_facts::{ObjectFacts, object_facts, slot_facts};
 use sqz_image::{Fault, Sink};
 use sqz_names::{all_bytes, escaped};
 use sqz_object::ObjectIndex;
-use sqz_paths::dominators_of;
+use sqz_dominators::dominators_of;
 use std::alloc::AllocError;
 
 /// The maximum number of bytes of a byte object in the text form, unless all are requested.

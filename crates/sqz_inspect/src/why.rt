@@ -14,7 +14,8 @@ use serde::Serialize;
 use sqz_image::{Fault, Sink, Slot};
 use sqz_names::Role;
 use sqz_object::ObjectIndex;
-use sqz_paths::{Dominators, Step, dominators_of, path_to};
+use sqz_dominators::{Dominators, dominators_of};
+use sqz_paths::{Step, path_to};
 use sqz_trace::{Weak, mark_plain};
 use std::alloc::AllocError;
 

@@ -1,16 +1,5 @@
-pub mod BasicLemmas
-pub mod SearchLemmas
 pub mod PathLemmas
 pub mod MemberLemmas
 pub mod RangeLemmas
 pub mod ReferrerLemmas
 pub mod AllDefectLemmas
-pub mod DominatorLemmas
-pub mod TreeLemmas
-pub mod GrowLemmas
-pub mod ImmediateLemmas
-pub mod TotalLemmas
-pub mod ObjectSumLemmas
-pub mod RetainedLemmas
-pub mod DominatorLawLemmas
-pub mod ChildLemmas

@@ -8,37 +8,31 @@ use Rattle.std.proofs.lemmas.Bool.{eq-eqb, eqb-true}
 use Rattle.std.proofs.lemmas.List.{get_or_read}
 use Rattle.std.proofs.lemmas.Option.{same_Some}
 use Rattle.sqz_image.specs.declared.slot.Slot.{Slot}
-use Rattle.sqz_image.specs.Objects.{Memory, object_count, chunk_words}
+use Rattle.sqz_image.specs.Objects.{Memory, object_count}
 use Rattle.sqz_trace.specs.declared.weak.Weak.{Weak}
 use Rattle.sqz_trace.specs.Edges.{strong_target, HasEdge}
-use Rattle.sqz_trace.specs.Strong.{strong}
 use Rattle.sqz_trace.specs.Graph.{Leads}
 use Rattle.sqz_trace.specs.Reachability.{graph_from}
-use Rattle.sqz_trace.proofs.EdgeLemmas.{named_among-lt}
+use Rattle.sqz_dominators.proofs.TargetLemmas.{strong_target-lt}
 use Rattle.sqz_paths.specs.declared.path.Step.{Step}
 use Rattle.sqz_paths.specs.Paths.{LeadsBySlots, objects_on}
-use Rattle.sqz_paths.specs.Search.{no_place, IsLed, IsSearchOf}
+use Rattle.sqz_dominators.specs.Search.{no_place, IsLed, IsSearchOf}
 
 module _ (memory : Memory) (weak : Weak) where
-  -- what a strong slot names is an object
-  pub strong_target-lt : (index : ℕ) (slot : Slot) (to : ℕ) → strong_target memory weak index slot ≡ Some to → to < object_count memory
-  strong_target-lt index slot to names =
-      named_among-lt memory (strong memory weak (chunk_words memory index)) (chunk_words memory index) slot to names
-
   -- steps along strong slots are a path of the graph
   pub Leads-by_slots : (start from : ℕ) (steps : List Step) (goal : ℕ) → from < object_count memory
       → LeadsBySlots memory weak from steps goal → Leads (graph_from start memory weak) from (objects_on steps) goal
   Leads-by_slots start from [] goal inside same = same
   Leads-by_slots start from (step ∷ steps) goal inside by_slots = (
     record { inside = inside; slot = step.slot; names = by_slots.0.names },
-    Leads-by_slots start step.object steps goal (strong_target-lt from step.slot step.object by_slots.0.names) by_slots.1,
+    Leads-by_slots start step.object steps goal (strong_target-lt memory weak from step.slot step.object by_slots.0.names) by_slots.1,
   )
 
   -- what steps come to are objects
   pub steps-inside : (from : ℕ) (steps : List Step) (goal : ℕ) → LeadsBySlots memory weak from steps goal
       → All (λ step. step.object < object_count memory) steps
   steps-inside from [] goal same k d lt = absurd (omega arith)
-  steps-inside from (step ∷ steps) goal by_slots zero d lt = strong_target-lt from step.slot step.object by_slots.0.names
+  steps-inside from (step ∷ steps) goal by_slots zero d lt = strong_target-lt memory weak from step.slot step.object by_slots.0.names
   steps-inside from (step ∷ steps) goal by_slots (suc k) d lt = steps-inside step.object steps goal by_slots.1 k d (omega arith)
 
 -- ---- a look-up that is compared with an object

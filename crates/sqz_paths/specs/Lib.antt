@@ -1,13 +1,4 @@
 pub mod Paths
-pub mod Search
-pub mod Searching
 pub mod Members
 pub mod Referrers
 pub mod AllDefects
-pub mod Dominators
-pub mod Trees
-pub mod Treeing
-pub mod Totals
-pub mod Retained
-pub mod Laws
-pub mod Children

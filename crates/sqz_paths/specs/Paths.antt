@@ -1,11 +1,12 @@
 -- Shortest paths along strong slots from the special objects array.
-use Rattle.std.specs.Prelude.{◌≡◌, ◌<◌, ◌≤◌, ℕ, List, [], ◌∷◌, ◌++◌, length, map, All, Some}
+use Rattle.std.specs.Prelude.{◌≡◌, ◌<◌, ◌≤◌, ℕ, List, [], ◌∷◌, ◌++◌, length, map, All, Some, slice_index}
 use Rattle.sqz_image.specs.declared.slot.Slot.{Slot}
 use Rattle.sqz_image.specs.Objects.{Memory, object_count, find}
 use Rattle.sqz_trace.specs.declared.weak.Weak.{Weak}
 use Rattle.sqz_trace.specs.Edges.{OutEdges, out_edges, strong_slots, edge_target, IsTargetAmong}
 use Rattle.sqz_trace.specs.Graph.{Leads, IsReachable}
 use Rattle.sqz_trace.specs.Reachability.{graph_from}
+use Rattle.sqz_dominators.specs.Search.{IsSearchOf}
 use Rattle.sqz_paths.specs.declared.path.Step.{Step}
 
 -- the first of the strong slots that points to the object; the class word comes before the fields
@@ -41,3 +42,8 @@ pub record IsUnreachable (memory : Memory) (weak : Weak) (object : ℕ) : Type 0
   pub start : ℕ
   pub is_special : find memory memory.special ≡ Some start
   pub none : IsReachable (graph_from start memory weak) object → ⊥
+
+-- steps lead from the first object of the list to the one at an index, as many as that is deep
+pub record IsPathBack (memory : Memory) (weak : Weak) (found from : List ℕ) (place : ℕ) (steps : List Step) : Type 0 where
+  pub leads : LeadsBySlots memory weak (slice_index found 0) steps (slice_index found place)
+  pub deep : (search : IsSearchOf memory weak found from place) → length steps ≡ slice_index search.search.depths place

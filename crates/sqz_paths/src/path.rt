@@ -3,12 +3,11 @@
 ghost use Rattle.std.specs.Prelude.{◌≡◌, ◌<◌, ◌≤◌, length, slice_index, IfOk, IfErr, IfSome};
 ghost use Rattle.std.specs.Prelude.{IfNone};
 ghost use Rattle.sqz_image.specs.declared.fault.Fault.TheVariants.{OutOfMemory};
-ghost use Rattle.sqz_paths.specs.Paths.{IsShortestPath, IsUnreachable};
-ghost use Rattle.sqz_paths.specs.Search.{IsPathBack};
-ghost use Rattle.sqz_paths.specs.Searching.{IsSearching};
+ghost use Rattle.sqz_paths.specs.Paths.{IsPathBack, IsShortestPath, IsUnreachable};
+ghost use Rattle.sqz_dominators.specs.Searching.{IsSearching};
 
-use crate::search::Search;
 use crate::slots_between::slot_between;
+use sqz_dominators::Search;
 use sqz_image::{Fault, Heap, Slot};
 use sqz_object::ObjectIndex;
 use sqz_trace::{OutEdges, Weak};

@@ -4,7 +4,7 @@ use super::images::DIAMOND;
 use sqz_fixtures::accepted::DEAD_CYCLE;
 use sqz_fixtures::{TestImage, image_of};
 use sqz_object::ObjectIndex;
-use sqz_paths::{Child, Retained, children_of, dominators_of};
+use sqz_dominators::{Child, Retained, children_of, dominators_of};
 use sqz_trace::Weak;
 use std::process::Abort;
 use std::test::Fail;

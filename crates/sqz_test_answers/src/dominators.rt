@@ -6,7 +6,7 @@ use sqz_fixtures::with_classes::CLASS_EDGE;
 use sqz_fixtures::with_weak_objects::WEAK_FIELDS;
 use sqz_fixtures::{TestImage, image_of};
 use sqz_object::ObjectIndex;
-use sqz_paths::dominators_of;
+use sqz_dominators::dominators_of;
 use sqz_trace::Weak;
 use std::process::Abort;
 use std::test::Fail;

@@ -6,7 +6,7 @@ use crate::options::Limits;
 use crate::tree::Tree;
 use sqz_inspect::Inspector;
 use sqz_object::ObjectIndex;
-use sqz_paths::Retained;
+use sqz_dominators::Retained;
 use std::alloc::AllocError;
 
 /// A row of a tree.

@@ -1,6 +1,6 @@
 use Rattle.std.proofs.Common.{true, false, ℕ, List, [], ◌∷◌, Option, Some, None, refl}
 use Rattle.sqz_trace.specs.declared.weak.Weak.TheVariants.{Keep}
-use Rattle.sqz_paths.specs.Retained.{nothing}
+use Rattle.sqz_dominators.specs.Retained.{nothing}
 use Rattle.sqz_examples.specs.DeadCycle.{dead_cycle}
 use Rattle.sqz_examples.proofs.DominatorTest.{by_edge, AreImmediate-computed}
 use Rattle.sqz_examples.proofs.RetainedTest.{IsRetained-computed}

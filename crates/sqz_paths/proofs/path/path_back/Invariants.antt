@@ -1,7 +1,7 @@
 use Rattle.std.proofs.Common.{◌≡◌, ◌+◌, ◌<◌, length}
 use Rattle.std.specs.Prelude.{reverse, slice_index}
 use Rattle.sqz_paths.specs.Paths.{LeadsBySlots}
-use Rattle.sqz_paths.specs.Search.{IsSearchOf}
+use Rattle.sqz_dominators.specs.Search.{IsSearchOf}
 use Rattle.sqz_paths.proofs.path.path_back.Given as goal
 
 abbrev pub invariant-loop-next : goal.invariant-loop-next

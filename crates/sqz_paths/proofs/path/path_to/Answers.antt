@@ -5,7 +5,7 @@ use Rattle.std.proofs.lemmas.List.{get_or_read}
 use Rattle.sqz_trace.specs.Reachability.{graph_from}
 use Rattle.sqz_paths.specs.Paths.{LeadsBySlots}
 use Rattle.sqz_paths.proofs.PathLemmas.{Leads-by_slots, steps-inside}
-use Rattle.sqz_paths.proofs.SearchLemmas.{GoesOn-inside, GoesOn-same, no_shorter, no_path}
+use Rattle.sqz_dominators.proofs.SearchLemmas.{GoesOn-inside, GoesOn-same, no_shorter, no_path}
 use Rattle.sqz_paths.proofs.path.path_to.Goals as goal
 
 pub returns-then-index-object-clause-path : goal.returns-then-index-object-clause-path

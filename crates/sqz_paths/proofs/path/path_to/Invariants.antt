@@ -1,7 +1,7 @@
 use Rattle.std.proofs.Common.{◌≡◌, ◌-◌, ◌<◌, ◌≤◌, ℕ, length}
 use Rattle.std.specs.Prelude.{slice_index}
 use Rattle.sqz_image.specs.Objects.{object_count}
-use Rattle.sqz_paths.specs.Search.{IsSearchOf}
+use Rattle.sqz_dominators.specs.Search.{IsSearchOf}
 use Rattle.sqz_paths.proofs.path.path_to.Given as goal
 
 abbrev pub invariant-loop-place : goal.invariant-loop-place
