@@ -33,8 +33,8 @@ import tempfile
 import typing
 
 from bench.images import CENSUS_PARTS, MIB, PARTS, make_image
-from tests.object_memory import Image
-from tests.running import ROOT, measured
+from tests.harness.programs import ROOT, measured
+from tests.reference.image import Image
 
 # What builds the program of a checkout, and the program, in the folder of the checkout.
 LAUNCHER = "sqzcompact"

@@ -15,9 +15,9 @@ import sys
 import tempfile
 
 from bench.images import MIB, make_image
-from tests.image_objects import WEAK, format_of, has_bytes, is_context, traced_end
-from tests.object_memory import Image
-from tests.squeak_image import find_image
+from tests.harness.squeak_image import find_image
+from tests.reference.image import Image
+from tests.reference.objects import WEAK, format_of, has_bytes, is_context, traced_end
 
 SIZE = 4 * MIB
 KINDS = ("pointers", "contexts", "weak", "words", "bytes", "methods")

@@ -21,8 +21,8 @@ import sys
 import tempfile
 
 from bench.images import MIB, PARTS, make_image
-from tests.image_format import bytes_of, words_of
-from tests.running import ROOT, build, measured
+from tests.harness.programs import ROOT, build, measured
+from tests.reference.file_format import bytes_of, words_of
 
 PROGRAM = ROOT / "crates" / "sqz_stage_times" / "out" / "sqz_stage_times"
 

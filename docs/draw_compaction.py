@@ -9,9 +9,9 @@ import array
 import pathlib
 import sys
 
-from tests.image_format import image_file
-from tests.image_objects import traced_end
-from tests.object_memory import Image
+from tests.reference.file_format import image_file
+from tests.reference.image import Image
+from tests.reference.objects import traced_end
 
 # The place of the first word, and a word's width and height; the tops of the two rows; and the picture's height.
 LEFT, WIDE, HIGH = 70, 80, 34

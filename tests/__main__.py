@@ -1,7 +1,8 @@
 """Runs test modules: `python3 -m tests [MODULE ...]`, all but those by hand if none is named.
 
-Several modules run in parallel, each in a process of its own. A test counts once, or once for each
-of its subtests. The last line is `N passed, M failed, K skipped`.
+A module is named with its package, or without it: `look.test_diff` or `test_diff`. Several modules
+run in parallel, each in a process of its own. A test counts once, or once for each of its subtests.
+The last line is `N passed, M failed, K skipped`.
 """
 
 import collections
@@ -14,6 +15,7 @@ import time
 import unittest
 
 FOLDER = pathlib.Path(__file__).resolve().parent
+PACKAGES = {path.stem: path.parent.name for path in FOLDER.glob("*/test_*.py")}
 BY_HAND = {"test_scale"}
 KINDS = ("passed", "failed", "skipped")
 LAST_LINE = re.compile(r"^(\d+) passed, (\d+) failed, (\d+) skipped$")
@@ -58,9 +60,16 @@ def last_line(counts):
     return ", ".join(f"{counts[kind]} {kind}" for kind in KINDS)
 
 
+def whole_name(name):
+    """The name of a module, or of a test in it, with the packages that it leaves out."""
+    name = name.removeprefix("tests.")
+    package = PACKAGES.get(name.partition(".")[0])
+    return f"tests.{package}.{name}" if package else f"tests.{name}"
+
+
 def run_module(name):
     """Runs a module in this process, and returns its counts."""
-    suite = unittest.defaultTestLoader.loadTestsFromName(f"tests.{name}")
+    suite = unittest.defaultTestLoader.loadTestsFromName(whole_name(name))
     runner = unittest.TextTestRunner(sys.stdout, resultclass=CountingResult)
     return runner.run(suite).counts
 
@@ -96,8 +105,7 @@ def run_in_parallel(names):
 
 
 def main():
-    every = sorted(path.stem for path in FOLDER.glob("test_*.py"))
-    names = sys.argv[1:] or [name for name in every if name not in BY_HAND]
+    names = sys.argv[1:] or sorted(PACKAGES.keys() - BY_HAND)
     counts = run_module(*names) if len(names) == 1 else run_in_parallel(names)
     print(last_line(counts))
     return 1 if counts["failed"] else 0

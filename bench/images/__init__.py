@@ -10,7 +10,7 @@ from bench.images.arrays import far_words, near_words
 from bench.images.classed import many_classes_words, one_class_words
 from bench.images.fitted import fitted_words
 from bench.images.mixed import mixed_words
-from tests.image_format import BASE, HEADER_WORDS, image_file
+from tests.reference.file_format import BASE, HEADER_WORDS, image_file
 
 MIB = 1 << 20
 # What generates the data words, given their number, by the name of the part of a table.

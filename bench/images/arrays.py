@@ -5,7 +5,7 @@ import itertools
 import random
 
 from bench.images.connecting import FAR, FIRSTS, LARGEST, Reach, below, choose_live, connect
-from tests.image_format import BASE
+from tests.reference.file_format import BASE
 
 ANYWHERE = 1 << 30
 

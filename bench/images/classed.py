@@ -23,7 +23,7 @@ from bench.images.mixed import (
     put_chunks,
     random_chunks,
 )
-from tests.image_format import BASE
+from tests.reference.file_format import BASE
 
 # The words of the first objects: nil, the special objects array, of which the last field points to
 # the array of compact classes, and that array.

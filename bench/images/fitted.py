@@ -36,7 +36,7 @@ from bench.images.mixed import (
     random_chunks,
     random_size,
 )
-from tests.image_format import BASE
+from tests.reference.file_format import BASE
 
 SHARES = {POINTERS: 480, BYTES: 310, METHOD: 195, CONTEXT: 1, FREE: 14}
 FITTED_FORMATS = {**FORMATS, POINTERS: (1, 2, 3)}

@@ -21,7 +21,7 @@ from bench.images.connecting import (
     connect,
     random_words,
 )
-from tests.image_format import BASE
+from tests.reference.file_format import BASE
 
 POINTERS, BYTES, METHOD, CONTEXT, FREE = range(5)
 # The share of each kind of chunk in a thousand, and the formats of objects.

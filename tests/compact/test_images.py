@@ -1,0 +1,32 @@
+"""Compares the worked images in images/ with what `sqz_write_images` writes from its constants."""
+
+from tests.harness.programs import ROOT, SUCCESS, ProgramTest, build
+from tests.harness.worked_images import IMAGES, bytes_at
+
+WRITE_IMAGES = ROOT / "crates" / "sqz_write_images" / "out" / "sqz_write_images"
+FOLDERS = ("accepted", "unreadable", "defects", "weak")
+
+
+def names_in(folder):
+    return {path.name for path in folder.iterdir()}
+
+
+class WrittenImagesTest(ProgramTest):
+    """The program writes each file of images/, byte for byte, and no other."""
+
+    @classmethod
+    def setUpClass(cls):
+        super().setUpClass()
+        build("sqz_write_images")
+
+    def test_writes_each_file(self):
+        for name in FOLDERS:
+            (self.folder / name).mkdir()
+        self.assert_ends(self.run_here(WRITE_IMAGES, "."), SUCCESS)
+        for name in FOLDERS:
+            self.check_folder(self.folder / name, IMAGES / name)
+
+    def check_folder(self, written, committed):
+        for name in sorted(names_in(written) | names_in(committed)):
+            with self.subTest(folder=committed.name, file=name):
+                self.assertEqual(bytes_at(written / name), bytes_at(committed / name))

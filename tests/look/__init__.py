@@ -1,0 +1,1 @@
+"""The tests of `sqzlook`, and of the second implementation that it is compared with."""

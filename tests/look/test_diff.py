@@ -1,0 +1,369 @@
+"""Asks `sqzlook diff` about pairs of worked, random, made and real images, and compares its rows
+and its text with a second implementation."""
+
+import functools
+import os
+import random
+import re
+import unittest
+
+from tests.harness.diff_checks import FORMS, DiffTest, Pair, pairs_of, side_of
+from tests.harness.look_checks import look, look_at_all, rows_of
+from tests.harness.programs import SEED, Outcome
+from tests.harness.worked_images import IMAGES, DeadArrayTest
+from tests.look.test_look_cases import NAME, KnownImageTest
+from tests.look.test_look_names import COPIES, with_random_words
+from tests.look.test_top import HOLDER, some_random_files, worked_files
+from tests.making.held_image import CLASSES, HELD_BYTES, Appending
+from tests.making.methods import (
+    CODE,
+    EQUAL_LITERALS,
+    METHOD_NAME,
+    NIL,
+    OTHER_LITERALS,
+    TRAILERS,
+    Making,
+    file_with,
+)
+from tests.making.named_image import SMALLTALK, ZERO, named_file
+from tests.reference.changes import Changes, Side, without_trailer
+from tests.reference.file_format import PREFIX
+from tests.reference.image import Image
+from tests.reference.objects import traced_end
+
+OLD, NEW = "old.image", "new.image"
+# Methods of the known image: a bytecode of one is changed, and the selector of the other.
+CHANGED = "Point>>+"
+METHOD, RENAMED = "ChangeSet>>superclasses", "ChangeSet>>ruperclasses"
+# The depth and the number of elements of arrays, each element of which is the array one level
+# below: a comparison of all elements in turn would take minutes.
+DEEP, WIDE = 4, 1000
+# How much higher the addresses of an image at another base are.
+SHIFT = 0x1000
+# The bits of a header with the hash.
+HASH = 0xFFF << 17
+
+
+def in_reverse(image):
+    """The image with its objects in reverse order."""
+    end, firsts = len(image.words), []
+    for it in image.objects:
+        end -= it.end - it.first
+        firsts.append(end)
+    return Image(*image.laid_out(firsts, len(image.words)), image.order, image.prefix)
+
+
+def at_another_base(image):
+    """The image with higher addresses."""
+    header, words = image.header[:], image.words[:]
+    for place in (3, 4):
+        header[place] += SHIFT
+    for pointer in image.pointers:
+        words[pointer.place] += SHIFT
+    return Image(header, words, image.order, image.prefix)
+
+
+def with_other_hashes(image):
+    """The image with other hashes in its headers."""
+    words, generator = image.words[:], random.Random(SEED)
+    for it in image.objects:
+        words[it.base] ^= generator.getrandbits(32) & HASH
+    return Image(image.header, words, image.order, image.prefix)
+
+
+class TrailerTest(unittest.TestCase):
+    """The second implementation cuts the trailers that Squeak writes."""
+
+    def test_trailers(self):
+        for trailer in TRAILERS:
+            with self.subTest(trailer):
+                self.assertEqual(without_trailer(CODE + trailer), CODE)
+
+    def test_others(self):
+        for data, expected in {
+            b"": b"",
+            b"\xfc": b"",
+            b"\x01\xff": b"",
+            b"\x09": b"",
+            b"\x00": b"",
+            b"\x7c\x01": b"",
+            b"\x10\x7c\x00\x01": b"\x10\x7c",
+            b"\x7c\x00\x00\x00\x00\x00": b"\x7c\x00\x00\x00\x00",
+            b"\xfb": b"",
+        }.items():
+            with self.subTest(data):
+                self.assertEqual(without_trailer(data), expected)
+
+
+class SmallImagesTest(DiffTest):
+    """Pairs of worked and random images: each with itself, and with the next."""
+
+    def check_files(self, files, folder=None):
+        paths = list(files)
+        chosen = [*zip(paths, paths), *zip(paths, paths[1:])]
+        self.check_pairs(pairs_of(files, chosen), folder)
+
+    def test_worked_images(self):
+        self.check_files(worked_files(), IMAGES)
+
+    def test_random_images(self):
+        files = some_random_files()
+        for name, file in files.items():
+            self.write(name, file)
+        self.check_files(files)
+
+    def test_unreadable_images(self):
+        """An image that cannot be read is rejected as by other commands, old or new."""
+        paths = [f"unreadable/{path.name}" for path in sorted(IMAGES.glob("unreadable/*.image"))]
+        expected = look_at_all([("census", path) for path in paths], IMAGES)
+        other = "accepted/dead_cycle.image"
+        for at, order in (("old", slice(None)), ("new", slice(None, None, -1))):
+            found = look_at_all([("diff", *(path, other)[order]) for path in paths], IMAGES)
+            for path, outcome, wanted in zip(paths, found, expected):
+                with self.subTest(at, path=path):
+                    self.assert_ends(outcome, wanted)
+
+
+class MadeImagesTest(DiffTest):
+    """Images with names of all kinds, which differ in what is compared or in what is not."""
+
+    def changes(self, old, new):
+        """Asks about two files, checks each form, and returns the rows but the first."""
+        self.write(OLD, old)
+        self.write(NEW, new)
+        sides = side_of(old), side_of(new)
+        self.check_pairs([Pair(*sides, (OLD, NEW))])
+        return Changes(*sides).rows()[1:]
+
+    def names(self, kind, old, new):
+        """The names of the rows of a kind, after both files were asked about."""
+        return [row["name"] for row in self.changes(old, new) if row["kind"] == kind]
+
+    def assert_method(self, is_changed, old, new):
+        names = self.names("method", old, new)
+        self.assertEqual(names, [METHOD_NAME] if is_changed else [])
+
+    def test_where_objects_are(self):
+        """Addresses, their order, hashes and byte order make no difference."""
+        image = Image.read(named_file())[0]
+        for name, other in {
+            "reverse": in_reverse(image),
+            "base": at_another_base(image),
+            "hashes": with_other_hashes(image),
+            "order": image.in_other_order(),
+            "reverse in the other order": in_reverse(image).in_other_order(),
+            "offset": Image(image.header, image.words, image.order, PREFIX),
+            "without garbage": image.compacted(),
+        }.items():
+            with self.subTest(name):
+                self.assertEqual(self.changes(image.file(), other.file()), [])
+
+    def test_equal_literals(self):
+        for name, (old, new) in EQUAL_LITERALS.items():
+            with self.subTest(name):
+                self.assert_method(False, file_with(old), file_with(new))
+
+    def test_other_literals(self):
+        for name, (old, new) in OTHER_LITERALS.items():
+            with self.subTest(name):
+                self.assert_method(True, file_with(old), file_with(new))
+
+    def test_number_of_literals(self):
+        self.assert_method(True, file_with(), file_with(lambda _: ZERO))
+
+    def test_header(self):
+        self.assert_method(True, file_with(), file_with(header=1 << 18))
+
+    def test_trailers(self):
+        for trailer in TRAILERS:
+            with self.subTest(trailer):
+                files = (file_with(code=CODE + it) for it in (TRAILERS[0], trailer))
+                self.assert_method(False, *files)
+
+    def test_bytecodes(self):
+        for trailer in TRAILERS:
+            with self.subTest(trailer):
+                other = b"\x11" + CODE[1:]
+                self.assert_method(True, *(file_with(code=it + trailer) for it in (CODE, other)))
+
+    def test_zeros_before_a_trailer(self):
+        self.assert_method(True, *(file_with(code=CODE + bytes(it)) for it in (5, 6)))
+
+    def test_classes_with_one_name(self):
+        """They are added up, and their methods compared in their order."""
+        makings = [Making() for _ in range(3)]
+        for making in makings[1:]:
+            making.rename("Pixel", "Point")
+            making.rename("Object", "Point")
+        makings[2].set_method(code=b"\x11" + CODE[1:] + TRAILERS[0])
+        files = [making.file() for making in makings]
+        self.assertEqual(self.changes(files[1], files[1]), [])
+        self.assertEqual(self.names("method", *files[:2]).count("Point>>+"), 2)
+        self.assertEqual(self.names("method", files[1], files[2]), ["Point>>yourself"])
+
+    def test_random_words(self):
+        """Copies in which random words make names wrong."""
+        generator, files = random.Random(SEED), {}
+        for number in range(COPIES):
+            files[f"{number}.image"] = with_random_words(generator).file()
+        for name, file in files.items():
+            self.write(name, file)
+        paths = list(files)
+        self.check_pairs(pairs_of(files, zip(paths, paths[1:])))
+
+    def test_wide_arrays(self):
+        """Arrays that are reached in many ways are compared once."""
+        files = [
+            file_with(lambda it, width=width: it.wide(DEEP, width)) for width in (WIDE, WIDE + 1)
+        ]
+        for name, file in zip((OLD, NEW), files):
+            self.write(name, file)
+        for path, status in ((OLD, 0), (NEW, 1)):
+            outcome = look("diff", "--json", OLD, path, folder=self.folder)
+            names = [row["name"] for row in rows_of(outcome.stdout) if row["kind"] == "method"]
+            self.assertEqual((outcome.status, names), (status, [METHOD_NAME] * status))
+
+    def test_values_of_variables(self):
+        """The text says which variables came and went, and whose value was or is nil."""
+        text = b"a string of a length that changes what is retained"
+        for old, new, note in (
+            (NIL, text, " (was nil)"),
+            (text, NIL, " (now nil)"),
+            (text, text + b"more", ""),
+            (ZERO, text, ""),
+            (None, text, " (new)"),
+            (NIL, None, " (gone)"),
+        ):
+            with self.subTest(old=old, new=new):
+                self.changes(self.with_global(old), self.with_global(new))
+                outcome = look("diff", OLD, NEW, folder=self.folder)
+                line = rf"(?m)^ +[-+]\d+ bytes  Smalltalk at: #Some{re.escape(note)}$"
+                self.assertRegex(outcome.stdout.decode(), line)
+
+    def with_global(self, value):
+        """The file of an image with a global variable of this value, if it has one."""
+        making = Making()
+        if isinstance(value, bytes):
+            value = making.bytes("String", value)
+        others = {} if value is None else {"Some": value}
+        pairs = {"Point": "Point", "Other": making.association(0), **others}
+        smalltalk = making.builder.add_dictionary("SystemDictionary", pairs)
+        making.items[making.special.number].fields[SMALLTALK] = smalltalk
+        return making.file()
+
+
+class KnownDiffTest(DiffTest, KnownImageTest):
+    """The known image, and copies of it in which something was changed."""
+
+    def setUp(self):
+        super().setUp()
+        self.side = side_of_answers(self.answers)
+
+    def check_copy(self, image):
+        """Writes a changed copy, compares it with the original, and returns the rows."""
+        self.write(NEW, image.file())
+        self.check_pairs([Pair(self.side, side_of(image.file()), (NAME, NEW))])
+        outcome = look("diff", "--json", NAME, NEW, folder=self.folder)
+        self.assertEqual((outcome.status, outcome.stderr), (1, b""))
+        return rows_of(outcome.stdout)
+
+    def test_with_itself(self):
+        self.check_pairs([Pair(self.side, self.side, (NAME, NAME))])
+        outcome = look("diff", NAME, NAME, folder=self.folder)
+        self.assertEqual((outcome.status, outcome.stderr), (0, b""))
+
+    def test_with_another_image(self):
+        """Thousands of rows. The text shows 20 of each kind."""
+        self.check_copy(Image.read(named_file())[0])
+
+    def test_variable_that_holds_4_mb(self):
+        classes = {name: self.class_named(name) for name in CLASSES}
+        (holder,) = (number for number, name in self.names.variables.items() if name == HOLDER)
+        rows = self.check_copy(Appending(self.image, classes).held_by(holder).image)
+        (row,) = (row for row in rows if row["kind"] == "retained")
+        self.assertEqual(row["name"], HOLDER)
+        self.assertGreater(row["new"], HELD_BYTES)
+        self.assertEqual({row["name"] for row in rows if row["kind"] == "class"}, set(CLASSES))
+        self.assertEqual([row for row in rows if row["kind"] == "method"], [])
+        text = look("diff", NAME, NEW, folder=self.folder).stdout.decode()
+        self.assertIn(f" bytes  {HOLDER} (was nil)\n", text)
+
+    def flipped(self, place):
+        """The image in which the lowest bit of the first byte of a data word is flipped."""
+        words = self.image.words[:]
+        words[place] ^= 1
+        return Image(self.image.header, words, self.image.order, self.image.prefix)
+
+    def test_flipped_bytecode(self):
+        (number,) = (it for it in self.methods() if self.names.label(it) == CHANGED)
+        place = traced_end(self.image.words, self.image.objects[number])
+        total, row = self.check_copy(self.flipped(place))
+        self.assertEqual((row["kind"], row["name"]), ("method", CHANGED))
+        self.assertEqual((total["old"], row["old"]), (total["new"], row["new"]))
+
+    def test_flipped_selector(self):
+        numbers, selector = range(len(self.image.objects)), METHOD.partition(">>")[2].encode()
+        (symbol,) = (
+            number
+            for number in numbers
+            if self.image.text(number) == selector and self.names.class_name(number) == "Symbol"
+        )
+        rows = self.check_copy(self.flipped(self.image.objects[symbol].base + 1))
+        found = {row["name"]: row for row in rows if row["kind"] == "method"}
+        self.assertIsNone(found[METHOD]["new"])
+        self.assertIsNone(found[RENAMED]["old"])
+        self.assertEqual(found[METHOD]["old"], found[RENAMED]["new"])
+
+
+@functools.cache
+def side_of_answers(answers):
+    """What an image has under each name, which takes seconds to find if it is large."""
+    return Side.of(answers)
+
+
+class CommandLineTest(DeadArrayTest):
+    """Options, exits and outputs of `diff`."""
+
+    def diff(self, *words, **how):
+        return look("diff", *words, folder=self.folder, **how)
+
+    def test_wrong_words(self):
+        for words in (
+            (),
+            ("in",),
+            ("in", "in", "in"),
+            ("--depth", "2", "in", "in"),
+            ("--all=1", "in", "in"),
+        ):
+            with self.subTest(words=words):
+                outcome = self.diff(*words)
+                self.assertEqual((outcome.status, outcome.stdout), (2, b""))
+                self.assertRegex(outcome.stderr, rb"\A(?!fault).")
+
+    def test_missing_file(self):
+        """The message has the path of the file that cannot be read, the old one first."""
+        message = "sqzlook: {}: fault 16: cannot read the image\n"
+        for words, path in (
+            (("none", "in"), "none"),
+            (("in", "none"), "none"),
+            (("none", "other"), "none"),
+        ):
+            with self.subTest(words=words):
+                outcome = self.diff(*words)
+                self.assert_ends(outcome, Outcome(3, stderr=message.format(path).encode()))
+
+    def test_closed_pipe(self):
+        for form in FORMS:
+            with self.subTest(form):
+                reader, writer = os.pipe()
+                os.close(reader)
+                with os.fdopen(writer, "wb") as pipe:
+                    outcome = self.diff(*form, "in", "in", stdout=pipe)
+                self.assertEqual((outcome.status, outcome.stderr), (0, b""))
+
+    def test_full_device(self):
+        for form in FORMS:
+            with self.subTest(form), open("/dev/full", "wb") as full:
+                outcome = self.diff(*form, "in", "in", stdout=full)
+                self.assertEqual(outcome.status, 3)
+                self.assertRegex(outcome.stderr, rb"\Asqzlook: .+\n\Z")

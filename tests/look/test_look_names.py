@@ -1,0 +1,273 @@
+"""Asks `sqzlook` about a small image with names of all kinds, by name and by address, and about
+copies of it in which random words make names wrong."""
+
+import random
+import unittest
+
+from tests.harness.look_checks import CLEAR, Asking, LookTest, look, look_at_all, rows_of
+from tests.harness.programs import SEED
+from tests.harness.worked_images import IMAGES
+from tests.making.named_image import ZERO, named_file
+from tests.reference.image import Image
+from tests.reference.names import NAME
+from tests.reference.objects import has_bytes
+from tests.reference.sites import site_text
+
+FILE = "it.image"
+# The copies with random words, how many words of each, and the objects that are asked about.
+COPIES, WORDS, OBJECTS = 24, 6, 8
+# Some labels of the image, written by hand.
+LABELS = {
+    "special objects array",
+    "nil",
+    "false",
+    "true",
+    "Smalltalk",
+    "class Point",
+    "Point class",
+    "Point>>x:y:",
+    "Pixel>>+",
+    "Object>>from:to:by:with:and:or:not:until:always:..",
+    "Smalltalk at: #Point",
+    "Smalltalk at: #Kept",
+    "Point class variable Origin",
+    "''",
+    "'it''s'",
+    r"'a\\b\x0a\x7f'",
+    "'" + "x" * 40 + "'",
+    "'" + "y" * 40 + "'..",
+    "'" + "''" * 40 + "'..",
+    "#",
+    "#it's",
+    "#" + "y" * 40 + "..",
+}
+VARIABLES = {
+    "Pixel": ["x", "y", "color", "aVariableWithANameOfMoreThanFortyBytesIn.."],
+    "Miscounted": None,
+    "Point": ["x", "y"],
+    "SystemDictionary": ["tally", "array"],
+    "Symbol": [],
+}
+
+
+def named_image():
+    return Image.read(named_file())[0]
+
+
+def class_named(names, name):
+    """The only class of this name."""
+    (number,) = (number for number in names.classes if names.name(number) == name)
+    return number
+
+
+def with_random_words(generator):
+    """The image with some random words."""
+    image = named_image()
+    objects = [it for it in image.objects if not has_bytes(image.words[it.base])]
+    addresses = list(image.numbers)
+    for _ in range(WORDS):
+        it = generator.choice(objects)
+        place = generator.choice([it.first, *range(it.base + 1, it.end)])
+        word = generator.choice((generator.choice(addresses), generator.getrandbits(32)))
+        if place > it.base:
+            image.words[place] = word
+        elif it.first < it.base:
+            image.words[place] = word & ~3 | image.words[place] & 3
+    return Image(image.header, image.words)
+
+
+def set_field(image, number, field, word):
+    """Sets a field of an object to a word."""
+    image.words[image.objects[number].base + 1 + field] = word
+
+
+class LabelsTest(unittest.TestCase):
+    """The second implementation finds the names that were put in."""
+
+    def test_labels(self):
+        names = Asking(named_image(), FILE).answers.names
+        labels = {names.label(number) for number in range(len(names.image.objects))}
+        self.assertEqual(LABELS - labels, set())
+
+    def test_instance_variables(self):
+        names = Asking(named_image(), FILE).answers.names
+        for name, variables in VARIABLES.items():
+            with self.subTest(name):
+                self.assertEqual(names.variables_of(class_named(names, name)), variables)
+
+
+class NamedImageTest(LookTest):
+    """Each command about each object of the image."""
+
+    def check_image(self, image, options=()):
+        self.write(FILE, image.file())
+        asking, every = Asking(image, FILE, options), range(len(image.objects))
+        groups = list(asking.answers.live_groups)
+        questions = asking.of_objects(show=every, why=every, refs=every)
+        self.check_questions(asking.of_image() + questions + asking.of_groups(groups))
+
+    def test_as_it_is(self):
+        self.check_image(named_image())
+
+    def test_in_the_other_order(self):
+        self.check_image(named_image().in_other_order())
+
+    def test_cleared(self):
+        self.check_image(named_image(), CLEAR)
+
+
+class WrongNamesTest(LookTest):
+    """Copies of the image in which fields and class words are random."""
+
+    def test_answers_each_question(self):
+        generator, questions = random.Random(SEED), []
+        for number in range(COPIES):
+            image, name = with_random_words(generator), f"{number}.image"
+            self.write(name, image.file())
+            for options in ((), CLEAR):
+                asking, count = Asking(image, name, options), len(image.objects)
+                some = generator.sample(range(count), OBJECTS)
+                questions += asking.of_image()
+                questions += asking.of_objects(show=self.largest(image), why=some, refs=some)
+        self.check_questions(questions)
+
+    def largest(self, image):
+        """The objects with the most fields, which point to most others."""
+        sizes = {number: it.end - it.base for number, it in enumerate(image.objects)}
+        return sorted(sizes, key=sizes.get)[-OBJECTS:]
+
+
+class ArgumentsTest(LookTest):
+    """Objects and classes by name and by address."""
+
+    def setUp(self):
+        super().setUp()
+        self.image = named_image()
+        self.names = Asking(self.image, FILE).answers.names
+        self.write(FILE, self.image.file())
+
+    def class_address(self, name):
+        return self.names.address(class_named(self.names, name))
+
+    def write_changed(self, **words):
+        """Writes the image with the names of classes, given by their own, changed to these."""
+        for name, other in words.items():
+            symbol = self.image.field(class_named(self.names, other), NAME)
+            word = self.image.address(self.image.objects[symbol])
+            set_field(self.image, class_named(self.names, name), NAME, word)
+        self.write(FILE, self.image.file())
+
+    def drop_class(self, name):
+        """Takes a class out of the array that keeps it."""
+        number = class_named(self.names, name)
+        address = self.image.address(self.image.objects[number])
+        meta = self.names.class_of(number)
+        for place, owner, target in self.image.pointers:
+            if target == number and owner != meta:
+                self.assertEqual(self.image.words[place], address)
+                self.image.words[place] = ZERO
+
+    def assert_shown(self, address, *words):
+        outcome = look("show", "--json", FILE, *words, folder=self.folder)
+        self.assertEqual((outcome.status, outcome.stderr), (0, b""))
+        (row,) = rows_of(outcome.stdout)
+        self.assertEqual(row["address"], address)
+
+    def test_names_of_classes(self):
+        self.assert_shown(self.class_address("Point"), "Point")
+        self.assert_shown(self.class_address("Point class"), "Point class")
+        self.assert_shown(self.class_address("Point class"), "Point", "class")
+
+    def test_names_of_methods(self):
+        methods = self.names.methods
+        for name, selector in (("Point", "+"), ("Pixel", "+"), ("Point", "x:y:")):
+            key = (class_named(self.names, name), selector.encode())
+            (method,) = (method for method, it in methods.items() if it == key)
+            with self.subTest(name, selector=selector):
+                self.assert_shown(self.names.address(method), f"{name}>>{selector}")
+
+    def test_addresses(self):
+        address = self.class_address("Point")
+        short = address.lstrip("0")
+        for word in (address, short, f"0x{short}", f"0x{address}", short.upper()):
+            with self.subTest(word):
+                self.assert_shown(address, word)
+
+    def test_classes_of_a_list(self):
+        addresses = []
+        for words in (("Point",), (self.class_address("Point"),)):
+            outcome = look("list", "--json", FILE, *words, folder=self.folder)
+            self.assertEqual((outcome.status, outcome.stderr), (0, b""))
+            addresses.append([row.get("address") for row in rows_of(outcome.stdout)])
+        self.assertEqual(addresses[0], addresses[1])
+        self.assertEqual(len(addresses[0]), 2)
+
+    def test_class_without_instances(self):
+        outcome = look("list", "--json", FILE, "Spare", folder=self.folder)
+        expected = {"objects": 0, "bytes": 0, "retained_together": 0}
+        self.assertEqual((outcome.status, rows_of(outcome.stdout)), (0, [expected]))
+
+    def test_wrong_names(self):
+        for command, words, message in (
+            ("show", ("Nowhere",), "no class or method is named Nowhere"),
+            ("why", ("Nowhere", "class"), "no class or method is named Nowhere class"),
+            ("refs", ("Point>>-",), "no class or method is named Point>>-"),
+            ("show", ("123456789",), "no class or method is named 123456789"),
+            ("list", ("Nowhere",), "no class is named Nowhere"),
+            ("list", ("Point>>+",), "no class is named Point>>+"),
+        ):
+            with self.subTest(command, words=words):
+                outcome = look(command, FILE, *words, folder=self.folder)
+                self.assert_refused(outcome, FILE, message)
+
+    def test_list_of_no_class(self):
+        address = f"{self.image.header[4]:08x}"
+        outcome = look("list", FILE, address, folder=self.folder)
+        self.assert_refused(outcome, FILE, f"{address} is not a class")
+
+    def test_two_live_classes_of_a_name(self):
+        both = ", ".join(sorted(map(self.class_address, ("Point", "Pixel"))))
+        metaclasses = ", ".join(sorted(map(self.class_address, ("Point class", "Pixel class"))))
+        self.write_changed(Pixel="Point")
+        for command in ("show", "list"):
+            with self.subTest(command):
+                outcome = look(command, FILE, "Point", folder=self.folder)
+                self.assert_refused(outcome, FILE, f"Point is ambiguous: {both}")
+        outcome = look("why", FILE, "Point class", folder=self.folder)
+        self.assert_refused(outcome, FILE, f"Point class is ambiguous: {metaclasses}")
+
+    def test_live_class_before_a_dead_one_of_its_name(self):
+        address = self.class_address("Point")
+        self.drop_class("Spare")
+        self.write_changed(Spare="Point")
+        self.assert_shown(address, "Point")
+
+    def test_dead_class(self):
+        address = self.class_address("Spare")
+        self.drop_class("Spare")
+        self.write(FILE, self.image.file())
+        self.assert_shown(address, "Spare")
+
+
+class SitesTest(LookTest):
+    """Addresses at which no object begins."""
+
+    def test_each_byte_of_small_images(self):
+        for name in ("free_chunk", "class_edge_of_three_words", "untraced_formats"):
+            path = f"accepted/{name}.image"
+            image = Image.read((IMAGES / path).read_bytes())[0]
+            names = Asking(image, path).answers.names
+            end = image.base + 4 * len(image.words)
+            addresses = [at for at in range(image.base - 4, end + 5) if at not in image.numbers]
+            lines = [("show", path, f"{at:08x}") for at in addresses]
+            for at, outcome in zip(addresses, look_at_all(lines, IMAGES)):
+                with self.subTest(name, at=f"{at:08x}"):
+                    message = f"no object at {at:08x}: {site_text(names, at)}"
+                    self.assert_refused(outcome, path, message)
+
+    def test_each_command(self):
+        path = "accepted/free_chunk.image"
+        for command in ("show", "why", "refs"):
+            with self.subTest(command):
+                message = "no object at 00000000: outside the data"
+                self.assert_refused(look(command, path, "0", folder=IMAGES), path, message)

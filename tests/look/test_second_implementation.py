@@ -1,0 +1,120 @@
+"""Checks the second implementation of the inspector's answers, without a program.
+
+Its faults and class histograms are those that the files of images/ state, and what it says that
+objects retain is what a search of all paths finds.
+"""
+
+import random
+import re
+import unittest
+
+from tests.harness.look_checks import difference, rows_of
+from tests.harness.programs import SEED
+from tests.harness.worked_images import IMAGES, accepted_images, rejected_images
+from tests.look.test_dominators import random_files
+from tests.reference.answers import Answers
+from tests.reference.image import Image
+
+RANDOM_IMAGES = 20
+# A line of a class histogram: objects, bytes, the address of the class in OUT, and its name.
+LINE = re.compile(r" *(\d+) +(\d+) ([0-9a-f]{8}|-{8}) (.*)")
+
+
+def answers_about(worked, clear_weak):
+    """The answers about a worked image, if it can be read."""
+    number = int(worked.fault.split(b":")[0].removeprefix(b"fault ")) if worked.fault else None
+    if number is not None and number <= 10:
+        return None
+    return Answers(Image.read(worked.image)[0], clear_weak)
+
+
+class RowsTest(unittest.TestCase):
+    """Rows differ by values, by types, by lengths, and by the order of keys."""
+
+    def test_differences(self):
+        rows = [{"slot": 1, "weak": False, "path": [{"name": None}]}]
+        for name, others in {
+            "no row": [],
+            "another value": [{"slot": 2, "weak": False, "path": [{"name": None}]}],
+            "another type": [{"slot": True, "weak": False, "path": [{"name": None}]}],
+            "another order": [{"weak": False, "slot": 1, "path": [{"name": None}]}],
+            "a key more": [{"slot": 1, "weak": False, "path": [{"name": None}], "more": 1}],
+            "a value within": [{"slot": 1, "weak": False, "path": [{"name": "x"}]}],
+            "an empty list": [{"slot": 1, "weak": False, "path": []}],
+        }.items():
+            with self.subTest(name):
+                self.assertIsNotNone(difference(others, rows))
+                self.assertIsNotNone(difference(rows, others))
+
+    def test_no_difference(self):
+        found = rows_of(b'{"slot":1,"weak":false}\n{"path":[]}\n')
+        self.assertIsNone(difference(found, [{"slot": 1, "weak": False}, {"path": []}]))
+
+    def test_a_key_occurs_once(self):
+        with self.assertRaises(ValueError):
+            rows_of(b'{"slot":1,"slot":1}\n')
+
+
+class FaultsTest(unittest.TestCase):
+    """The first fault of each worked image is the one that its file states."""
+
+    def test_rejected(self):
+        for clear_weak in (False, True):
+            for it in rejected_images(clear_weak):
+                answers = answers_about(it, clear_weak)
+                if answers is not None:
+                    with self.subTest(it.name, clear_weak=clear_weak):
+                        fault = answers.defects[0]
+                        line = f"fault {fault.number}: {fault.text}\n"
+                        self.assertEqual(line.encode(), it.fault)
+
+    def test_accepted(self):
+        for clear_weak in (False, True):
+            for it in accepted_images(clear_weak):
+                with self.subTest(it.name, clear_weak=clear_weak):
+                    self.assertEqual(answers_about(it, clear_weak).defects, [])
+
+
+class CensusTest(unittest.TestCase):
+    """The class histogram of each worked image is the one that its file states."""
+
+    def test_worked_images(self):
+        for clear_weak in (False, True):
+            for it in accepted_images(clear_weak):
+                if it.census is not None:
+                    with self.subTest(it.name, clear_weak=clear_weak):
+                        self.check_census(answers_about(it, clear_weak), it.census.decode())
+
+    def check_census(self, answers, text):
+        """Compares all but the addresses, which are those of OUT in the text."""
+        *rows, last = answers.census()
+        *lines, total = text.splitlines()
+        stated = [LINE.fullmatch(line).group(1, 2, 4) for line in lines]
+        found = [(str(row["objects"]), str(row["bytes"]), row["class"]) for row in rows]
+        self.assertEqual(found, stated)
+        self.assertEqual(total.split(), [str(last["objects"]), str(last["bytes"]), "total"])
+
+
+class RetainedTest(unittest.TestCase):
+    """Objects and groups retain what no path reaches without them."""
+
+    def test_worked_images(self):
+        for path in sorted(IMAGES.glob("*/*.image")):
+            if path.parent.name != "unreadable":
+                with self.subTest(path.name):
+                    self.check_image(path.read_bytes())
+
+    def test_random_images(self):
+        for number, file in enumerate(random_files()[:RANDOM_IMAGES]):
+            with self.subTest(number=number):
+                self.check_image(file)
+
+    def check_image(self, file):
+        for clear_weak in (False, True):
+            answers = Answers(Image.read(file)[0], clear_weak)
+            generator, live = random.Random(SEED), answers.live
+            sets = [[number] for number in live]
+            sets += [generator.sample(live, generator.randint(1, len(live))) for _ in range(20)]
+            for numbers in sets:
+                lost = set(live) - answers.reach.reached_without(numbers)
+                self.assertEqual(answers.reach.retained_by(numbers), lost)

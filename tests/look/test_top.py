@@ -1,0 +1,265 @@
+"""Asks `sqzlook top` about worked, random and real images, and compares its rows, its folded stacks
+and its drawings with a second implementation."""
+
+import functools
+import os
+import re
+import unittest
+
+from tests.harness.look_checks import CLEAR, look, look_at_all, rows_of
+from tests.harness.programs import ROOT
+from tests.harness.top_checks import USUAL, Asked, Shape, TopTest
+from tests.harness.worked_images import IMAGES, DeadArrayTest
+from tests.look.test_dominators import random_files
+from tests.look.test_look_cases import KnownImageTest, answers_about
+from tests.look.test_look_real_image import NAME, RealImageTest
+from tests.making.held_image import CLASSES, HELD_BYTES, HELD_OBJECTS, Appending
+from tests.making.named_image import ARRAY, named_builder
+from tests.reference.answers import Answers
+from tests.reference.image import Image
+from tests.reference.tree import Tree, percent
+
+RANDOM_IMAGES = 20
+SHAPES = (
+    USUAL,
+    Shape(0),
+    Shape(1, "0"),
+    Shape(least="0"),
+    Shape(100, "0"),
+    Shape(least="12.5"),
+    Shape(3, "100"),
+    Shape(100, "0.000001"),
+)
+REAL_SHAPES = (USUAL, Shape(least="5"), Shape(3, "0"), Shape(12, "0.05"))
+FORMS = ((), ("--json",), ("--folded",), ("--svg",))
+# Texts that mean something to the readers of folded stacks and of drawings.
+TEXTS = (b"one;two", b"<b title=\"x\">&amp;'", b"]]>", b"a\nb;c\x00", b"\xff\xfe")
+# A line of text: retained bytes, percent, objects, and a label that is two spaces deeper a level.
+LINE = re.compile(r" *(\d+) +(\d+\.\d) +(\d+)   ((?:  )*)(\S.*)")
+VARIABLE = re.compile(r"class variable (\S+)")
+HOLDER = "HandMorph class variable PasteBuffer"
+
+
+def trees_of(files):
+    """The trees of these files by path, under both policies."""
+    return [
+        Asked(Tree(Answers(Image.read(file)[0], options == CLEAR)), path, options)
+        for path, file in files.items()
+        for options in ((), CLEAR)
+    ]
+
+
+@functools.cache
+def tree_of(answers):
+    """The tree of an image, which takes seconds to find if it is large."""
+    return Tree(answers)
+
+
+def worked_files():
+    """The worked images that can be read, by path."""
+    paths = (path for path in sorted(IMAGES.glob("*/*.image")) if path.parent.name != "unreadable")
+    return {f"{path.parent.name}/{path.name}": path.read_bytes() for path in paths}
+
+
+def some_random_files():
+    """Random images by path."""
+    return {f"{number}.image": it for number, it in enumerate(random_files()[:RANDOM_IMAGES])}
+
+
+def named_file():
+    """The file of an image with names of all kinds, which also holds `TEXTS`."""
+    builder, special = named_builder()
+    texts = [builder.add_bytes(name, text) for text in TEXTS for name in ("String", "Symbol")]
+    builder.items[special.number].fields.append(builder.add(ARRAY, "Array", *texts))
+    return builder.file(special)
+
+
+class TreeTest(unittest.TestCase):
+    """The second implementation agrees with a search of all paths, and rows share out the bytes."""
+
+    def check_files(self, files):
+        for tree, path, options in trees_of(files):
+            with self.subTest(path, options=options):
+                for number in tree.answers.live:
+                    lost = tree.reach.retained_by([number])
+                    found = (tree.retained[number], tree.objects[number])
+                    self.assertEqual(found, (tree.reach.bytes_of(lost), len(lost)))
+                for shape in SHAPES:
+                    rows = tree.rows(**shape.bounds)
+                    self.assertEqual(sum(row.apart for row in rows), tree.live_bytes)
+
+    def test_worked_images(self):
+        self.check_files(worked_files())
+
+    def test_random_images(self):
+        self.check_files(some_random_files())
+
+    def test_image_with_names(self):
+        self.check_files({NAME: named_file()})
+
+    def test_rows_of_variables(self):
+        """Class variables are rows below their class, and globals below the first row."""
+        tree = Tree(Answers(Image.read(named_file())[0]))
+        paths = {tuple(row.path[1:]) for row in tree.rows(2, "0")}
+        self.assertIn(("Smalltalk at: #Kept",), paths)
+        self.assertIn(("class Point", "class variable Origin"), paths)
+        self.assertNotIn(("Smalltalk",), paths)
+
+
+class SmallImagesTest(TopTest):
+    """The trees of worked and random images, and of an image with names of all kinds."""
+
+    def write_all(self, files):
+        for name, file in files.items():
+            self.write(name, file)
+        return trees_of(files)
+
+    def test_worked_images(self):
+        self.check_trees(trees_of(worked_files()), SHAPES, folder=IMAGES)
+
+    def test_random_images(self):
+        self.check_trees(self.write_all(some_random_files()), SHAPES)
+
+    def test_image_with_names(self):
+        self.check_trees(self.write_all({NAME: named_file()}), SHAPES)
+
+    def test_unreadable_images(self):
+        """An image that cannot be read is rejected as by other commands."""
+        paths = [f"unreadable/{path.name}" for path in sorted(IMAGES.glob("unreadable/*.image"))]
+        found = look_at_all([("top", path) for path in paths], IMAGES)
+        expected = look_at_all([("census", path) for path in paths], IMAGES)
+        for path, outcome, other in zip(paths, found, expected):
+            with self.subTest(path):
+                self.assert_ends(outcome, other)
+
+
+class RealTreeTest(TopTest, RealImageTest):
+    """The trees of an image that Squeak saved."""
+
+    def check_image(self, answers, options):
+        self.write(NAME, self.image.file())
+        self.check_trees([Asked(tree_of(answers), NAME, options)], REAL_SHAPES)
+
+    def test_kept(self):
+        self.check_image(answers_about(self.image), ())
+
+    def test_cleared(self):
+        self.check_image(Answers(self.image, clear_weak=True), CLEAR)
+
+
+class TextTest(KnownImageTest):
+    """The text about the known image."""
+
+    def test_first_class_variables(self):
+        text = self.printed("top", "--min", "5").decode()
+        self.assertEqual(VARIABLE.findall(text)[:2], ["AllFonts", "ScratchSkin"])
+        for line in (
+            r"1535516 +27\.0 +519 +.*StrikeFont\n +1527464 +26\.9 +393 +class variable AllFonts\n",
+            r"654344 +11\.5 +14984 +.*ScratchFrameMorph\n"
+            r" +574852 +10\.1 +13469 +class variable ScratchSkin\n",
+        ):
+            self.assertRegex(text, line)
+
+    def test_drawing_in_docs(self):
+        self.assertEqual(self.printed("top", "--svg"), (ROOT / "docs" / "top.svg").read_bytes())
+
+    def test_lines(self):
+        tree = tree_of(self.answers)
+        for shape in (USUAL, Shape(least="5"), Shape(12, "0.2")):
+            with self.subTest(shape=shape):
+                first, *lines = self.printed("top", *shape.words).decode().splitlines()
+                self.assertEqual(first.split(), ["retained", "%", "objects"])
+                rows = tree.rows(**shape.bounds)
+                found = [LINE.fullmatch(line).groups() for line in lines]
+                self.assertEqual(found, [self.columns(tree, row) for row in rows])
+
+    def columns(self, tree, row):
+        share = percent(row.retained, tree.live_bytes)
+        return str(row.retained), share, str(row.objects), "  " * row.depth, row.label
+
+
+class HeldTest(TopTest, KnownImageTest):
+    """The known image, in which a class variable was made to hold 4 MB."""
+
+    def setUp(self):
+        super().setUp()
+        names, classes = self.names, {name: self.class_named(name) for name in CLASSES}
+        (holder,) = (number for number, name in names.variables.items() if name == HOLDER)
+        self.held = Appending(self.image, classes).held_by(holder)
+        self.holder = names.address(holder)
+        self.write("held.image", self.held.image.file())
+
+    def asked(self, *words):
+        outcome = look(*words, folder=self.folder)
+        self.assertEqual((outcome.status, outcome.stderr), (0, b""))
+        return outcome.stdout
+
+    def test_is_first(self):
+        text = self.asked("top", "held.image").decode()
+        self.assertEqual(VARIABLE.findall(text)[:2], ["PasteBuffer", "AllFonts"])
+        rows = rows_of(self.asked("top", "--json", "held.image"))
+        (row,) = (row for row in rows if row["address"] == self.holder)
+        self.assertEqual(row["path"][1:], ["class HandMorph", "class variable PasteBuffer"])
+        self.assertGreater(row["retained"], HELD_BYTES)
+        # its association is the same row
+        self.assertGreater(row["objects"], HELD_OBJECTS)
+        self.assertEqual(rows[1]["address"], row["parent"])
+
+    def test_rows(self):
+        tree = Tree(Answers(self.held.image))
+        self.check_trees([Asked(tree, "held.image", ())], [USUAL, Shape(least="5")])
+
+    def test_path_to_an_object(self):
+        address = f"{self.held.address:08x}"
+        self.assertIn(b"class variable PasteBuffer", self.asked("why", "held.image", address))
+        (row,) = rows_of(self.asked("why", "--json", "held.image", address))
+        self.assertIn(HOLDER, [step["label"] for step in row["path"]])
+
+
+class CommandLineTest(DeadArrayTest):
+    """Wrong arguments end with exit 2, and failed outputs as those of other commands."""
+
+    def top(self, *words, **how):
+        return look("top", *words, folder=self.folder, **how)
+
+    def test_wrong_values(self):
+        depths = ("", "x", "-1", "101", "1.5", "4294967296", "99999999999999999999")
+        shares = ("", "x", "-1", "101", "100.000001", "1%", ".", "5.", ".5", "1e1", "nan", "1,5")
+        for option, values in (("--depth", depths), ("--min", shares)):
+            for value in values:
+                with self.subTest(option, value=value):
+                    self.assert_explained(f"{option}={value}", "in")
+            self.assert_explained("in", option)
+
+    def test_one_form(self):
+        self.assert_explained("--folded", "--svg", "in")
+
+    def assert_explained(self, *words):
+        outcome = self.top(*words)
+        self.assertEqual((outcome.status, outcome.stdout), (2, b""))
+        self.assertRegex(outcome.stderr, rb"\A(?!fault).")
+
+    def test_help(self):
+        outcome = self.top("--help")
+        self.assertEqual((outcome.status, outcome.stderr), (0, b""))
+        text = outcome.stdout.decode()
+        self.assertRegex(text, r"(?m)^ *(\$ )?sqzlook top .*\.image")
+        for option in ("--depth <N>", "--min <PERCENT>", "--folded", "--svg", "--json"):
+            with self.subTest(option):
+                self.assertIn(option, text)
+
+    def test_closed_pipe(self):
+        for form in FORMS:
+            with self.subTest(form):
+                reader, writer = os.pipe()
+                os.close(reader)
+                with os.fdopen(writer, "wb") as pipe:
+                    outcome = self.top(*form, "in", stdout=pipe)
+                self.assertEqual((outcome.status, outcome.stderr), (0, b""))
+
+    def test_full_device(self):
+        for form in FORMS:
+            with self.subTest(form), open("/dev/full", "wb") as full:
+                outcome = self.top(*form, "in", stdout=full)
+                self.assertEqual(outcome.status, 3)
+                self.assertRegex(outcome.stderr, rb"\Asqzlook: .+\n\Z")

@@ -1,0 +1,293 @@
+"""What `sqzlook --json` must print about an image: the rows of each command."""
+
+import functools
+import typing
+
+from tests.reference.faults import Defects
+from tests.reference.names import Names, escaped
+from tests.reference.objects import compact_index, format_of, has_bytes, traced_end
+from tests.reference.reachability import Reachability
+
+
+class Group(typing.NamedTuple):
+    """The class of some objects, or if they have none, their compact index."""
+
+    a_class: int | None
+    compact: int | None
+
+
+class Slot(typing.NamedTuple):
+    """A slot: its data word, what kind of word it holds, and the object that it points to."""
+
+    place: int
+    kind: str
+    word: int
+    target: int | None
+
+
+def signed(word):
+    """The number of a SmallInteger."""
+    return (word >> 1) - (word >> 31 << 31)
+
+
+class Answers:
+    """The answers about an image, if weak references are kept or cleared."""
+
+    def __init__(self, image, clear_weak=False):
+        self.image, self.clear_weak = image, clear_weak
+        self.reach = Reachability(image, clear_weak)
+        self.live = sorted(self.reach.found)
+        self.names = Names(image, self.reach.found, clear_weak)
+
+    @functools.cached_property
+    def defects(self):
+        """All faults of the image and its live objects."""
+        return Defects(self.names).faults()
+
+    @functools.cached_property
+    def faults(self):
+        """The rows of these faults."""
+        return [fault.row(len(self.image.prefix)) for fault in self.defects]
+
+    def is_live(self, number):
+        return number in self.reach.found
+
+    @functools.cache
+    def retained(self, number):
+        """The bytes that an object retains, if it is live."""
+        return self.reach.retained_bytes([number]) if self.is_live(number) else None
+
+    def check(self, path, show_all=False):
+        return {
+            "image": path,
+            "sound": not self.faults,
+            "objects": len(self.image.objects),
+            "live_bytes": self.reach.live_bytes,
+            "faults": self.faults if show_all else self.faults[:1],
+        }
+
+    def info(self, path):
+        image = self.image
+        return {
+            "image": path,
+            "order": f"{image.order}-endian",
+            "offset": len(image.prefix),
+            "base": f"{image.base:08x}",
+            "data_bytes": 4 * len(image.words),
+            "special_objects": f"{image.header[4]:08x}",
+            "objects": len(image.objects),
+            "live_objects": len(self.live),
+            "live_bytes": self.reach.live_bytes,
+            "dead_bytes": sum(self.reach.sizes) - self.reach.live_bytes,
+            "free_chunks": self.free_chunks(),
+            "fault": self.faults[0] if self.faults else None,
+        }
+
+    def free_chunks(self):
+        """The number of free chunks before, between and after the objects."""
+        free, words, objects = 0, self.image.words, self.image.objects
+        ends = [0, *(it.end for it in objects)]
+        firsts = [*(it.first for it in objects), len(words)]
+        for at, first in zip(ends, firsts):
+            while at < first:
+                at += words[at] >> 2
+                free += 1
+        return free
+
+    def group_of(self, number):
+        """The group of an object in the class histogram."""
+        a_class = self.names.class_of(number)
+        compact = compact_index(self.image.header_of(number)) if a_class is None else None
+        return Group(a_class, compact)
+
+    def groups(self, numbers):
+        """The objects of each group among these."""
+        found = {}
+        for number in numbers:
+            found.setdefault(self.group_of(number), []).append(number)
+        return found
+
+    @functools.cached_property
+    def live_groups(self):
+        return self.groups(self.live)
+
+    def census(self, dead=False):
+        """The class histogram of the live or the dead objects."""
+        numbers = range(len(self.image.objects))
+        chosen = [number for number in numbers if self.is_live(number) != dead]
+        groups = self.groups(chosen)
+        sizes = {group: self.reach.bytes_of(its) for group, its in groups.items()}
+        order = sorted(groups, key=lambda group: (-sizes[group], group.a_class is None, group))
+        rows = [self.census_row(group, groups[group]) for group in order]
+        return [*rows, self.census_row(None, chosen)]
+
+    def census_row(self, group, numbers):
+        """The row of the objects of a group, or of all."""
+        name, address = None, None
+        if group is not None and group.a_class is None:
+            name = f"compact {group.compact}"
+        elif group is not None:
+            name, address = self.names.name(group.a_class), self.names.address(group.a_class)
+        size = self.reach.bytes_of(numbers)
+        return {"class": name, "address": address, "objects": len(numbers), "bytes": size}
+
+    def list(self, group):
+        """The live objects of a group."""
+        numbers = self.live_groups.get(group, [])
+        sizes = self.reach.sizes
+        rows = [
+            {
+                "address": self.names.address(number),
+                "bytes": sizes[number],
+                "retained": self.retained(number),
+            }
+            for number in sorted(numbers, key=lambda number: (-sizes[number], number))
+        ]
+        last = {
+            "objects": len(numbers),
+            "bytes": self.reach.bytes_of(numbers),
+            "retained_together": self.reach.retained_bytes(numbers),
+        }
+        return [*rows, last]
+
+    def show(self, number):
+        """An object, its header, its slots and its text."""
+        it, header = self.image.objects[number], self.image.header_of(number)
+        a_class, text = self.names.class_of(number), self.image.text(number)
+        return {
+            "address": self.names.address(number),
+            "class": self.names.class_name(number),
+            "class_address": None if a_class is None else self.names.address(a_class),
+            "label": self.names.label(number),
+            "live": self.is_live(number),
+            "bytes": self.reach.sizes[number],
+            "retained": self.retained(number),
+            "header_words": it.base - it.first + 1,
+            "format": format_of(header),
+            "hash": header >> 17 & 0xFFF,
+            "compact_index": compact_index(header),
+            "slots": [self.slot_row(number, slot) for slot in self.slots(number)],
+            "text": None if text is None else escaped(text),
+        }
+
+    def slots(self, number):
+        """The class word of an object, if it has one, and its fields, unless they are bytes."""
+        it, words = self.image.objects[number], self.image.words
+        if it.base > it.first:
+            word = words[it.base - 1] & ~3
+            target = self.image.numbers.get(word)
+            yield Slot(it.base - 1, "bad" if target is None else "pointer", word, target)
+        if not has_bytes(words[it.base]):
+            weak = self.image.first_weak(number)
+            for place in range(it.base + 1, it.end):
+                yield self.field_slot(it, place, weak is not None and place >= weak)
+
+    def field_slot(self, it, place, is_weak):
+        """A field of an object."""
+        word = self.image.words[place]
+        if place >= traced_end(self.image.words, it):
+            return Slot(place, "untraced", word, None)
+        if word & 1:
+            return Slot(place, "integer", word, None)
+        target = self.image.numbers.get(word)
+        if target is None:
+            return Slot(place, "bad", word, None)
+        return Slot(place, "weak" if is_weak else "pointer", word, target)
+
+    def slot_row(self, number, slot):
+        value = signed(slot.word) if slot.kind == "integer" else f"{slot.word:08x}"
+        return {
+            **self.slot_name(number, slot.place),
+            "kind": slot.kind,
+            "value": value,
+            "label": None if slot.target is None else self.names.label(slot.target),
+        }
+
+    def slot_name(self, number, place):
+        """A slot of an object, and its name if it has one."""
+        base = self.image.objects[number].base
+        if place < base:
+            return {"slot": "class", "name": None}
+        field = place - base - 1
+        return {"slot": field, "name": self.names.field_name(number, field)}
+
+    def is_weak(self, number, place):
+        """Whether this data word is a weak field of an object."""
+        weak = self.image.first_weak(number)
+        return weak is not None and place >= weak
+
+    def why(self, number):
+        """A shortest path to an object, if it is live."""
+        path = self.path(number) if self.is_live(number) else None
+        return {
+            "address": self.names.address(number),
+            "class": self.names.class_name(number),
+            "bytes": self.reach.sizes[number],
+            "retained": self.retained(number),
+            "path": path,
+        }
+
+    def path(self, number):
+        """The steps of the path to a live object."""
+        steps = self.reach.path(number)
+        owners = [None, *(owner for owner, _ in steps)]
+        return [
+            {
+                **self.object_row(step),
+                **self.step_row(owner, place),
+                "retained": self.retained(step),
+            }
+            for owner, (step, place) in zip(owners, steps)
+        ]
+
+    def step_row(self, owner, place):
+        """The slot of a step, or that of the special objects array, which has no owner."""
+        if owner is None:
+            return {"slot": None, "name": None, "weak": False}
+        return {**self.slot_name(owner, place), "weak": self.is_weak(owner, place)}
+
+    def object_row(self, number):
+        return {
+            "address": self.names.address(number),
+            "class": self.names.class_name(number),
+            "label": self.names.label(number),
+        }
+
+    @functools.cached_property
+    def references(self):
+        """The owner and the data word of each slot of a live object that points to an object."""
+        found = {}
+        for place, owner, target in self.image.strong_pointers(self.clear_weak):
+            if self.is_live(owner):
+                found.setdefault(target, []).append((owner, place))
+        return found
+
+    def refs(self, number):
+        """The slots of live objects that point to an object."""
+        return [
+            {**self.object_row(owner), **self.step_row(owner, place)}
+            for owner, place in self.references.get(number, [])
+        ]
+
+
+def unreadable_check(path, fault):
+    """The row of `check` about an image that cannot be read for this fault, itself a row."""
+    return {
+        "image": path,
+        "sound": False,
+        "objects": None,
+        "live_bytes": None,
+        "faults": [fault],
+    }
+
+
+def unreadable_info(path, fault, header=None):
+    """The row of `info` about such an image, with what its header says if it has one."""
+    unknown = ("objects", "live_objects", "live_bytes", "dead_bytes", "free_chunks")
+    known = ("order", "offset", "base", "data_bytes", "special_objects")
+    return {
+        "image": path,
+        **(header or dict.fromkeys(known)),
+        **dict.fromkeys(unknown),
+        "fault": fault,
+    }

@@ -1,0 +1,259 @@
+"""What `sqzlook diff` must print about two images: what differs between them, by name."""
+
+import collections
+import functools
+import typing
+
+from tests.reference.answers import signed
+from tests.reference.file_format import bytes_of
+from tests.reference.names import escaped
+from tests.reference.objects import METHOD, format_of, has_bytes, traced_end
+from tests.reference.tree import INDEXED, VALUE, Tree
+
+# The maximum number of rows of each kind in the text, unless all are requested.
+SHOWN = 20
+# The elements of an array in a literal are compared down to this depth.
+DEPTH = 3
+# A last byte of at least this says that the last four bytes of a method are a source pointer.
+SOURCE_FLAG, SOURCE_BYTES = 252, 4
+# The formats of objects whose fields are words.
+WORDS = range(5, 8)
+
+
+class Size(typing.NamedTuple):
+    """A number of objects, and their bytes."""
+
+    objects: int = 0
+    bytes: int = 0
+
+
+class Held(typing.NamedTuple):
+    """The bytes that a variable retains, and whether its value is nil."""
+
+    bytes: int = 0
+    is_nil: bool = True
+
+
+class Method(typing.NamedTuple):
+    """The bytes of a method, and what it is compared by."""
+
+    bytes: int
+    contents: tuple
+
+
+class Change(typing.NamedTuple):
+    """What has a name in the old image, in the new one, or in both."""
+
+    name: str
+    old: tuple | None
+    new: tuple | None
+
+    @property
+    def grown(self):
+        """By how many bytes it grew."""
+        old, new = (it.bytes if it else 0 for it in (self.old, self.new))
+        return new - old
+
+
+def without_trailer(data):
+    """The bytes of a method after its literals, but without the trailer."""
+    if not data:
+        return data
+    if data[-1] >= SOURCE_FLAG:
+        return data[:-SOURCE_BYTES]
+    if data[-1] == 0:
+        near = [at for at in range(len(data) - 1)[-SOURCE_BYTES:] if data[at] != 0]
+        if near:
+            return data[: near[-1] + 1]
+    return data[: max(0, len(data) - data[-1] - 1)]
+
+
+class Side:
+    """What one of the images has under each name."""
+
+    def __init__(self, tree):
+        self.tree, self.answers, self.names = tree, tree.answers, tree.names
+        self.image = self.answers.image
+
+    @classmethod
+    def of(cls, answers):
+        return cls(Tree(answers))
+
+    @property
+    def total(self):
+        return Size(len(self.answers.live), self.answers.reach.live_bytes)
+
+    @functools.cached_property
+    def classes(self):
+        """The size of the live instances of the classes with each name."""
+        found = collections.defaultdict(Size)
+        for number in self.answers.live:
+            name, size = self.names.class_name(number), self.answers.reach.sizes[number]
+            objects, total = found[name]
+            found[name] = Size(objects + 1, total + size)
+        return dict(found)
+
+    @functools.cached_property
+    def variables(self):
+        """What the live variables with each name hold."""
+        found = collections.defaultdict(Held)
+        for number in self.tree.variables:
+            if self.answers.is_live(number):
+                size, was_nil = found[self.names.label(number)]
+                value = self.names.target(number, VALUE)
+                is_nil = self.names.constants.get(value) == "nil"
+                total = size + self.tree.retained[number]
+                found[self.names.label(number)] = Held(total, was_nil and is_nil)
+        return dict(found)
+
+    @functools.cached_property
+    def methods(self):
+        """The live methods of live classes, by name and by their number among those of the name."""
+        found, counts = {}, collections.Counter()
+        for a_class in filter(self.answers.is_live, self.names.classes):
+            for selector, number in sorted(self.names.methods_of(a_class), key=lambda it: it[1]):
+                if self.answers.is_live(number):
+                    name = f"{self.names.name(a_class)}>>{escaped(selector)}"
+                    size = self.answers.reach.sizes[number]
+                    found[name, counts[name]] = Method(size, self.contents(number))
+                    counts[name] += 1
+        return found
+
+    def contents(self, number):
+        """The header, the literals and the bytecodes of a method."""
+        it, words = self.image.objects[number], self.image.words
+        first = it.base + 1
+        end = max(min(first + 1, it.end), traced_end(words, it))
+        data = bytes_of(words[end : it.end], self.image.order)
+        padding = format_of(words[it.base]) - METHOD
+        bytecodes = without_trailer(data[: max(0, len(data) - padding)])
+        literals = tuple(self.literal(word, DEPTH) for word in words[first + 1 : end])
+        return tuple(words[first : first + 1][: it.end - first]), literals, bytecodes
+
+    @functools.cache
+    def literal(self, word, depth):
+        """What a literal is compared by, if arrays are compared down to a depth."""
+        if word & 1:
+            return "integer", signed(word)
+        number = self.image.numbers.get(word)
+        if number is None:
+            return ("bad",)
+        names = self.names
+        if any(
+            number in named
+            for named in (names.constants, names.class_labels, names.methods, names.variables)
+        ):
+            return "named", names.label(number)
+        header, name = self.image.header_of(number), names.class_name(number)
+        it = self.image.objects[number]
+        fields = self.image.words[it.base + 1 : it.end]
+        if has_bytes(header):
+            return "bytes", name, self.image.text(number)
+        if format_of(header) in WORDS:
+            return "words", name, tuple(fields)
+        if format_of(header) == INDEXED and depth > 0:
+            return "array", name, tuple(self.literal(field, depth - 1) for field in fields)
+        return "other", name
+
+
+def changes_of(old, new):
+    """What has each name in two images, by name."""
+    for name in sorted(old.keys() | new.keys()):
+        yield Change(name, old.get(name), new.get(name))
+
+
+def largest_first(changes):
+    return sorted(changes, key=lambda it: (-abs(it.grown), it.name))
+
+
+def bytes_in(it):
+    """The bytes of what is in an image, if it is."""
+    return it and it.bytes
+
+
+class Changes:
+    """What differs between two images."""
+
+    def __init__(self, old, new):
+        self.old, self.new = old.total, new.total
+        classes, variables, methods = (
+            list(changes_of(getattr(old, kind), getattr(new, kind)))
+            for kind in ("classes", "variables", "methods")
+        )
+        self.classes = largest_first(it for it in classes if it.old != it.new)
+        self.variables = largest_first(
+            it for it in variables if bytes_in(it.old) != bytes_in(it.new)
+        )
+        self.method_count = len(methods)
+        self.methods = [
+            it._replace(name=it.name[0])
+            for it in methods
+            if not it.old or not it.new or it.old.contents != it.new.contents
+        ]
+
+    @property
+    def status(self):
+        differ = self.classes or self.variables or self.methods or self.old != self.new
+        return 1 if differ else 0
+
+    def rows(self):
+        """What `--json` prints."""
+        rows = [self.row("total", Change(None, self.old, self.new), Size._asdict)]
+        rows += [self.row("class", change, Size._asdict) for change in self.classes]
+        rows += [self.row("retained", change, bytes_in) for change in self.variables]
+        rows += [self.row("method", change, bytes_in) for change in self.methods]
+        return rows
+
+    def row(self, kind, change, value):
+        old, new = (it and value(it) for it in (change.old, change.new))
+        return {"kind": kind, "name": change.name, "old": old, "new": new}
+
+    def lines(self, show_all=False):
+        """The lines of the text."""
+        total, counts = Change(None, self.old, self.new), collections.Counter(self.verbs())
+        numbers = ", ".join(f"{counts[it]} {it}" for it in ("added", "removed", "changed"))
+        parts = (
+            (f"classes   {len(self.classes)} changed", map(self.class_line, self.classes)),
+            (f"retained  {len(self.variables)} changed", map(self.variable_line, self.variables)),
+            (f"methods   {numbers} of {self.method_count}", self.method_lines()),
+        )
+        yield (
+            f"objects   {self.old.objects} -> {self.new.objects}, "
+            f"bytes {self.old.bytes} -> {self.new.bytes} ({total.grown:+})"
+        )
+        for head, lines in parts:
+            lines = list(lines)
+            shown = len(lines) if show_all else SHOWN
+            yield from (head, *lines[:shown])
+            if len(lines) > shown:
+                yield rest_line(len(lines) - shown)
+
+    def class_line(self, change):
+        old, new = (it.objects if it else 0 for it in (change.old, change.new))
+        return f"{change.grown:+11} bytes {new - old:+10} objects  {change.name}"
+
+    def variable_line(self, change):
+        return f"{change.grown:+11} bytes  {change.name}{note(change.old, change.new)}"
+
+    def verbs(self):
+        """What happened to each method that differs."""
+        for change in self.methods:
+            yield "added" if not change.old else "changed" if change.new else "removed"
+
+    def method_lines(self):
+        for verb, change in zip(self.verbs(), self.methods):
+            yield f"  {verb:7}  {change.name}"
+
+
+def note(old, new):
+    """What the line of a variable ends with."""
+    if old is None or new is None:
+        return " (new)" if old is None else " (gone)"
+    if old.is_nil != new.is_nil:
+        return " (was nil)" if old.is_nil else " (now nil)"
+    return ""
+
+
+def rest_line(count):
+    """The line about rows that are not shown."""
+    return f"... {count} more row{'' if count == 1 else 's'}; --all prints all"
