@@ -17,7 +17,7 @@ import tempfile
 from bench.images import MIB, make_image
 from tests.harness.squeak_image import find_image
 from tests.reference.image import Image
-from tests.reference.objects import WEAK, format_of, has_bytes, is_context, traced_end
+from tests.reference.objects import Format, format_of, has_bytes, is_context, is_method, traced_end
 
 SIZE = 4 * MIB
 KINDS = ("pointers", "contexts", "weak", "words", "bytes", "methods")
@@ -28,9 +28,9 @@ def kind_of(header):
     kind = format_of(header)
     if is_context(header):
         return "contexts"
-    if kind <= WEAK:
-        return "weak" if kind == WEAK else "pointers"
-    if kind >= 12:
+    if kind <= Format.WEAK:
+        return "weak" if kind == Format.WEAK else "pointers"
+    if is_method(header):
         return "methods"
     return "bytes" if has_bytes(header) else "words"
 

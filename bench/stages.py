@@ -21,10 +21,10 @@ import sys
 import tempfile
 
 from bench.images import MIB, PARTS, make_image
-from tests.harness.programs import ROOT, build, measured
+from tests.harness.programs import build, measured, program_path
 from tests.reference.file_format import bytes_of, words_of
 
-PROGRAM = ROOT / "crates" / "sqz_stage_times" / "out" / "sqz_stage_times"
+PROGRAM = program_path("sqz_stage_times")
 
 
 def timed(program, workers, image, out):

@@ -4,7 +4,8 @@ first."""
 import os
 import re
 
-from tests.harness.programs import ROOT, SUCCESS, Outcome, run
+from tests.harness.outcomes import SUCCESS, Outcome
+from tests.harness.programs import ROOT, run
 from tests.harness.worked_images import DeadArrayTest, worked_image
 
 

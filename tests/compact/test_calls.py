@@ -8,8 +8,9 @@ Workers that cannot grow their lists leave objects to the caller's thread. If th
 all objects for each of these, a run would not end in its time.
 """
 
+from tests.harness.outcomes import NO_MEMORY, SUCCESS
 from tests.harness.preload import PreloadTest
-from tests.harness.programs import NO_MEMORY, SQZCOMPACT, SUCCESS
+from tests.harness.programs import SQZCOMPACT
 from tests.making.large_images import blocks, made, pairs, varied
 from tests.reference.file_format import PREFIX
 

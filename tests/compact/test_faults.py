@@ -17,8 +17,9 @@ import itertools
 import re
 
 from tests.harness.allocation_callers import OTHER, PUSH, START, Functions
+from tests.harness.outcomes import NOT_READ, NOT_WRITTEN, NO_MEMORY, Outcome
 from tests.harness.preload import PreloadTest
-from tests.harness.programs import NOT_READ, NOT_WRITTEN, NO_MEMORY, ROOT, SQZCOMPACT, Outcome
+from tests.harness.programs import SQZCOMPACT, tests_path
 from tests.harness.worked_images import worked_image
 from tests.making.large_images import zigzag_chain
 
@@ -38,7 +39,7 @@ RESERVATIONS = 1
 # The objects of a chain: to go over all of them for each of them takes longer than a run may.
 CHAIN = 500_000
 
-CALLS_AGAIN = ROOT / "crates" / "sqz_test_allocation" / "out" / "sqz_test_allocation_tests"
+CALLS_AGAIN = tests_path("sqz_test_allocation")
 TESTS_AGAIN = (
     "reading::reading_serves_again",
     "stages::stages_serve_again",
@@ -53,7 +54,7 @@ CALLS = set(
     mark_locked mark slide census print MarkTable::new MarkTable::close run
     """.split()
 )
-CLOSES_AGAIN = ROOT / "crates" / "sqz_test_marks" / "out" / "sqz_test_marks_tests"
+CLOSES_AGAIN = tests_path("sqz_test_marks")
 TEST_OF_CLOSING = "steps::one_pass"
 # What that test ends with if another of its calls runs out of memory.
 OUT_OF_MEMORY = (b"error: OutOfMemory\n", b"error: AllocError\n")

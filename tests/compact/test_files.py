@@ -5,7 +5,9 @@ import shutil
 import stat
 import subprocess
 
-from tests.harness.programs import NOT_READ, NOT_WRITTEN, SQZCOMPACT, SUCCESS, Limits, Outcome
+from tests.harness.failed_outputs import full_device
+from tests.harness.outcomes import NOT_READ, NOT_WRITTEN, SUCCESS, Outcome
+from tests.harness.programs import SQZCOMPACT, Limits
 from tests.harness.worked_images import DeadArrayTest, worked_image
 from tests.making.large_images import byte_object
 
@@ -64,7 +66,7 @@ class OutputsTest(DeadArrayTest):
         self.assert_ends(self.compact("in", "/dev/full"), NOT_WRITTEN)
 
     def test_reports_a_full_device_for_the_census_after_out_is_written(self):
-        with open("/dev/full", "wb") as full:
+        with full_device() as full:
             outcome = self.compact("--census", "in", "out", stdout=full)
         self.assert_ends(outcome, NOT_WRITTEN)
         self.assert_holds("out", self.worked.answer)

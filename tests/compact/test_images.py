@@ -1,9 +1,11 @@
 """Compares the worked images in images/ with what `sqz_write_images` writes from its constants."""
 
-from tests.harness.programs import ROOT, SUCCESS, ProgramTest, build
+from tests.harness.outcomes import SUCCESS
+from tests.harness.program_checks import ProgramTest
+from tests.harness.programs import build, program_path
 from tests.harness.worked_images import IMAGES, bytes_at
 
-WRITE_IMAGES = ROOT / "crates" / "sqz_write_images" / "out" / "sqz_write_images"
+WRITE_IMAGES = program_path("sqz_write_images")
 FOLDERS = ("accepted", "unreadable", "defects", "weak")
 
 

@@ -23,9 +23,10 @@ import subprocess
 import tempfile
 import time
 
-from tests.harness.programs import SEED, SQZCOMPACT
+from tests.harness.programs import SQZCOMPACT
 from tests.harness.squeak_image import SqueakImageTest
 from tests.making import garbage
+from tests.making.seed import SEED
 from tests.reference.file_format import PREFIX
 from tests.reference.image import Image
 

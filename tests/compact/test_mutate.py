@@ -15,8 +15,11 @@ import random
 import re
 import struct
 
-from tests.harness.programs import SEED, SQZCOMPACT, SUCCESS, Limits, ProgramTest
+from tests.harness.outcomes import SUCCESS
+from tests.harness.program_checks import ProgramTest
+from tests.harness.programs import SQZCOMPACT, Limits
 from tests.harness.worked_images import IMAGES
+from tests.making.seed import SEED
 from tests.reference.file_format import HEADER_WORDS
 
 COUNT = int(os.environ.get("SQZ_COUNT", "400"))

@@ -6,17 +6,12 @@ objects, and it must come back again. Last, a weak array holds dead objects. The
 counts the class histogram. `SQZ_SEED` chooses what is put in.
 """
 
-import dataclasses
 import functools
-import gc
 import itertools
-import random
 
-from tests.harness.programs import SEED
-from tests.harness.squeak_image import SqueakImageTest, is_known
+from tests.harness.saved_image import SavedImageTest
 from tests.making import garbage
 from tests.reference.file_format import PREFIX
-from tests.reference.image import Image
 
 CENSUS = ("--census",)
 CLEAR = ("--clear-weak",)
@@ -65,42 +60,20 @@ def forms_of(image):
     }
 
 
-@dataclasses.dataclass(frozen=True)
-class Real:
-    """The file of the image, its parts, and what it is compacted to: the image, the class
-    histogram, and the files in each form."""
-
-    file: bytes
-    image: Image
-    rest: bytes
-    clean: Image
-    census: bytes
-    answers: dict
-
-
 @functools.cache
-def load(path):
-    """The image in a file, which takes seconds to parse."""
-    file = path.read_bytes()
-    image, rest = Image.read(file)
-    clean = image.compacted()
-    return Real(file, image, rest, clean, clean.census(), forms_of(clean))
+def answers_about(image):
+    """The class histogram of an image without dead objects, and its files by form."""
+    return image.census(), forms_of(image)
 
 
-class RealImageTest(SqueakImageTest):
-    """A test on the image, which is in `real`."""
+class RealImageTest(SavedImageTest):
+    """A test on the image, with its class histogram and its files by form."""
 
     @classmethod
     def setUpClass(cls):
         super().setUpClass()
-        # There are millions of small tuples, and no cycles.
-        gc.disable()
-        cls.addClassCleanup(gc.enable)
-        cls.real = cls.path and load(cls.path)
-
-    def setUp(self):
-        super().setUp()
-        self.generator = random.Random(SEED)
+        if cls.path is not None:
+            cls.census, cls.answers = answers_about(cls.image)
 
     def random_plan(self):
         return plan_of(self.generator.choice(WORKERS), self.generator.choice(REGIONS))
@@ -117,27 +90,25 @@ class KnownImageTest(RealImageTest):
 
     def setUp(self):
         super().setUp()
-        if not is_known(self.real.file):
-            self.skipTest("not the image of the package")
+        self.require_known()
 
     def test_was_saved_compacted(self):
-        self.assertTrue(self.real.image.file() == self.real.clean.file())
-        self.assertEqual(self.real.rest, b"")
+        self.assertTrue(self.saved.image.file() == self.image.file())
+        self.assertEqual(self.saved.rest, b"")
 
     def test_objects_and_bytes(self):
-        self.assertEqual(
-            (len(self.real.image.objects), self.real.image.header[2]), (OBJECTS, BYTES)
-        )
+        image = self.saved.image
+        self.assertEqual((len(image.objects), image.header[2]), (OBJECTS, BYTES))
 
     def test_rows_of_its_class_histogram(self):
-        lines = [line.split(maxsplit=3) for line in self.real.census.decode().splitlines()]
+        lines = [line.split(maxsplit=3) for line in self.census.decode().splitlines()]
         rows = {line[3]: (int(line[0]), int(line[1])) for line in lines if len(line) == 4}
         for name, sums in CLASSES.items():
             with self.subTest(name):
                 self.assertEqual(rows.get(name), sums)
 
     def test_two_weak_arrays_hold_five_objects(self):
-        image = self.real.image
+        image = self.saved.image
         weak = [it for it in range(len(image.objects)) if image.first_weak(it) is not None]
         nil = image.field(image.special, 0)
         pointers = [it for it in image.pointers if it.owner in weak and it.target != nil]
@@ -146,37 +117,37 @@ class KnownImageTest(RealImageTest):
         self.assertEqual((len(weak), len(held)), (2, 5))
 
     def test_other_objects_point_to_what_is_held_weakly(self):
-        cleared = self.real.clean.compacted(clear_weak=True)
-        self.assertTrue(cleared.file() == self.real.clean.file())
+        cleared = self.image.compacted(clear_weak=True)
+        self.assertTrue(cleared.file() == self.image.file())
 
 
 class FormsTest(RealImageTest):
     """The image in each form, and with other bytes after its data."""
 
     def test_with_other_bytes_after_its_data(self):
-        file = self.real.image.file()
-        answer = self.real.clean.file()
+        file = self.saved.image.file()
+        answer = self.image.file()
         for name, after in {
-            "as it is": self.real.rest,
+            "as it is": self.saved.rest,
             "cut after its data": b"",
             "with a byte more": b"\x01",
             "twice": file,
         }.items():
             for plan in (CENSUS, ()):
                 with self.subTest(name, plan=plan):
-                    self.check_plan(file + after, answer, self.real.census, plan)
+                    self.check_plan(file + after, answer, self.census, plan)
 
     def test_each_form(self):
-        for form, file in forms_of(self.real.image).items():
+        for form, file in forms_of(self.saved.image).items():
             for plan in (self.random_plan(), plan_of(1, 65536)):
                 with self.subTest(form, plan=plan):
-                    self.check_plan(file, self.real.answers[form], self.real.census, plan)
+                    self.check_plan(file, self.answers[form], self.census, plan)
 
     def test_each_compacted_form(self):
-        for form, answer in self.real.answers.items():
+        for form, answer in self.answers.items():
             plan = self.random_plan()
             with self.subTest(form, plan=plan):
-                self.check_plan(answer, answer, self.real.census, plan)
+                self.check_plan(answer, answer, self.census, plan)
 
 
 class GarbageTest(RealImageTest):
@@ -184,30 +155,30 @@ class GarbageTest(RealImageTest):
 
     def test_each_kind_in_each_form(self):
         for name, (kinds, count) in LITTERS.items():
-            image = garbage.littered(self.real.clean, self.generator, kinds, count)
+            image = garbage.littered(self.image, self.generator, kinds, count)
             for form, file in forms_of(image).items():
                 plan = self.random_plan()
                 with self.subTest(name, form=form, plan=plan):
-                    self.check_plan(file, self.real.answers[form], self.real.census, plan)
+                    self.check_plan(file, self.answers[form], self.census, plan)
 
     def test_all_kinds_by_each_plan(self):
         kinds = (*garbage.SOUND, garbage.dead_anything)
-        file = garbage.littered(self.real.clean, self.generator, kinds, 40_000).file()
+        file = garbage.littered(self.image, self.generator, kinds, 40_000).file()
         plans = (plan_of(*numbers) for numbers in itertools.product(WORKERS, REGIONS))
         for plan in (*plans, ()):
             with self.subTest(plan=plan):
-                self.check_plan(file, self.real.clean.file(), self.real.census, plan)
+                self.check_plan(file, self.image.file(), self.census, plan)
 
 
 class WeakTest(RealImageTest):
     """What a weak array holds stays, unless weak references are cleared."""
 
     def test_cleared(self):
-        cleared = self.real.clean.compacted(clear_weak=True)
+        cleared = self.image.compacted(clear_weak=True)
         answer, census = cleared.file(), cleared.census()
         for plan in ((*CLEAR, *CENSUS), (*CLEAR, *self.random_plan())):
             with self.subTest(plan=plan):
-                self.check_plan(self.real.clean.file(), answer, census, plan)
+                self.check_plan(self.image.file(), answer, census, plan)
         with self.subTest("again"):
             self.check_plan(answer, answer, census, (*CLEAR, *CENSUS))
 
@@ -219,15 +190,13 @@ class WeakTest(RealImageTest):
 
     def check_held(self, options):
         """Compacts the image with a weak array that holds garbage, in each form and again."""
-        numbers = range(len(self.real.clean.objects))
-        if all(self.real.clean.first_weak(number) is None for number in numbers):
+        numbers = range(len(self.image.objects))
+        if all(self.image.first_weak(number) is None for number in numbers):
             self.skipTest("no weak object in the image")
-        sound = garbage.littered(
-            self.real.clean, self.generator, garbage.SOUND, 10_000, is_wild=False
-        )
+        sound = garbage.littered(self.image, self.generator, garbage.SOUND, 10_000, is_wild=False)
         image = garbage.held_weakly(sound)
         answer = image.compacted(clear_weak=options == CLEAR)
-        self.assertGreater(len(answer.objects), len(self.real.clean.objects))
+        self.assertGreater(len(answer.objects), len(self.image.objects))
         answers, census = forms_of(answer), answer.census()
         for form, file in forms_of(image).items():
             plan = (*options, *self.random_plan())

@@ -9,19 +9,21 @@ in `TMPDIR`.
 import filecmp
 import subprocess
 
-from tests.harness.programs import ROOT, SQZCOMPACT, ProgramTest, measured
+from tests.harness.program_checks import ProgramTest
+from tests.harness.programs import ROOT, SQZCOMPACT, measured
 
 GIB = 1 << 30
 WORKERS = "4"
 # The size of the data and the base, in bytes: together 2^32 at most.
 IMAGES = ((GIB, 0), (GIB, 3 * GIB), (4 * GIB - 4, 0), (4 * GIB - 4, 4))
 MOST = 2.5
+MAKER = ROOT / "tests" / "making" / "make_large.c"
 
 
 class ScaleTest(ProgramTest):
     def test_large_images(self):
         maker = self.folder / "make_large"
-        subprocess.run(["cc", "-O2", "-o", maker, ROOT / "tests" / "making" / "make_large.c"], check=True)
+        subprocess.run(["cc", "-O2", "-o", maker, MAKER], check=True)
         image, answer = (self.folder / name for name in ("image", "answer"))
         for size, base in IMAGES:
             subprocess.run([maker, str(size), str(base), image, answer], check=True)

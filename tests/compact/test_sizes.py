@@ -7,7 +7,9 @@ that looks through all objects for each of them does not end in its time.
 
 import itertools
 
-from tests.harness.programs import NO_MEMORY, SQZCOMPACT, Limits, ProgramTest
+from tests.harness.outcomes import NO_MEMORY
+from tests.harness.program_checks import ProgramTest
+from tests.harness.programs import SQZCOMPACT, Limits
 from tests.harness.worked_images import worked_image
 from tests.making.large_images import blocks, byte_object, chain, classes, made, varied, wide
 from tests.reference.file_format import HEADER_WORDS, PREFIX

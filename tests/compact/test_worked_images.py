@@ -4,7 +4,8 @@ import itertools
 import re
 import unittest
 
-from tests.harness.programs import ROOT, SQZCOMPACT, ProgramTest, build
+from tests.harness.program_checks import ProgramTest
+from tests.harness.programs import SQZCOMPACT, build, program_path
 from tests.harness.worked_images import (
     IMAGES,
     accepted_images,
@@ -14,7 +15,7 @@ from tests.harness.worked_images import (
     worked_paths,
 )
 
-STAGE_TIMES = ROOT / "crates" / "sqz_stage_times" / "out" / "sqz_stage_times"
+STAGE_TIMES = program_path("sqz_stage_times")
 
 
 def folder_of(worked):

@@ -2,7 +2,9 @@
 
 import typing
 
-from tests.harness.look_checks import CLEAR, LookTest, difference, look_at_all, rows_of
+from tests.harness.json_rows import difference, rows_of
+from tests.harness.look_checks import LookTest
+from tests.harness.sqzlook import CLEAR, look_at_all
 from tests.reference.answers import Answers
 from tests.reference.changes import Changes, Side
 from tests.reference.image import Image

@@ -1,15 +1,11 @@
-"""Runs `sqzlook`, and compares the rows that it prints with those that are expected."""
+"""Asks `sqzlook` questions, and compares its answers with those of the second implementation."""
 
-import concurrent.futures
-import json
-import os
 import typing
 
-from tests.harness.programs import SQZLOOK, ProgramTest, run
+from tests.harness.json_rows import difference, rows_of
+from tests.harness.program_checks import ProgramTest
+from tests.harness.sqzlook import CLEAR, look_at_all
 from tests.reference.answers import Answers
-
-CLEAR = ("--clear-weak",)
-COMMANDS = ("check", "info", "census", "list", "show", "why", "refs", "top", "diff")
 
 
 class Question(typing.NamedTuple):
@@ -18,47 +14,6 @@ class Question(typing.NamedTuple):
     words: tuple
     rows: list
     status: int = 0
-
-
-def look(*words, folder=None, **how):
-    """The outcome of `sqzlook` with these words, run in a folder."""
-    return run(SQZLOOK, words, folder=folder, **how)
-
-
-def look_at_all(lines, folder):
-    """The outcomes of command lines, in their order. As many run at once as processors can."""
-    with concurrent.futures.ThreadPoolExecutor(len(os.sched_getaffinity(0))) as pool:
-        return list(pool.map(lambda words: look(*words, folder=folder), lines))
-
-
-def unique(pairs):
-    """An object of JSON, whose keys must differ."""
-    row = dict(pairs)
-    if len(row) != len(pairs):
-        raise ValueError(f"a key occurs twice: {pairs}")
-    return row
-
-
-def rows_of(text):
-    """The rows of JSON in these bytes, one in each line."""
-    return [json.loads(line, object_pairs_hook=unique) for line in text.decode().splitlines()]
-
-
-def difference(found, expected, where="rows"):
-    """Where two values of JSON differ first, the order of keys included, or None."""
-    if type(found) is not type(expected):
-        return f"{where}: {found!r:.200}, expected: {expected!r:.200}"
-    if isinstance(expected, dict):
-        if list(found) != list(expected):
-            return f"{where}: keys {list(found)}, expected: {list(expected)}"
-        parts = [(f"{where}.{key}", found[key], expected[key]) for key in expected]
-    elif isinstance(expected, list):
-        parts = [(f"{where}[{at}]", *pair) for at, pair in enumerate(zip(found, expected))]
-        parts.append((f"length of {where}", len(found), len(expected)))
-    else:
-        return None if found == expected else f"{where}: {found!r}, expected: {expected!r}"
-    differences = (difference(one, other, name) for name, one, other in parts)
-    return next((it for it in differences if it is not None), None)
 
 
 def as_words(group, names):

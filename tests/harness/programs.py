@@ -1,4 +1,4 @@
-"""Runs programs, and checks how a run ended and what it wrote."""
+"""Builds, runs and measures programs."""
 
 import dataclasses
 import functools
@@ -7,19 +7,26 @@ import pathlib
 import resource
 import signal
 import subprocess
-import tempfile
 import time
-import unittest
+
+from tests.harness.outcomes import Outcome
 
 ROOT = pathlib.Path(__file__).resolve().parents[2]
-SQZCOMPACT = ROOT / "crates" / "sqzcompact" / "out" / "sqzcompact"
-SQZLOOK = ROOT / "crates" / "sqzlook" / "out" / "sqzlook"
-# The seed of tests that make random choices.
-SEED = int(os.environ.get("SQZ_SEED", "1"))
+
+
+def program_path(crate):
+    """The program that is built in a crate."""
+    return ROOT / "crates" / crate / "out" / crate
+
+
+def tests_path(crate):
+    """The program that runs the tests of a crate."""
+    return ROOT / "crates" / crate / "out" / f"{crate}_tests"
+
+
+SQZCOMPACT, SQZLOOK = program_path("sqzcompact"), program_path("sqzlook")
 # The time limit of a run in seconds: then it is killed, and its test fails.
 SECONDS = 60
-# What stands in OUT before a run.
-OLD = b"as it was\n"
 
 
 @dataclasses.dataclass(frozen=True)
@@ -50,29 +57,6 @@ class Limits:
             os.setgroups([])
             os.setgid(self.user)
             os.setuid(self.user)
-
-
-@dataclasses.dataclass(frozen=True)
-class Outcome:
-    """How a run ended, and what it printed."""
-
-    status: int
-    stdout: bytes = b""
-    stderr: bytes = b""
-
-    def __str__(self):
-        return f"exit {self.status}, {shortened(self.stdout)}, {shortened(self.stderr)}"
-
-
-SUCCESS = Outcome(0)
-NO_MEMORY = Outcome(4, stderr=b"fault 15: out of memory\n")
-NOT_READ = Outcome(3, stderr=b"fault 16: cannot read the image\n")
-NOT_WRITTEN = Outcome(3, stderr=b"fault 17: cannot write the output\n")
-
-
-def shortened(data):
-    """Bytes as text for a message."""
-    return repr(data) if len(data) <= 200 else f"{data[:200]!r} and {len(data) - 200} bytes more"
 
 
 def run(
@@ -122,78 +106,3 @@ def measured(command, stdout=None):
 def build(*programs):
     """Builds programs of the workspace if their sources changed."""
     subprocess.run([ROOT / "build", *programs], check=True)
-
-
-class ProgramTest(unittest.TestCase):
-    """A test with a folder of its own, in which it runs the programs."""
-
-    @classmethod
-    def setUpClass(cls):
-        super().setUpClass()
-        build("sqzcompact", "sqzlook")
-
-    def setUp(self):
-        super().setUp()
-        folder = tempfile.TemporaryDirectory()
-        self.addCleanup(folder.cleanup)
-        self.folder = pathlib.Path(folder.name)
-
-    def write(self, name, data):
-        (self.folder / name).write_bytes(data)
-
-    def read(self, name):
-        return (self.folder / name).read_bytes()
-
-    def run_here(self, program, *args, **how):
-        """Runs a program in the folder of this test."""
-        return run(program, args, folder=self.folder, **how)
-
-    def assert_ends(self, outcome, expected):
-        """Checks the exit of a run and all that it printed."""
-        if outcome != expected:
-            self.fail(f"ended with {outcome}; expected: {expected}")
-
-    def assert_rejected(self, outcome, line):
-        """Checks that a run rejected the image with this line alone."""
-        self.assert_ends(outcome, Outcome(1, stderr=line))
-
-    def assert_holds(self, name, data):
-        """Checks that a file of the folder holds these bytes."""
-        found = self.read(name)
-        if found != data:
-            pairs = enumerate(zip(found, data))
-            at = next(
-                (at for at, (one, other) in pairs if one != other), min(len(found), len(data))
-            )
-            self.fail(f"{name} differs at byte {at}; {len(found)} bytes, expected: {len(data)}")
-
-    def assert_untouched(self, name="out"):
-        """Checks that a file still holds what `put_old` wrote."""
-        self.assert_holds(name, OLD)
-
-    def assert_missing(self, name="out"):
-        """Checks that the folder has no such file."""
-        self.assertFalse((self.folder / name).exists(), f"{name} was created")
-
-    def put_old(self, name="out"):
-        """Writes the file that a run must leave untouched, or must replace."""
-        self.write(name, OLD)
-
-    def check_run(self, answer, *options, census=b"", **how):
-        """Compacts the file `in`, and checks what is printed and written to `out`."""
-        outcome = self.run_here(SQZCOMPACT, *options, "in", "out", **how)
-        self.assert_ends(outcome, Outcome(0, stdout=census))
-        self.assert_holds("out", answer)
-
-    def check_compaction(self, image, answer, *options, census=b"", **how):
-        """Compacts the file of an image to a new file, as `check_run` does."""
-        self.write("in", image)
-        (self.folder / "out").unlink(missing_ok=True)
-        self.check_run(answer, *options, census=census, **how)
-
-    def check_rejection(self, image, line, *options):
-        """Checks that the file of an image is rejected with this line, and OUT untouched."""
-        self.write("in", image)
-        self.put_old()
-        self.assert_rejected(self.run_here(SQZCOMPACT, *options, "in", "out"), line)
-        self.assert_untouched()

@@ -9,7 +9,7 @@ import shutil
 import subprocess
 import tempfile
 
-from tests.harness.programs import ProgramTest
+from tests.harness.program_checks import ProgramTest
 
 VARIABLE = "SQZ_REAL_IMAGE"
 PACKAGE = "scratch"

@@ -4,7 +4,9 @@ import re
 import typing
 
 from tests.harness.drawing import Drawing, contrast_with_black
-from tests.harness.look_checks import LookTest, difference, look_at_all, rows_of
+from tests.harness.json_rows import difference, rows_of
+from tests.harness.look_checks import LookTest
+from tests.harness.sqzlook import look_at_all
 from tests.reference.tree import Tree, folded, percent
 
 # The words with which a label says what it names.

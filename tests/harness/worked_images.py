@@ -2,7 +2,8 @@
 
 import dataclasses
 
-from tests.harness.programs import ROOT, SQZCOMPACT, ProgramTest
+from tests.harness.program_checks import ProgramTest
+from tests.harness.programs import ROOT, SQZCOMPACT
 
 IMAGES = ROOT / "images"
 # The end of the name of an expected OUT.
@@ -40,6 +41,26 @@ def read_worked(path, clear_weak=False):
 def worked_paths():
     """The paths of all worked images."""
     return sorted(path for path in IMAGES.glob("*/*.image") if not path.name.endswith(OUT))
+
+
+def readable_paths():
+    """The paths of all images that can be read, compacted ones among them."""
+    return sorted(path for path in IMAGES.glob("*/*.image") if path.parent.name != "unreadable")
+
+
+def unreadable_paths():
+    """The paths of the other images."""
+    return sorted(IMAGES.glob("unreadable/*.image"))
+
+
+def name_of(path):
+    """The name of an image in the folder of all images."""
+    return f"{path.parent.name}/{path.name}"
+
+
+def readable_files():
+    """The files of the images that can be read, by name."""
+    return {name_of(path): path.read_bytes() for path in readable_paths()}
 
 
 def worked_image(name, clear_weak=False):

@@ -2,73 +2,59 @@
 and its text with a second implementation."""
 
 import functools
-import os
 import random
 import re
 import unittest
 
 from tests.harness.diff_checks import FORMS, DiffTest, Pair, pairs_of, side_of
-from tests.harness.look_checks import look, look_at_all, rows_of
-from tests.harness.programs import SEED, Outcome
-from tests.harness.worked_images import IMAGES, DeadArrayTest
-from tests.look.test_look_cases import NAME, KnownImageTest
-from tests.look.test_look_names import COPIES, with_random_words
-from tests.look.test_top import HOLDER, some_random_files, worked_files
-from tests.making.held_image import CLASSES, HELD_BYTES, Appending
-from tests.making.methods import (
+from tests.harness.failed_outputs import FailedOutputs
+from tests.harness.json_rows import rows_of
+from tests.harness.known_image import NAME, KnownImageTest
+from tests.harness.outcomes import Outcome
+from tests.harness.sqzlook import look, look_at_all
+from tests.harness.worked_images import (
+    IMAGES,
+    DeadArrayTest,
+    name_of,
+    readable_files,
+    unreadable_paths,
+)
+from tests.making.changed_images import (
+    COPIES,
+    at_another_base,
+    in_reverse,
+    named_image,
+    with_flipped_bit,
+    with_other_hashes,
+    with_random_words,
+)
+from tests.making.held_image import CLASSES, HELD_BYTES, HOLDER, held_image
+from tests.making.method_images import (
     CODE,
     EQUAL_LITERALS,
     METHOD_NAME,
-    NIL,
     OTHER_LITERALS,
     TRAILERS,
-    Making,
-    file_with,
+    MethodImage,
+    method_file,
 )
-from tests.making.named_image import SMALLTALK, ZERO, named_file
+from tests.making.named_image import NIL
+from tests.making.random_images import random_files
+from tests.making.seed import SEED
 from tests.reference.changes import Changes, Side, without_trailer
+from tests.reference.fields import SpecialField
 from tests.reference.file_format import PREFIX
 from tests.reference.image import Image
-from tests.reference.objects import traced_end
+from tests.reference.objects import ZERO, traced_end
 
 OLD, NEW = "old.image", "new.image"
+RANDOM_IMAGES = 20
 # Methods of the known image: a bytecode of one is changed, and the selector of the other.
 CHANGED = "Point>>+"
-METHOD, RENAMED = "ChangeSet>>superclasses", "ChangeSet>>ruperclasses"
+OLD_METHOD, NEW_METHOD = "ChangeSet>>superclasses", "ChangeSet>>ruperclasses"
 # The depth and the number of elements of arrays, each element of which is the array one level
 # below: a comparison of all elements in turn would take minutes.
-DEEP, WIDE = 4, 1000
-# How much higher the addresses of an image at another base are.
-SHIFT = 0x1000
-# The bits of a header with the hash.
-HASH = 0xFFF << 17
-
-
-def in_reverse(image):
-    """The image with its objects in reverse order."""
-    end, firsts = len(image.words), []
-    for it in image.objects:
-        end -= it.end - it.first
-        firsts.append(end)
-    return Image(*image.laid_out(firsts, len(image.words)), image.order, image.prefix)
-
-
-def at_another_base(image):
-    """The image with higher addresses."""
-    header, words = image.header[:], image.words[:]
-    for place in (3, 4):
-        header[place] += SHIFT
-    for pointer in image.pointers:
-        words[pointer.place] += SHIFT
-    return Image(header, words, image.order, image.prefix)
-
-
-def with_other_hashes(image):
-    """The image with other hashes in its headers."""
-    words, generator = image.words[:], random.Random(SEED)
-    for it in image.objects:
-        words[it.base] ^= generator.getrandbits(32) & HASH
-    return Image(image.header, words, image.order, image.prefix)
+DEEP, WIDTHS = 4, (1000, 1001)
 
 
 class TrailerTest(unittest.TestCase):
@@ -104,17 +90,17 @@ class SmallImagesTest(DiffTest):
         self.check_pairs(pairs_of(files, chosen), folder)
 
     def test_worked_images(self):
-        self.check_files(worked_files(), IMAGES)
+        self.check_files(readable_files(), IMAGES)
 
     def test_random_images(self):
-        files = some_random_files()
+        files = random_files(RANDOM_IMAGES)
         for name, file in files.items():
             self.write(name, file)
         self.check_files(files)
 
     def test_unreadable_images(self):
         """An image that cannot be read is rejected as by other commands, old or new."""
-        paths = [f"unreadable/{path.name}" for path in sorted(IMAGES.glob("unreadable/*.image"))]
+        paths = [name_of(path) for path in unreadable_paths()]
         expected = look_at_all([("census", path) for path in paths], IMAGES)
         other = "accepted/dead_cycle.image"
         for at, order in (("old", slice(None)), ("new", slice(None, None, -1))):
@@ -145,7 +131,7 @@ class MadeImagesTest(DiffTest):
 
     def test_where_objects_are(self):
         """Addresses, their order, hashes and byte order make no difference."""
-        image = Image.read(named_file())[0]
+        image = named_image()
         for name, other in {
             "reverse": in_reverse(image),
             "base": at_another_base(image),
@@ -161,42 +147,42 @@ class MadeImagesTest(DiffTest):
     def test_equal_literals(self):
         for name, (old, new) in EQUAL_LITERALS.items():
             with self.subTest(name):
-                self.assert_method(False, file_with(old), file_with(new))
+                self.assert_method(False, method_file(old), method_file(new))
 
     def test_other_literals(self):
         for name, (old, new) in OTHER_LITERALS.items():
             with self.subTest(name):
-                self.assert_method(True, file_with(old), file_with(new))
+                self.assert_method(True, method_file(old), method_file(new))
 
     def test_number_of_literals(self):
-        self.assert_method(True, file_with(), file_with(lambda _: ZERO))
+        self.assert_method(True, method_file(), method_file(lambda _: ZERO))
 
     def test_header(self):
-        self.assert_method(True, file_with(), file_with(header=1 << 18))
+        self.assert_method(True, method_file(), method_file(header=1 << 18))
 
     def test_trailers(self):
         for trailer in TRAILERS:
             with self.subTest(trailer):
-                files = (file_with(code=CODE + it) for it in (TRAILERS[0], trailer))
+                files = (method_file(code=CODE + it) for it in (TRAILERS[0], trailer))
                 self.assert_method(False, *files)
 
     def test_bytecodes(self):
         for trailer in TRAILERS:
             with self.subTest(trailer):
                 other = b"\x11" + CODE[1:]
-                self.assert_method(True, *(file_with(code=it + trailer) for it in (CODE, other)))
+                self.assert_method(True, *(method_file(code=it + trailer) for it in (CODE, other)))
 
     def test_zeros_before_a_trailer(self):
-        self.assert_method(True, *(file_with(code=CODE + bytes(it)) for it in (5, 6)))
+        self.assert_method(True, *(method_file(code=CODE + bytes(it)) for it in (5, 6)))
 
     def test_classes_with_one_name(self):
         """They are added up, and their methods compared in their order."""
-        makings = [Making() for _ in range(3)]
-        for making in makings[1:]:
-            making.rename("Pixel", "Point")
-            making.rename("Object", "Point")
-        makings[2].set_method(code=b"\x11" + CODE[1:] + TRAILERS[0])
-        files = [making.file() for making in makings]
+        images = [MethodImage() for _ in range(3)]
+        for image in images[1:]:
+            image.rename("Pixel", "Point")
+            image.rename("Object", "Point")
+        images[2].set_method(code=b"\x11" + CODE[1:] + TRAILERS[0])
+        files = [image.file() for image in images]
         self.assertEqual(self.changes(files[1], files[1]), [])
         self.assertEqual(self.names("method", *files[:2]).count("Point>>+"), 2)
         self.assertEqual(self.names("method", files[1], files[2]), ["Point>>yourself"])
@@ -213,9 +199,7 @@ class MadeImagesTest(DiffTest):
 
     def test_wide_arrays(self):
         """Arrays that are reached in many ways are compared once."""
-        files = [
-            file_with(lambda it, width=width: it.wide(DEEP, width)) for width in (WIDE, WIDE + 1)
-        ]
+        files = (method_file(lambda it, width=width: it.add_wide(DEEP, width)) for width in WIDTHS)
         for name, file in zip((OLD, NEW), files):
             self.write(name, file)
         for path, status in ((OLD, 0), (NEW, 1)):
@@ -242,14 +226,13 @@ class MadeImagesTest(DiffTest):
 
     def with_global(self, value):
         """The file of an image with a global variable of this value, if it has one."""
-        making = Making()
+        image = MethodImage()
         if isinstance(value, bytes):
-            value = making.bytes("String", value)
+            value = image.add_string(value)
         others = {} if value is None else {"Some": value}
-        pairs = {"Point": "Point", "Other": making.association(0), **others}
-        smalltalk = making.builder.add_dictionary("SystemDictionary", pairs)
-        making.items[making.special.number].fields[SMALLTALK] = smalltalk
-        return making.file()
+        pairs = {"Point": "Point", "Other": image.association(0), **others}
+        image.fields_of(image.special)[SpecialField.SMALLTALK] = image.add_smalltalk(pairs)
+        return image.file()
 
 
 class KnownDiffTest(DiffTest, KnownImageTest):
@@ -274,12 +257,10 @@ class KnownDiffTest(DiffTest, KnownImageTest):
 
     def test_with_another_image(self):
         """Thousands of rows. The text shows 20 of each kind."""
-        self.check_copy(Image.read(named_file())[0])
+        self.check_copy(named_image())
 
     def test_variable_that_holds_4_mb(self):
-        classes = {name: self.class_named(name) for name in CLASSES}
-        (holder,) = (number for number, name in self.names.variables.items() if name == HOLDER)
-        rows = self.check_copy(Appending(self.image, classes).held_by(holder).image)
+        rows = self.check_copy(held_image(self.names).image)
         (row,) = (row for row in rows if row["kind"] == "retained")
         self.assertEqual(row["name"], HOLDER)
         self.assertGreater(row["new"], HELD_BYTES)
@@ -288,31 +269,26 @@ class KnownDiffTest(DiffTest, KnownImageTest):
         text = look("diff", NAME, NEW, folder=self.folder).stdout.decode()
         self.assertIn(f" bytes  {HOLDER} (was nil)\n", text)
 
-    def flipped(self, place):
-        """The image in which the lowest bit of the first byte of a data word is flipped."""
-        words = self.image.words[:]
-        words[place] ^= 1
-        return Image(self.image.header, words, self.image.order, self.image.prefix)
-
     def test_flipped_bytecode(self):
-        (number,) = (it for it in self.methods() if self.names.label(it) == CHANGED)
+        number = self.names.method_named(CHANGED)
         place = traced_end(self.image.words, self.image.objects[number])
-        total, row = self.check_copy(self.flipped(place))
+        total, row = self.check_copy(with_flipped_bit(self.image, place))
         self.assertEqual((row["kind"], row["name"]), ("method", CHANGED))
         self.assertEqual((total["old"], row["old"]), (total["new"], row["new"]))
 
     def test_flipped_selector(self):
-        numbers, selector = range(len(self.image.objects)), METHOD.partition(">>")[2].encode()
+        numbers, selector = range(len(self.image.objects)), OLD_METHOD.partition(">>")[2].encode()
         (symbol,) = (
             number
             for number in numbers
             if self.image.text(number) == selector and self.names.class_name(number) == "Symbol"
         )
-        rows = self.check_copy(self.flipped(self.image.objects[symbol].base + 1))
+        place = self.image.objects[symbol].base + 1
+        rows = self.check_copy(with_flipped_bit(self.image, place))
         found = {row["name"]: row for row in rows if row["kind"] == "method"}
-        self.assertIsNone(found[METHOD]["new"])
-        self.assertIsNone(found[RENAMED]["old"])
-        self.assertEqual(found[METHOD]["old"], found[RENAMED]["new"])
+        self.assertIsNone(found[OLD_METHOD]["new"])
+        self.assertIsNone(found[NEW_METHOD]["old"])
+        self.assertEqual(found[OLD_METHOD]["old"], found[NEW_METHOD]["new"])
 
 
 @functools.cache
@@ -321,11 +297,13 @@ def side_of_answers(answers):
     return Side.of(answers)
 
 
-class CommandLineTest(DeadArrayTest):
+class CommandLineTest(FailedOutputs, DeadArrayTest):
     """Options, exits and outputs of `diff`."""
 
-    def diff(self, *words, **how):
-        return look("diff", *words, folder=self.folder, **how)
+    command_lines = [("diff", *form, "in", "in") for form in FORMS]
+
+    def diff(self, *words):
+        return look("diff", *words, folder=self.folder)
 
     def test_wrong_words(self):
         for words in (
@@ -351,19 +329,3 @@ class CommandLineTest(DeadArrayTest):
             with self.subTest(words=words):
                 outcome = self.diff(*words)
                 self.assert_ends(outcome, Outcome(3, stderr=message.format(path).encode()))
-
-    def test_closed_pipe(self):
-        for form in FORMS:
-            with self.subTest(form):
-                reader, writer = os.pipe()
-                os.close(reader)
-                with os.fdopen(writer, "wb") as pipe:
-                    outcome = self.diff(*form, "in", "in", stdout=pipe)
-                self.assertEqual((outcome.status, outcome.stderr), (0, b""))
-
-    def test_full_device(self):
-        for form in FORMS:
-            with self.subTest(form), open("/dev/full", "wb") as full:
-                outcome = self.diff(*form, "in", "in", stdout=full)
-                self.assertEqual(outcome.status, 3)
-                self.assertRegex(outcome.stderr, rb"\Asqzlook: .+\n\Z")

@@ -8,10 +8,11 @@ all objects and classes, and its rows are compared with a second implementation.
 import random
 import shlex
 
-from tests.harness.look_checks import CLEAR, Asking, LookTest, Question, look, look_at_all
-from tests.harness.programs import SEED
-from tests.harness.worked_images import IMAGES
-from tests.look.test_dominators import random_files
+from tests.harness.look_checks import Asking, LookTest, Question
+from tests.harness.sqzlook import CLEAR, look, look_at_all
+from tests.harness.worked_images import IMAGES, name_of, unreadable_paths
+from tests.making.random_images import random_files
+from tests.making.seed import SEED
 from tests.reference.answers import unreadable_check, unreadable_info
 from tests.reference.faults import Fault, cause
 from tests.reference.file_format import HEADER_WORDS, PREFIX, VERSION, words_of
@@ -66,8 +67,7 @@ class RandomImagesTest(LookTest):
 
     def test_answers_each_question(self):
         generator, questions = random.Random(SEED), []
-        for number, file in enumerate(random_files()[:RANDOM_IMAGES]):
-            name = f"{number}.image"
+        for name, file in random_files(RANDOM_IMAGES).items():
             self.write(name, file)
             for options in ((), CLEAR):
                 asking = Asking(Image.read(file)[0], name, options)
@@ -117,8 +117,8 @@ class UnreadableImagesTest(LookTest):
 
     def test_checks_and_informs(self):
         questions = []
-        for path in sorted(IMAGES.glob("unreadable/*.image")):
-            file, name = path.read_bytes(), f"unreadable/{path.name}"
+        for path in unreadable_paths():
+            file, name = path.read_bytes(), name_of(path)
             header = header_of(file)
             fault = fault_of(file, path.with_suffix(".fault").read_bytes(), header)
             row = fault.row(header[1] if header else 0)
@@ -130,8 +130,8 @@ class UnreadableImagesTest(LookTest):
         self.check_questions(questions, folder=IMAGES)
 
     def test_other_commands_name_the_fault(self):
-        paths = sorted(IMAGES.glob("unreadable/*.image"))
-        lines = [("show", f"unreadable/{path.name}", "1000") for path in paths]
+        paths = unreadable_paths()
+        lines = [("show", name_of(path), "1000") for path in paths]
         for path, line, outcome in zip(paths, lines, look_at_all(lines, IMAGES)):
             file, rejected = path.read_bytes(), path.with_suffix(".fault").read_bytes()
             header = header_of(file)

@@ -1,7 +1,7 @@
 """Runs `sqzlook` with arguments of all kinds."""
 
-from tests.harness.look_checks import COMMANDS, look
-from tests.harness.programs import Outcome
+from tests.harness.outcomes import Outcome
+from tests.harness.sqzlook import COMMANDS, look
 from tests.harness.worked_images import DeadArrayTest
 
 

@@ -1,19 +1,17 @@
 """Asks `sqzlook` about the image of Debian's package `scratch`, as its users do, and about its
 help and its outputs."""
 
-import functools
-import os
 import random
 import re
 import subprocess
 
-from tests.harness.look_checks import COMMANDS, Asking, look, rows_of
-from tests.harness.programs import SEED, SQZLOOK
-from tests.harness.squeak_image import is_known
+from tests.harness.failed_outputs import FailedOutputs
+from tests.harness.known_image import NAME, KnownImageTest
+from tests.harness.programs import SQZLOOK
+from tests.harness.sqzlook import COMMANDS, look
 from tests.harness.worked_images import DeadArrayTest
-from tests.look.test_look_real_image import RealImageTest
+from tests.making.seed import SEED
 
-NAME = "Scratch.image"
 # A sound buffer that a class variable keeps alive, and the bytes that it retains.
 BUFFER, RETAINED = "1546cbd8", 97580
 METHODS, NAMED_METHODS, COMPARED_METHODS = 16255, 16000, 200
@@ -21,47 +19,6 @@ METHODS, NAMED_METHODS, COMPARED_METHODS = 16255, 16000, 200
 SHOWN = 20
 # The bytes that a pipe holds.
 PIPE = 65536
-
-
-@functools.cache
-def answers_about(image):
-    """The answers about an image, which take seconds to find."""
-    return Asking(image, NAME).answers
-
-
-class KnownImageTest(RealImageTest):
-    """A test on the known image, which is in the file `Scratch.image`."""
-
-    @classmethod
-    def setUpClass(cls):
-        super().setUpClass()
-        if cls.path is not None:
-            cls.answers = answers_about(cls.image)
-            cls.names = cls.answers.names
-
-    def setUp(self):
-        super().setUp()
-        file = self.path.read_bytes()
-        if not is_known(file):
-            self.skipTest("not the image of the package")
-        self.write(NAME, file)
-
-    def printed(self, command, *words):
-        """What a command prints about the image."""
-        outcome = look(command, NAME, *words, folder=self.folder)
-        self.assertEqual((outcome.status, outcome.stderr), (0, b""))
-        return outcome.stdout
-
-    def rows(self, command, *words):
-        return rows_of(self.printed(command, "--json", *words))
-
-    def class_named(self, name):
-        (number,) = (number for number in self.names.classes if self.names.name(number) == name)
-        return number
-
-    def methods(self):
-        numbers = range(len(self.image.objects))
-        return [it for it in numbers if self.names.class_name(it) == "CompiledMethod"]
 
 
 class KeptBufferTest(KnownImageTest):
@@ -109,7 +66,7 @@ class NamesTest(KnownImageTest):
         ):
             with self.subTest(name):
                 (row,) = self.rows("show", name)
-                address = self.names.address(self.class_named(name))
+                address = self.names.address(self.names.class_named(name))
                 self.assertEqual((row["address"], row["label"]), (address, label))
 
     def test_a_name_of_two_words(self):
@@ -117,14 +74,12 @@ class NamesTest(KnownImageTest):
         self.assertEqual(self.rows("show", *one), self.rows("show", *two))
 
     def test_method(self):
-        key = (self.class_named("Point"), b"+")
-        (method,) = (number for number, it in self.names.methods.items() if it == key)
         (row,) = self.rows("show", "Point>>+")
-        expected = (self.names.address(method), "Point>>+")
+        expected = (self.names.address(self.names.method_named("Point>>+")), "Point>>+")
         self.assertEqual((row["address"], row["label"]), expected)
 
     def test_members_of_a_class(self):
-        address = self.names.address(self.class_named("SoundBuffer"))
+        address = self.names.address(self.names.class_named("SoundBuffer"))
         self.assertEqual(self.rows("list", "SoundBuffer"), self.rows("list", address))
 
 
@@ -169,24 +124,10 @@ class LongAnswerTest(KnownImageTest):
         self.assertEqual(process.returncode, 0)
 
 
-class OutputsTest(DeadArrayTest):
-    """A closed pipe ends the program quietly, and a full device with a message."""
+class OutputsTest(FailedOutputs, DeadArrayTest):
+    """Outputs that cannot be written."""
 
-    def test_closed_pipe(self):
-        for words in (("check", "in"), ("info", "in"), ("census", "in"), ("--help",)):
-            with self.subTest(words=words):
-                reader, writer = os.pipe()
-                os.close(reader)
-                with os.fdopen(writer, "wb") as pipe:
-                    outcome = look(*words, folder=self.folder, stdout=pipe)
-                self.assertEqual((outcome.status, outcome.stderr), (0, b""))
-
-    def test_full_device(self):
-        for words in (("check", "in"), ("info", "in"), ("census", "in"), ("--help",)):
-            with self.subTest(words=words), open("/dev/full", "wb") as full:
-                outcome = look(*words, folder=self.folder, stdout=full)
-                self.assertEqual(outcome.status, 3)
-                self.assertRegex(outcome.stderr, rb"\Asqzlook: .+\n\Z")
+    command_lines = (("check", "in"), ("info", "in"), ("census", "in"), ("--help",))
 
 
 class HelpTest(DeadArrayTest):

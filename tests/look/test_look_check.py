@@ -4,15 +4,15 @@ bad pointers."""
 import gzip
 import typing
 
-from tests.harness.look_checks import LookTest, look, rows_of
-from tests.look.test_look_real_image import RealImageTest
-from tests.making.named_image import named_file
+from tests.harness.json_rows import rows_of
+from tests.harness.look_checks import LookTest
+from tests.harness.saved_image import SavedImageTest
+from tests.harness.sqzlook import look
+from tests.making.changed_images import named_image, with_bad_pointers
 from tests.reference.answers import Answers
 from tests.reference.faults import OTHER_VERSIONS, Defects, Fault
 from tests.reference.file_format import PREFIX
-from tests.reference.image import Image
 from tests.reference.names import Names
-from tests.reference.objects import format_of
 
 UNREADABLE = Fault(16, "cannot read the image")
 # Bad pointers that are put into a small image.
@@ -26,28 +26,12 @@ class Checked(typing.NamedTuple):
     fault: Fault | None
 
 
-def with_bad_pointers(image, count):
-    """The image with a bad pointer in `count` live objects: an address with one bit flipped, or
-    that of a field."""
-    chosen = [
-        it
-        for it, is_live in zip(image.objects, image.live())
-        if is_live and format_of(image.words[it.base]) in (1, 2) and it.end > it.base + 1
-    ]
-    step = len(chosen) // (count + 1)
-    words = image.words[:]
-    for number, it in enumerate(chosen[step::step][:count]):
-        flip = 1 << 20 + number if number % 2 == 0 else 4
-        words[it.base + 1] = image.address(it) ^ flip
-    return Image(image.header, words, image.order, image.prefix)
-
-
 def faults_of(image):
     """The faults of the objects of an image, all taken as live."""
     return Defects(Names(image, range(len(image.objects)))).faults()
 
 
-class FolderTest(RealImageTest):
+class FolderTest(SavedImageTest):
     """Each image of a folder has a line."""
 
     @classmethod
@@ -118,7 +102,7 @@ class SeveralFaultsTest(LookTest):
 
     def setUp(self):
         super().setUp()
-        image = with_bad_pointers(Image.read(named_file())[0], BAD)
+        image = with_bad_pointers(named_image(), BAD)
         self.faults = Answers(image).defects
         self.write("bad.image", image.file())
 

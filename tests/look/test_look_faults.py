@@ -11,9 +11,10 @@ import errno
 import re
 
 from tests.harness.allocation_callers import OTHER, START, Functions
-from tests.harness.look_checks import look
+from tests.harness.outcomes import Outcome
 from tests.harness.preload import PreloadTest
-from tests.harness.programs import SQZLOOK, Outcome
+from tests.harness.programs import SQZLOOK
+from tests.harness.sqzlook import look
 from tests.harness.worked_images import IMAGES
 
 CHECK = ("check", "accepted/dead_cycle.image")
@@ -68,8 +69,9 @@ class LookFaultsTest(PreloadTest):
                 self.check_allocations(functions, args)
 
     def test_allocations_of_two_images(self):
-        """The row of the first image is printed even if memory runs out at the second one. A message
-        has no path, since it could be that of either."""
+        """The row of the first image is printed even if memory runs out at the second one.
+
+        A message has no path, since it could be that of either."""
         words = ("check", *(str(IMAGES / name) for name in TWO_IMAGES))
         whole = look(*words)
         self.assertEqual((whole.status, whole.stderr), (0, b""))
@@ -123,8 +125,10 @@ class LookFaultsTest(PreloadTest):
         return Outcome(3, stderr=f"sqzlook: {line}".encode())
 
     def assert_ends_with(self, outcome, status, fault, args):
-        """Checks for an exit and a fault, with the name of the program once it has its command line,
-        and with the path of an image once this is known."""
+        """Checks for an exit and a fault.
+
+        The name of the program is before it once the command line is known, and the path of an image
+        once it is read."""
         paths = "|".join(map(re.escape, paths_in(args)))
         line = rf"\A(sqzlook: (({paths}): )?)?{fault}\n\Z"
         self.assertRegex(outcome.stderr.decode(), line)

@@ -4,18 +4,20 @@ copies of it in which random words make names wrong."""
 import random
 import unittest
 
-from tests.harness.look_checks import CLEAR, Asking, LookTest, look, look_at_all, rows_of
-from tests.harness.programs import SEED
+from tests.harness.json_rows import rows_of
+from tests.harness.look_checks import Asking, LookTest
+from tests.harness.sqzlook import CLEAR, look, look_at_all
 from tests.harness.worked_images import IMAGES
-from tests.making.named_image import ZERO, named_file
+from tests.making.changed_images import COPIES, named_image, with_random_words
+from tests.making.seed import SEED
+from tests.reference.fields import ClassField
 from tests.reference.image import Image
-from tests.reference.names import NAME
-from tests.reference.objects import has_bytes
+from tests.reference.objects import ZERO
 from tests.reference.sites import site_text
 
 FILE = "it.image"
-# The copies with random words, how many words of each, and the objects that are asked about.
-COPIES, WORDS, OBJECTS = 24, 6, 8
+# The objects that are asked about in a copy with random words.
+OBJECTS = 8
 # Some labels of the image, written by hand.
 LABELS = {
     "special objects array",
@@ -50,32 +52,6 @@ VARIABLES = {
 }
 
 
-def named_image():
-    return Image.read(named_file())[0]
-
-
-def class_named(names, name):
-    """The only class of this name."""
-    (number,) = (number for number in names.classes if names.name(number) == name)
-    return number
-
-
-def with_random_words(generator):
-    """The image with some random words."""
-    image = named_image()
-    objects = [it for it in image.objects if not has_bytes(image.words[it.base])]
-    addresses = list(image.numbers)
-    for _ in range(WORDS):
-        it = generator.choice(objects)
-        place = generator.choice([it.first, *range(it.base + 1, it.end)])
-        word = generator.choice((generator.choice(addresses), generator.getrandbits(32)))
-        if place > it.base:
-            image.words[place] = word
-        elif it.first < it.base:
-            image.words[place] = word & ~3 | image.words[place] & 3
-    return Image(image.header, image.words)
-
-
 def set_field(image, number, field, word):
     """Sets a field of an object to a word."""
     image.words[image.objects[number].base + 1 + field] = word
@@ -93,7 +69,7 @@ class LabelsTest(unittest.TestCase):
         names = Asking(named_image(), FILE).answers.names
         for name, variables in VARIABLES.items():
             with self.subTest(name):
-                self.assertEqual(names.variables_of(class_named(names, name)), variables)
+                self.assertEqual(names.variables_of(names.class_named(name)), variables)
 
 
 class NamedImageTest(LookTest):
@@ -147,19 +123,19 @@ class ArgumentsTest(LookTest):
         self.write(FILE, self.image.file())
 
     def class_address(self, name):
-        return self.names.address(class_named(self.names, name))
+        return self.names.address(self.names.class_named(name))
 
     def write_changed(self, **words):
         """Writes the image with the names of classes, given by their own, changed to these."""
         for name, other in words.items():
-            symbol = self.image.field(class_named(self.names, other), NAME)
+            symbol = self.image.field(self.names.class_named(other), ClassField.NAME)
             word = self.image.address(self.image.objects[symbol])
-            set_field(self.image, class_named(self.names, name), NAME, word)
+            set_field(self.image, self.names.class_named(name), ClassField.NAME, word)
         self.write(FILE, self.image.file())
 
     def drop_class(self, name):
         """Takes a class out of the array that keeps it."""
-        number = class_named(self.names, name)
+        number = self.names.class_named(name)
         address = self.image.address(self.image.objects[number])
         meta = self.names.class_of(number)
         for place, owner, target in self.image.pointers:
@@ -179,12 +155,9 @@ class ArgumentsTest(LookTest):
         self.assert_shown(self.class_address("Point class"), "Point", "class")
 
     def test_names_of_methods(self):
-        methods = self.names.methods
-        for name, selector in (("Point", "+"), ("Pixel", "+"), ("Point", "x:y:")):
-            key = (class_named(self.names, name), selector.encode())
-            (method,) = (method for method, it in methods.items() if it == key)
-            with self.subTest(name, selector=selector):
-                self.assert_shown(self.names.address(method), f"{name}>>{selector}")
+        for name in ("Point>>+", "Pixel>>+", "Point>>x:y:"):
+            with self.subTest(name):
+                self.assert_shown(self.names.address(self.names.method_named(name)), name)
 
     def test_addresses(self):
         address = self.class_address("Point")

@@ -5,16 +5,12 @@ The image is asked about as it is, in the other byte order, and with dead object
 between its objects, some of them held weakly. `SQZ_SEED` chooses the objects that are asked about.
 """
 
-import functools
-import gc
-import random
 import typing
 
-from tests.harness.look_checks import CLEAR, Asking, LookTest
-from tests.harness.programs import SEED
-from tests.harness.squeak_image import SqueakImageTest
+from tests.harness.look_checks import Asking, LookTest
+from tests.harness.saved_image import SavedImageTest
+from tests.harness.sqzlook import CLEAR
 from tests.making import garbage
-from tests.reference.image import Image
 from tests.reference.reachability import Reachability
 
 LITTER = 5000
@@ -38,34 +34,7 @@ ALL_CLASSES = Counts(show=200, why=60, refs=60, classes=None)
 SOME_CLASSES = Counts(show=50, why=20, refs=40, classes=20)
 
 
-@functools.cache
-def load(path):
-    """The image in a file without its dead objects."""
-    return Image.read(path.read_bytes())[0].compacted()
-
-
-class RealImageTest(SqueakImageTest, LookTest):
-    """A test on the image without dead objects, which is in `image`."""
-
-    @classmethod
-    def setUpClass(cls):
-        super().setUpClass()
-        # There are millions of small tuples, and no cycles.
-        gc.disable()
-        cls.addClassCleanup(gc.enable)
-        if cls.path is not None:
-            cls.image = load(cls.path)
-
-    def setUp(self):
-        super().setUp()
-        self.generator = random.Random(SEED)
-
-    def sample(self, items, count):
-        """`count` of these items, or all of them if there are not more."""
-        return self.generator.sample(items, min(len(items), count))
-
-
-class RowsTest(RealImageTest):
+class RowsTest(SavedImageTest, LookTest):
     """The rows of each command."""
 
     def test_as_it_is(self):
@@ -105,7 +74,7 @@ class RowsTest(RealImageTest):
         self.check_questions(questions)
 
 
-class RetainedTest(RealImageTest):
+class RetainedTest(SavedImageTest):
     """The second implementation finds what objects retain as a search of all paths does."""
 
     def test_retained_by_an_object(self):

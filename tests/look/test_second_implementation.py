@@ -8,10 +8,10 @@ import random
 import re
 import unittest
 
-from tests.harness.look_checks import difference, rows_of
-from tests.harness.programs import SEED
-from tests.harness.worked_images import IMAGES, accepted_images, rejected_images
-from tests.look.test_dominators import random_files
+from tests.harness.json_rows import difference, rows_of
+from tests.harness.worked_images import accepted_images, readable_paths, rejected_images
+from tests.making.random_images import random_files
+from tests.making.seed import SEED
 from tests.reference.answers import Answers
 from tests.reference.image import Image
 
@@ -99,14 +99,13 @@ class RetainedTest(unittest.TestCase):
     """Objects and groups retain what no path reaches without them."""
 
     def test_worked_images(self):
-        for path in sorted(IMAGES.glob("*/*.image")):
-            if path.parent.name != "unreadable":
-                with self.subTest(path.name):
-                    self.check_image(path.read_bytes())
+        for path in readable_paths():
+            with self.subTest(path.name):
+                self.check_image(path.read_bytes())
 
     def test_random_images(self):
-        for number, file in enumerate(random_files()[:RANDOM_IMAGES]):
-            with self.subTest(number=number):
+        for name, file in random_files(RANDOM_IMAGES).items():
+            with self.subTest(name):
                 self.check_image(file)
 
     def check_image(self, file):

@@ -2,19 +2,26 @@
 and its drawings with a second implementation."""
 
 import functools
-import os
 import re
 import unittest
 
-from tests.harness.look_checks import CLEAR, look, look_at_all, rows_of
+from tests.harness.failed_outputs import FailedOutputs
+from tests.harness.json_rows import rows_of
+from tests.harness.known_image import NAME, KnownImageTest, answers_about
 from tests.harness.programs import ROOT
+from tests.harness.saved_image import SavedImageTest
+from tests.harness.sqzlook import CLEAR, look, look_at_all
 from tests.harness.top_checks import USUAL, Asked, Shape, TopTest
-from tests.harness.worked_images import IMAGES, DeadArrayTest
-from tests.look.test_dominators import random_files
-from tests.look.test_look_cases import KnownImageTest, answers_about
-from tests.look.test_look_real_image import NAME, RealImageTest
-from tests.making.held_image import CLASSES, HELD_BYTES, HELD_OBJECTS, Appending
-from tests.making.named_image import ARRAY, named_builder
+from tests.harness.worked_images import (
+    IMAGES,
+    DeadArrayTest,
+    name_of,
+    readable_files,
+    unreadable_paths,
+)
+from tests.making.held_image import HELD_BYTES, HELD_OBJECTS, HOLDER, held_image
+from tests.making.named_image import NamedImage
+from tests.making.random_images import random_files
 from tests.reference.answers import Answers
 from tests.reference.image import Image
 from tests.reference.tree import Tree, percent
@@ -37,7 +44,6 @@ TEXTS = (b"one;two", b"<b title=\"x\">&amp;'", b"]]>", b"a\nb;c\x00", b"\xff\xfe
 # A line of text: retained bytes, percent, objects, and a label that is two spaces deeper a level.
 LINE = re.compile(r" *(\d+) +(\d+\.\d) +(\d+)   ((?:  )*)(\S.*)")
 VARIABLE = re.compile(r"class variable (\S+)")
-HOLDER = "HandMorph class variable PasteBuffer"
 
 
 def trees_of(files):
@@ -55,23 +61,12 @@ def tree_of(answers):
     return Tree(answers)
 
 
-def worked_files():
-    """The worked images that can be read, by path."""
-    paths = (path for path in sorted(IMAGES.glob("*/*.image")) if path.parent.name != "unreadable")
-    return {f"{path.parent.name}/{path.name}": path.read_bytes() for path in paths}
-
-
-def some_random_files():
-    """Random images by path."""
-    return {f"{number}.image": it for number, it in enumerate(random_files()[:RANDOM_IMAGES])}
-
-
 def named_file():
     """The file of an image with names of all kinds, which also holds `TEXTS`."""
-    builder, special = named_builder()
-    texts = [builder.add_bytes(name, text) for text in TEXTS for name in ("String", "Symbol")]
-    builder.items[special.number].fields.append(builder.add(ARRAY, "Array", *texts))
-    return builder.file(special)
+    image = NamedImage()
+    texts = [image.add_bytes(name, text) for text in TEXTS for name in ("String", "Symbol")]
+    image.fields_of(image.special).append(image.add_array(*texts))
+    return image.file()
 
 
 class TreeTest(unittest.TestCase):
@@ -89,10 +84,10 @@ class TreeTest(unittest.TestCase):
                     self.assertEqual(sum(row.apart for row in rows), tree.live_bytes)
 
     def test_worked_images(self):
-        self.check_files(worked_files())
+        self.check_files(readable_files())
 
     def test_random_images(self):
-        self.check_files(some_random_files())
+        self.check_files(random_files(RANDOM_IMAGES))
 
     def test_image_with_names(self):
         self.check_files({NAME: named_file()})
@@ -115,17 +110,17 @@ class SmallImagesTest(TopTest):
         return trees_of(files)
 
     def test_worked_images(self):
-        self.check_trees(trees_of(worked_files()), SHAPES, folder=IMAGES)
+        self.check_trees(trees_of(readable_files()), SHAPES, folder=IMAGES)
 
     def test_random_images(self):
-        self.check_trees(self.write_all(some_random_files()), SHAPES)
+        self.check_trees(self.write_all(random_files(RANDOM_IMAGES)), SHAPES)
 
     def test_image_with_names(self):
         self.check_trees(self.write_all({NAME: named_file()}), SHAPES)
 
     def test_unreadable_images(self):
         """An image that cannot be read is rejected as by other commands."""
-        paths = [f"unreadable/{path.name}" for path in sorted(IMAGES.glob("unreadable/*.image"))]
+        paths = [name_of(path) for path in unreadable_paths()]
         found = look_at_all([("top", path) for path in paths], IMAGES)
         expected = look_at_all([("census", path) for path in paths], IMAGES)
         for path, outcome, other in zip(paths, found, expected):
@@ -133,7 +128,7 @@ class SmallImagesTest(TopTest):
                 self.assert_ends(outcome, other)
 
 
-class RealTreeTest(TopTest, RealImageTest):
+class RealTreeTest(TopTest, SavedImageTest):
     """The trees of an image that Squeak saved."""
 
     def check_image(self, answers, options):
@@ -183,10 +178,7 @@ class HeldTest(TopTest, KnownImageTest):
 
     def setUp(self):
         super().setUp()
-        names, classes = self.names, {name: self.class_named(name) for name in CLASSES}
-        (holder,) = (number for number, name in names.variables.items() if name == HOLDER)
-        self.held = Appending(self.image, classes).held_by(holder)
-        self.holder = names.address(holder)
+        self.held = held_image(self.names)
         self.write("held.image", self.held.image.file())
 
     def asked(self, *words):
@@ -198,7 +190,7 @@ class HeldTest(TopTest, KnownImageTest):
         text = self.asked("top", "held.image").decode()
         self.assertEqual(VARIABLE.findall(text)[:2], ["PasteBuffer", "AllFonts"])
         rows = rows_of(self.asked("top", "--json", "held.image"))
-        (row,) = (row for row in rows if row["address"] == self.holder)
+        (row,) = (row for row in rows if row["address"] == f"{self.held.holder:08x}")
         self.assertEqual(row["path"][1:], ["class HandMorph", "class variable PasteBuffer"])
         self.assertGreater(row["retained"], HELD_BYTES)
         # its association is the same row
@@ -210,17 +202,19 @@ class HeldTest(TopTest, KnownImageTest):
         self.check_trees([Asked(tree, "held.image", ())], [USUAL, Shape(least="5")])
 
     def test_path_to_an_object(self):
-        address = f"{self.held.address:08x}"
+        address = f"{self.held.last_form:08x}"
         self.assertIn(b"class variable PasteBuffer", self.asked("why", "held.image", address))
         (row,) = rows_of(self.asked("why", "--json", "held.image", address))
         self.assertIn(HOLDER, [step["label"] for step in row["path"]])
 
 
-class CommandLineTest(DeadArrayTest):
+class CommandLineTest(FailedOutputs, DeadArrayTest):
     """Wrong arguments end with exit 2, and failed outputs as those of other commands."""
 
-    def top(self, *words, **how):
-        return look("top", *words, folder=self.folder, **how)
+    command_lines = [("top", *form, "in") for form in FORMS]
+
+    def top(self, *words):
+        return look("top", *words, folder=self.folder)
 
     def test_wrong_values(self):
         depths = ("", "x", "-1", "101", "1.5", "4294967296", "99999999999999999999")
@@ -247,19 +241,3 @@ class CommandLineTest(DeadArrayTest):
         for option in ("--depth <N>", "--min <PERCENT>", "--folded", "--svg", "--json"):
             with self.subTest(option):
                 self.assertIn(option, text)
-
-    def test_closed_pipe(self):
-        for form in FORMS:
-            with self.subTest(form):
-                reader, writer = os.pipe()
-                os.close(reader)
-                with os.fdopen(writer, "wb") as pipe:
-                    outcome = self.top(*form, "in", stdout=pipe)
-                self.assertEqual((outcome.status, outcome.stderr), (0, b""))
-
-    def test_full_device(self):
-        for form in FORMS:
-            with self.subTest(form), open("/dev/full", "wb") as full:
-                outcome = self.top(*form, "in", stdout=full)
-                self.assertEqual(outcome.status, 3)
-                self.assertRegex(outcome.stderr, rb"\Asqzlook: .+\n\Z")

@@ -5,13 +5,12 @@ import array
 import bisect
 import typing
 
+from tests.making.builder import MOST_FIELDS
 from tests.reference.image import Image
-from tests.reference.objects import WEAK, format_of, has_bytes
+from tests.reference.objects import FREE, HEADER_TYPES, Format, format_of, has_bytes
 
-# Header types by the number of header words before the base header.
-TYPES = (3, 1, 0)
-LARGEST_SHORT = 62
-ARRAY, ARRAY_INDEX = 2, 3
+# The compact index of arrays.
+ARRAY_INDEX = 3
 
 
 class Dead(typing.NamedTuple):
@@ -41,10 +40,11 @@ def dead_object(generator, kind, compact, fields, has_pointers):
     """An object of this format, with a header of one, two or three words and these fields.
 
     The size in a base header after a size word is 0, since the machine looks at it."""
-    before = generator.randrange(3) if len(fields) <= LARGEST_SHORT else 2
+    before = generator.randrange(3) if len(fields) <= MOST_FIELDS else 2
     size = len(fields) + 1
-    base = generator.getrandbits(12) << 17 | compact << 12 | kind << 8 | TYPES[before]
-    words = (4 * size, TYPES[before], base | (size << 2 if before < 2 else 0))
+    header_type = HEADER_TYPES[before]
+    base = generator.getrandbits(12) << 17 | compact << 12 | kind << 8 | header_type
+    words = (4 * size, header_type, base | (size << 2 if before < 2 else 0))
     heads = array.array("I", words[2 - before :])
     places = [before - 1] if before > 0 else []
     if has_pointers:
@@ -54,9 +54,8 @@ def dead_object(generator, kind, compact, fields, has_pointers):
 
 def dead_array(generator, _):
     """An array."""
-    return dead_object(
-        generator, ARRAY, ARRAY_INDEX, array.array("I", bytes(4 * random_size(generator))), True
-    )
+    fields = array.array("I", bytes(4 * random_size(generator)))
+    return dead_object(generator, Format.INDEXED, ARRAY_INDEX, fields, True)
 
 
 def dead_bytes(generator, _):
@@ -81,7 +80,7 @@ def dead_copy(generator, image):
     while True:
         number = generator.randrange(len(image.objects))
         it = image.objects[number]
-        if has_bytes(image.words[it.base]) or format_of(image.words[it.base]) == ARRAY:
+        if has_bytes(image.words[it.base]) or format_of(image.words[it.base]) == Format.INDEXED:
             break
     low, high = (bisect.bisect_left(image.pointers, (place,)) for place in (it.first, it.end))
     pointers = [(place - it.first, target) for place, _, target in image.pointers[low:high]]
@@ -91,7 +90,7 @@ def dead_copy(generator, image):
 def free_chunk(generator, _):
     """A free chunk with random words after its header."""
     words = random_words(generator, random_size(generator))
-    return Dead(array.array("I", [4 * len(words) + 6]) + words, None, [])
+    return Dead(array.array("I", [4 * len(words) + 4 | FREE]) + words, None, [])
 
 
 # Kinds of dead chunks that a machine leaves, with no random words where it reads.
@@ -182,10 +181,10 @@ def held_weakly(image):
     arrays = [
         it
         for it, is_live in zip(image.objects, live)
-        if not is_live and it.base > it.first and format_of(words[it.base]) == ARRAY
+        if not is_live and it.base > it.first and format_of(words[it.base]) == Format.INDEXED
     ]
     it = max(arrays, key=lambda it: it.end - it.base)
     words[it.base - 1] = image.address(image.objects[weak_class]) | words[it.base] & 3
-    words[it.base] = words[it.base] & ~(31 << 12 | 15 << 8) | WEAK << 8
+    words[it.base] = words[it.base] & ~(31 << 12 | 15 << 8) | Format.WEAK << 8
     words[image.objects[image.special].end - 1] = image.address(it)
     return Image(image.header, words, image.order, image.prefix)

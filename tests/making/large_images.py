@@ -5,6 +5,8 @@ import dataclasses
 import typing
 
 from tests.reference.file_format import BASE, image_file, words_of
+from tests.reference.histogram import Row, report
+from tests.reference.objects import ZERO
 
 # Stands in a chunk for a class word that points to the class of one word at the base.
 CLASS = None
@@ -12,8 +14,6 @@ CLASS = None
 # array.
 CLASS_HEADER = 0x1007
 SPECIAL_HEADER = 0x320F
-# The SmallInteger 0.
-ZERO = 1
 
 
 class Made(typing.NamedTuple):
@@ -57,16 +57,6 @@ class Frames:
     of_first: bool = False
 
 
-class Row(typing.NamedTuple):
-    """A row of a class histogram. Objects without a class have no `place`, but a compact index."""
-
-    objects: int
-    bytes: int
-    place: int | None
-    compact: int | None
-    name: str | None
-
-
 def live(*words):
     """A live object with a header of one word."""
     return Chunk(words, 0, True)
@@ -75,24 +65,6 @@ def live(*words):
 def dead(*words):
     """An object that no live object points to."""
     return Chunk(words, 0, False)
-
-
-def order_of(row):
-    """What rows are sorted by: most bytes first, then classes by address, then compact indexes."""
-    is_compact = row.place is None
-    return -row.bytes, is_compact, row.compact if is_compact else row.place
-
-
-def report(rows):
-    """The text of a class histogram."""
-    lines = []
-    for row in sorted(rows, key=order_of):
-        compact = f"-------- compact {row.compact}"
-        label = compact if row.place is None else f"{row.place:08x} {row.name}"
-        lines.append(f"{row.objects:10} {row.bytes:12} {label}\n")
-    objects, size = (sum(column) for column in list(zip(*rows))[:2])
-    lines.append(f"{objects:10} {size:12} total\n")
-    return "".join(lines).encode()
 
 
 def array_of(fields, a_class):

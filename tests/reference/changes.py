@@ -5,10 +5,11 @@ import functools
 import typing
 
 from tests.reference.answers import signed
+from tests.reference.fields import AssociationField
 from tests.reference.file_format import bytes_of
 from tests.reference.names import escaped
-from tests.reference.objects import METHOD, format_of, has_bytes, traced_end
-from tests.reference.tree import INDEXED, VALUE, Tree
+from tests.reference.objects import Format, format_of, has_bytes, traced_end
+from tests.reference.tree import Tree
 
 # The maximum number of rows of each kind in the text, unless all are requested.
 SHOWN = 20
@@ -17,7 +18,7 @@ DEPTH = 3
 # A last byte of at least this says that the last four bytes of a method are a source pointer.
 SOURCE_FLAG, SOURCE_BYTES = 252, 4
 # The formats of objects whose fields are words.
-WORDS = range(5, 8)
+WORD_FORMATS = range(5, 8)
 
 
 class Size(typing.NamedTuple):
@@ -100,7 +101,7 @@ class Side:
         for number in self.tree.variables:
             if self.answers.is_live(number):
                 size, was_nil = found[self.names.label(number)]
-                value = self.names.target(number, VALUE)
+                value = self.names.target(number, AssociationField.VALUE)
                 is_nil = self.names.constants.get(value) == "nil"
                 total = size + self.tree.retained[number]
                 found[self.names.label(number)] = Held(total, was_nil and is_nil)
@@ -125,7 +126,7 @@ class Side:
         first = it.base + 1
         end = max(min(first + 1, it.end), traced_end(words, it))
         data = bytes_of(words[end : it.end], self.image.order)
-        padding = format_of(words[it.base]) - METHOD
+        padding = format_of(words[it.base]) - Format.METHOD
         bytecodes = without_trailer(data[: max(0, len(data) - padding)])
         literals = tuple(self.literal(word, DEPTH) for word in words[first + 1 : end])
         return tuple(words[first : first + 1][: it.end - first]), literals, bytecodes
@@ -149,9 +150,9 @@ class Side:
         fields = self.image.words[it.base + 1 : it.end]
         if has_bytes(header):
             return "bytes", name, self.image.text(number)
-        if format_of(header) in WORDS:
+        if format_of(header) in WORD_FORMATS:
             return "words", name, tuple(fields)
-        if format_of(header) == INDEXED and depth > 0:
+        if format_of(header) == Format.INDEXED and depth > 0:
             return "array", name, tuple(self.literal(field, depth - 1) for field in fields)
         return "other", name
 

@@ -4,7 +4,7 @@ import typing
 
 from tests.reference.file_format import HEADER_WORDS
 from tests.reference.objects import (
-    WEAK,
+    Format,
     compact_index,
     format_of,
     is_context,
@@ -98,7 +98,7 @@ class Defects:
             return Fault(12, f"bad method {address}", address, it.base)
         if self.states_bad_end(number) and is_context(header):
             return Fault(13, f"bad context {address}", address, it.base)
-        if self.clear_weak and format_of(header) == WEAK and self.is_bad_weak(number):
+        if self.clear_weak and format_of(header) == Format.WEAK and self.is_bad_weak(number):
             return Fault(20, f"bad weak object {address}", address, it.base)
         return self.bad_pointer(number)
 

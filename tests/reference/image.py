@@ -6,7 +6,7 @@ import collections
 import functools
 import typing
 
-from tests.making.large_images import Row, report
+from tests.reference.fields import ClassField, SpecialField
 from tests.reference.file_format import (
     HEADER_WORDS,
     PREFIX,
@@ -15,8 +15,9 @@ from tests.reference.file_format import (
     image_file,
     words_of,
 )
+from tests.reference.histogram import Row, report
 from tests.reference.objects import (
-    WEAK,
+    Format,
     compact_index,
     format_of,
     has_bytes,
@@ -24,10 +25,6 @@ from tests.reference.objects import (
     traced_end,
 )
 
-# The field of the special objects array that points to the compact classes, and the fields of a
-# class.
-COMPACT_CLASSES = 28
-LAYOUT, INSTANCE, NAME = 2, 5, 6
 # The maximum number of bytes of a name that are printed.
 LONGEST_NAME = 40
 
@@ -124,7 +121,7 @@ class Image:
 
         That class would be looked up by this field."""
         it = self.objects[number]
-        is_weak = format_of(self.words[it.base]) == WEAK
+        is_weak = format_of(self.words[it.base]) == Format.WEAK
         if clear_weak and is_weak and it.base == it.first:
             return None
         return self.strong_field(number, field, clear_weak)
@@ -134,7 +131,7 @@ class Image:
         it = self.objects[number]
         if it.base > it.first:
             return self.numbers.get(self.words[it.base - 1] & ~3)
-        compact_classes = self.class_field(self.special, COMPACT_CLASSES, clear_weak)
+        compact_classes = self.class_field(self.special, SpecialField.COMPACT_CLASSES, clear_weak)
         if compact_classes is None or compact_index(self.words[it.base]) == 0:
             return None
         field = compact_index(self.words[it.base]) - 1
@@ -145,7 +142,7 @@ class Image:
         if a_class is None:
             return None
         it = self.objects[a_class]
-        place = it.base + 1 + LAYOUT
+        place = it.base + 1 + ClassField.FORMAT
         if place >= it.end or not self.words[place] & 1:
             return None
         return (self.words[place] >> 17 & 3) * 64 + (self.words[place] >> 2 & 63) - 1
@@ -156,7 +153,7 @@ class Image:
         If its class states no number of fixed fields, or one that is negative or too great, all
         fields are weak."""
         it = self.objects[number]
-        if format_of(self.words[it.base]) != WEAK:
+        if format_of(self.words[it.base]) != Format.WEAK:
             return None
         fixed = self.fixed_fields(self.class_of(number, clear_weak=True))
         first = it.base + 1
@@ -219,7 +216,7 @@ class Image:
         words."""
         words = self.words[:]
         for it in self.objects:
-            if format_of(words[it.base]) >= 8:
+            if format_of(words[it.base]) >= Format.BYTES:
                 part = words[traced_end(words, it) : it.end]
                 part.byteswap()
                 words[it.end - len(part) : it.end] = part
@@ -231,15 +228,15 @@ class Image:
             return None
         it = self.objects[number]
         data = bytes_of(self.words[it.base + 1 : it.end], self.order)
-        return data[: max(0, len(data) - (format_of(self.header_of(number)) - 8))]
+        return data[: max(0, len(data) - (format_of(self.header_of(number)) - Format.BYTES))]
 
     def name(self, number, clear_weak=False):
         """The name of a class, as the programs print it."""
-        text, suffix = self.text(self.strong_field(number, NAME, clear_weak)), ""
+        text, suffix = self.text(self.strong_field(number, ClassField.NAME, clear_weak)), ""
         if text is None:
-            instance = self.strong_field(number, INSTANCE, clear_weak)
+            instance = self.strong_field(number, ClassField.INSTANCE, clear_weak)
             if instance is not None:
-                text = self.text(self.strong_field(instance, NAME, clear_weak))
+                text = self.text(self.strong_field(instance, ClassField.NAME, clear_weak))
             suffix = " class"
         if text is None:
             return "?"

@@ -6,18 +6,17 @@ class's name and its address."""
 
 import functools
 
+from tests.reference.fields import AssociationField, ClassField, DictionaryField, SpecialField
 from tests.reference.image import LONGEST_NAME
 from tests.reference.objects import compact_index, has_bytes, is_method
 
-# Fields of the special objects array.
-NIL, FALSE, TRUE, SMALLTALK = 0, 1, 2, 8
-CONSTANTS = {NIL: ("nil", "UndefinedObject"), FALSE: ("false", "False"), TRUE: ("true", "True")}
-# Fields of a class.
-SUPERCLASS, METHODS, VARIABLES, INSTANCE, NAME, POOL = 0, 1, 3, 5, 6, 7
-# The field of a dictionary that points to its array, and that of an association with its key.
-ARRAY, KEY = 1, 0
-# The first field of a method dictionary with a selector.
-SELECTORS = 2
+# The labels of some fields of the special objects array, if they have these classes.
+CONSTANTS = {
+    SpecialField.NIL: ("nil", "UndefinedObject"),
+    SpecialField.FALSE: ("false", "False"),
+    SpecialField.TRUE: ("true", "True"),
+    SpecialField.SMALLTALK: ("Smalltalk", "SystemDictionary"),
+}
 # The maximum number of classes in a chain of superclasses.
 LONGEST_CHAIN = 100
 STRINGS, SYMBOLS = ("String", "ByteString"), ("Symbol", "ByteSymbol")
@@ -97,9 +96,9 @@ class Names:
     def is_named_instance(self, number):
         """Whether the class of an object points back to it, and the object has a name."""
         a_class = self.class_of(number)
-        if a_class is None or self.target(a_class, INSTANCE) != number:
+        if a_class is None or self.target(a_class, ClassField.INSTANCE) != number:
             return False
-        return self.image.text(self.target(number, NAME)) is not None
+        return self.image.text(self.target(number, ClassField.NAME)) is not None
 
     @functools.cached_property
     def class_labels(self):
@@ -111,9 +110,21 @@ class Names:
             if name != "?"
         }
 
+    def class_named(self, name):
+        """The only class of this name."""
+        (number,) = (number for number in self.classes if self.name(number) == name)
+        return number
+
+    def method_named(self, name):
+        """The only method of this name, which has a class, `>>` and a selector."""
+        a_class, _, selector = name.partition(">>")
+        key = (self.class_named(a_class), selector.encode())
+        (number,) = (number for number, it in self.methods.items() if it == key)
+        return number
+
     def is_metaclass(self, number):
         """Whether a class has no name of its own, and that of its instance if it has one."""
-        name = self.image.strong_field(number, NAME, self.clear_weak)
+        name = self.image.strong_field(number, ClassField.NAME, self.clear_weak)
         return self.image.text(name) is None
 
     @functools.cached_property
@@ -127,12 +138,12 @@ class Names:
 
     def methods_of(self, a_class):
         """The bytes of each selector in the dictionary of a class, with the method."""
-        selectors = self.target(a_class, METHODS)
-        array = self.target(selectors, ARRAY)
+        selectors = self.target(a_class, ClassField.METHODS)
+        array = self.target(selectors, DictionaryField.ARRAY)
         if array is None:
             return
         methods = self.fields(array)
-        for selector, method in zip(self.fields(selectors)[SELECTORS:], methods):
+        for selector, method in zip(self.fields(selectors)[DictionaryField.SELECTORS:], methods):
             data = self.image.text(selector)
             if data is not None and method is not None and is_method(self.image.header_of(method)):
                 yield data, method
@@ -141,20 +152,20 @@ class Names:
     def variables(self):
         """The label of each association of a global or a class variable."""
         found = {}
-        smalltalk = self.target(self.image.special, SMALLTALK)
+        smalltalk = self.target(self.image.special, SpecialField.SMALLTALK)
         for key, association in self.associations(smalltalk):
             found.setdefault(association, f"Smalltalk at: #{key}")
         for a_class in self.classes:
-            for key, association in self.associations(self.target(a_class, POOL)):
+            for key, association in self.associations(self.target(a_class, ClassField.POOL)):
                 name = f"{self.name(a_class)} class variable {key}"
                 found.setdefault(association, name)
         return found
 
     def associations(self, dictionary):
         """The key of each association in a dictionary, as printed, with the association."""
-        array = self.target(dictionary, ARRAY)
+        array = self.target(dictionary, DictionaryField.ARRAY)
         for number in self.fields(array) if array is not None else ():
-            data = self.image.text(self.target(number, KEY))
+            data = self.image.text(self.target(number, AssociationField.KEY))
             if data is not None:
                 yield shortened(data), number
 
@@ -162,9 +173,8 @@ class Names:
     def constants(self):
         """The labels of nil, false, true and the system dictionary."""
         special = self.image.special
-        expected = {**CONSTANTS, SMALLTALK: ("Smalltalk", "SystemDictionary")}
         found = {}
-        for field, (label, name) in expected.items():
+        for field, (label, name) in CONSTANTS.items():
             number = self.target(special, field)
             if number is not None and self.class_name(number) == name:
                 found.setdefault(number, label)
@@ -204,14 +214,14 @@ class Names:
             if own is None:
                 return None
             names = own + names
-            number = self.target(number, SUPERCLASS)
+            number = self.target(number, ClassField.SUPERCLASS)
             if number is None:
                 break
         return names if len(names) == self.image.fixed_fields(a_class) else None
 
     def own_variables(self, a_class):
         """The names of the instance variables that a class adds, or None if they are unknown."""
-        array = self.target(a_class, VARIABLES)
+        array = self.target(a_class, ClassField.VARIABLES)
         names = [] if array is None else [self.image.text(it) for it in self.fields(array)]
         return None if None in names else [shortened(name) for name in names]
 

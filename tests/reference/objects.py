@@ -1,11 +1,29 @@
 """The objects of an image's data words: where each begins and ends, and which fields are traced."""
 
+import enum
 import typing
 
 CONTEXT_INDEXES = (13, 14)
-WEAK = 4
-# The first format of methods.
-METHOD = 12
+# The SmallInteger 0.
+ZERO = 1
+# The header type by the number of header words before the base header, and that of a free chunk.
+HEADER_TYPES, FREE = (3, 1, 0), 2
+
+
+class Format(enum.IntEnum):
+    """Formats of objects. Those up to `WEAK` have slots.
+
+    `BYTES` and the next three are of byte objects, `METHOD` and the next three of methods: what is
+    added is the number of bytes of the last word that do not belong to the object."""
+
+    EMPTY = 0
+    FIXED = 1
+    INDEXED = 2
+    FIXED_AND_INDEXED = 3
+    WEAK = 4
+    WORDS = 6
+    BYTES = 8
+    METHOD = 12
 
 
 class Object(typing.NamedTuple):
@@ -21,10 +39,10 @@ def objects_of(words):
     objects, at = [], 0
     while at < len(words):
         kind = words[at] & 3
-        if kind == 2:
+        if kind == FREE:
             at += words[at] >> 2
             continue
-        base = at + (2, 1, None, 0)[kind]
+        base = at + HEADER_TYPES.index(kind)
         end = base + (words[at] >> 2 if kind == 0 else words[base] >> 2 & 63)
         objects.append(Object(at, base, end))
         at = end
@@ -41,17 +59,18 @@ def compact_index(header):
 
 def has_bytes(header):
     """Whether this is the base header of a byte object."""
-    return 8 <= format_of(header) <= 11
+    return Format.BYTES <= format_of(header) < Format.METHOD
 
 
 def is_method(header):
     """Whether this is the base header of a method."""
-    return format_of(header) >= METHOD
+    return format_of(header) >= Format.METHOD
 
 
 def is_context(header):
     """Whether this is the base header of a context."""
-    return format_of(header) == 3 and compact_index(header) in CONTEXT_INDEXES
+    is_indexed = format_of(header) == Format.FIXED_AND_INDEXED
+    return is_indexed and compact_index(header) in CONTEXT_INDEXES
 
 
 def stated_end(words, it):
@@ -71,7 +90,7 @@ def stated_end(words, it):
         if not pointer & 1:
             return first + 6
         return first if pointer >> 31 else first + 6 + (pointer >> 1)
-    return it.end if format_of(header) <= WEAK else first
+    return it.end if format_of(header) <= Format.WEAK else first
 
 
 def traced_end(words, it):

@@ -9,7 +9,7 @@ import tempfile
 import unittest
 
 from tests.harness.allocation_callers import requester
-from tests.harness.programs import ProgramTest
+from tests.harness.program_checks import ProgramTest
 
 FOLDER = pathlib.Path(__file__).resolve().parent
 
