@@ -26,6 +26,7 @@ class ArgumentsTest(DeadArrayTest):
         }.items():
             with self.subTest(name):
                 self.assert_explained(self.compact(*words))
+                self.assert_missing()
 
     def test_rejects_words_that_are_no_text(self):
         for words in ((b"in\xff", "out"), ("in", b"out\xff"), ("in", "out", b"\xff")):
@@ -55,7 +56,7 @@ class ArgumentsTest(DeadArrayTest):
 
     def test_help_has_a_line_for_each_option_with_its_default(self):
         outcome = self.compact("--help")
-        self.assertEqual((outcome.status, outcome.stderr), (0, b""))
+        self.assert_quiet(outcome)
         for line in (
             rb"^ *--workers <N> .*\[default: 4\]$",
             rb"^ *--region-words <N> .*\[default: 65536\]$",
@@ -66,15 +67,7 @@ class ArgumentsTest(DeadArrayTest):
 
     def test_version_is_one_line(self):
         outcome = self.compact("--version")
-        self.assertEqual((outcome.status, outcome.stderr), (0, b""))
-        self.assertRegex(outcome.stdout, rb"\Asqzcompact \d+\.\d+\.\d+\n\Z")
-
-    def assert_explained(self, outcome):
-        """Checks for exit 2, and a message that is not the line of a fault."""
-        self.assertEqual((outcome.status, outcome.stdout), (2, b""))
-        self.assertRegex(outcome.stderr, re.compile(rb"\A(?!fault).", re.DOTALL))
-        self.assertNotIn(b"\nfault", outcome.stderr)
-        self.assert_missing()
+        self.assertRegex(self.printed_by(outcome), rb"\Asqzcompact \d+\.\d+\.\d+\n\Z")
 
     def assert_number_rejected(self, line, *options):
         """Checks that the options are rejected, whether or not IN exists."""
@@ -106,5 +99,4 @@ class LaunchersTest(DeadArrayTest):
 
     def test_sqzlook_tells_its_version(self):
         outcome = run(ROOT / "sqzlook", ["--version"], folder=self.folder)
-        self.assertEqual((outcome.status, outcome.stderr), (0, b""))
-        self.assertRegex(outcome.stdout, rb"\Asqzlook \d+\.\d+\.\d+\n\Z")
+        self.assertRegex(self.printed_by(outcome), rb"\Asqzlook \d+\.\d+\.\d+\n\Z")

@@ -163,7 +163,7 @@ class MutatedImagesTest(ProgramTest):
             self.assertEqual(outcome.stdout, b"")
             self.assert_untouched()
             return
-        self.assertEqual((outcome.status, outcome.stderr), (0, b""))
+        self.assert_quiet(outcome)
         self.assert_ends(self.compact(*weak, "out", "again"), SUCCESS)
         self.assert_holds("again", self.read("out"))
 

@@ -52,7 +52,7 @@ class DiffTest(LookTest):
 
     def check_outcome(self, outcome, form, changes):
         """Checks how a run ended, and what it printed in a form."""
-        self.assertEqual((outcome.status, outcome.stderr), (changes.status, b""))
+        self.assert_quiet(outcome, changes.status)
         if form == JSON:
             found, expected = rows_of(outcome.stdout), changes.rows()
         else:

@@ -30,7 +30,7 @@ class FailedOutputs:
         for words in self.command_lines:
             with self.subTest(words=words), closed_pipe() as pipe:
                 outcome = self.run_here(SQZLOOK, *words, stdout=pipe)
-                self.assertEqual((outcome.status, outcome.stderr), (0, b""))
+                self.assert_quiet(outcome)
 
     def test_full_device(self):
         """A full device ends the program with a message."""

@@ -34,9 +34,7 @@ class KnownImageTest(SavedImageTest, LookTest):
 
     def printed(self, command, *words):
         """What a command prints about the image."""
-        outcome = look(command, NAME, *words, folder=self.folder)
-        self.assertEqual((outcome.status, outcome.stderr), (0, b""))
-        return outcome.stdout
+        return self.printed_by(look(command, NAME, *words, folder=self.folder))
 
     def rows(self, command, *words):
         return rows_of(self.printed(command, "--json", *words))

@@ -77,7 +77,7 @@ class LookTest(ProgramTest):
 
     def assert_answers(self, outcome, question):
         """Checks the exit of a run, and the rows that it printed."""
-        self.assertEqual((outcome.status, outcome.stderr), (question.status, b""))
+        self.assert_quiet(outcome, question.status)
         self.assertIsNone(difference(rows_of(outcome.stdout), question.rows))
 
     def assert_refused(self, outcome, path, message, status=1):

@@ -40,9 +40,24 @@ class ProgramTest(unittest.TestCase):
         if outcome != expected:
             self.fail(f"ended with {outcome}; expected: {expected}")
 
+    def assert_quiet(self, outcome, status=0):
+        """Checks for an exit without a message."""
+        self.assertEqual((outcome.status, outcome.stderr), (status, b""))
+
+    def printed_by(self, outcome, status=0):
+        """What was printed by a run that must end without a message."""
+        self.assert_quiet(outcome, status)
+        return outcome.stdout
+
     def assert_rejected(self, outcome, line):
         """Checks that a run rejected the image with this line alone."""
         self.assert_ends(outcome, Outcome(1, stderr=line))
+
+    def assert_explained(self, outcome):
+        """Checks for exit 2, and a message that is not the line of a fault."""
+        self.assertEqual((outcome.status, outcome.stdout), (2, b""))
+        self.assertRegex(outcome.stderr, rb"\A(?!fault).")
+        self.assertNotIn(b"\nfault", outcome.stderr)
 
     def assert_holds(self, name, data):
         """Checks that a file of the folder holds these bytes."""

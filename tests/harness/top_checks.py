@@ -55,7 +55,7 @@ class TopTest(LookTest):
             outcomes = look_at_all(lines, folder or self.folder)
             for (it, shape), line, outcome in zip(asked, lines, outcomes):
                 with self.subTest(" ".join(line)):
-                    self.assertEqual((outcome.status, outcome.stderr), (0, b""))
+                    self.assert_quiet(outcome)
                     self.check_form(form, it.tree, shape, outcome.stdout)
 
     def check_form(self, form, tree, shape, text):

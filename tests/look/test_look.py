@@ -18,8 +18,8 @@ from tests.reference.faults import Fault, cause
 from tests.reference.file_format import HEADER_WORDS, PREFIX, VERSION, words_of
 from tests.reference.image import Image
 
-# The random images that are asked about, and the objects of each.
-RANDOM_IMAGES, RANDOM_OBJECTS = 20, 10
+# The objects of each random image that are asked about.
+RANDOM_OBJECTS = 10
 
 
 class WorkedTextsTest(LookTest):
@@ -67,7 +67,7 @@ class RandomImagesTest(LookTest):
 
     def test_answers_each_question(self):
         generator, questions = random.Random(SEED), []
-        for name, file in random_files(RANDOM_IMAGES).items():
+        for name, file in random_files().items():
             self.write(name, file)
             for options in ((), CLEAR):
                 asking = Asking(Image.read(file)[0], name, options)

@@ -11,6 +11,7 @@ from tests.harness.programs import SQZLOOK
 from tests.harness.sqzlook import COMMANDS, look
 from tests.harness.worked_images import DeadArrayTest
 from tests.making.seed import SEED
+from tests.reference.fields import ClassField, DictionaryField
 
 # A sound buffer that a class variable keeps alive, and the bytes that it retains.
 BUFFER, RETAINED = "1546cbd8", 97580
@@ -46,7 +47,8 @@ class MethodsTest(KnownImageTest):
     def test_labels_of_a_sample(self):
         """`show` prints the labels of all methods of a class for the array that holds them."""
         expected = {self.names.address(it): self.names.label(it) for it in self.methods()}
-        arrays = [self.names.target(number, 1, 1) for number in self.names.classes]
+        fields = ClassField.METHODS, DictionaryField.ARRAY
+        arrays = [self.names.target(it, *fields) for it in self.names.classes]
         random.Random(SEED).shuffle(arrays)
         found = {}
         while len(found) < COMPARED_METHODS:
@@ -134,9 +136,7 @@ class HelpTest(DeadArrayTest):
     """The help lists the commands, and that of each command has an example."""
 
     def help_of(self, *words):
-        outcome = look(*words, "--help")
-        self.assertEqual((outcome.status, outcome.stderr), (0, b""))
-        return outcome.stdout.decode()
+        return self.printed_by(look(*words, "--help")).decode()
 
     def test_lists_the_commands(self):
         text = self.help_of()

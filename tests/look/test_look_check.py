@@ -83,7 +83,7 @@ class FolderTest(SavedImageTest):
 
     def test_all_but_the_missing_one(self):
         outcome = self.check("--json", *self.readable)
-        self.assertEqual((outcome.status, outcome.stderr), (1, b""))
+        self.assert_quiet(outcome, 1)
         self.assert_rows(outcome, self.readable)
 
     def test_lines(self):
@@ -93,7 +93,7 @@ class FolderTest(SavedImageTest):
 
     def test_sound_image_alone(self):
         outcome = self.check("sound.image")
-        self.assertEqual((outcome.status, outcome.stderr), (0, b""))
+        self.assert_quiet(outcome)
         self.assert_lines(outcome, ["sound.image"])
 
 
@@ -107,9 +107,7 @@ class SeveralFaultsTest(LookTest):
         self.write("bad.image", image.file())
 
     def check(self, *options):
-        outcome = look("check", *options, "bad.image", folder=self.folder)
-        self.assertEqual((outcome.status, outcome.stderr), (1, b""))
-        return outcome.stdout
+        return self.printed_by(look("check", *options, "bad.image", folder=self.folder), 1)
 
     def test_some_have_an_object_one_bit_away(self):
         near = {"one bit from" in fault.more for fault in self.faults}
@@ -145,7 +143,7 @@ class CausesTest(LookTest):
         for name, (begin, _) in files.items():
             self.write(name, begin + bytes(1000))
         outcome = look("check", "--json", *files, folder=self.folder)
-        self.assertEqual((outcome.status, outcome.stderr), (1, b""))
+        self.assert_quiet(outcome, 1)
         found = {row["image"]: row["faults"][0]["text"] for row in rows_of(outcome.stdout)}
         expected = {name: f"version is not 6502{cause}" for name, (_, cause) in files.items()}
         self.assertEqual(found, expected)

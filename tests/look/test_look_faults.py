@@ -74,7 +74,7 @@ class LookFaultsTest(PreloadTest):
         A message has no path, since it could be that of either."""
         words = ("check", *(str(IMAGES / name) for name in TWO_IMAGES))
         whole = look(*words)
-        self.assertEqual((whole.status, whole.stderr), (0, b""))
+        self.assert_quiet(whole)
         first, second = whole.stdout.splitlines(keepends=True)
         self.assertNotEqual(first, second)
         printed = collections.Counter()
@@ -127,8 +127,8 @@ class LookFaultsTest(PreloadTest):
     def assert_ends_with(self, outcome, status, fault, args):
         """Checks for an exit and a fault.
 
-        The name of the program is before it once the command line is known, and the path of an image
-        once it is read."""
+        The name of the program is before it once the command line is known, and the path of an
+        image once this is read."""
         paths = "|".join(map(re.escape, paths_in(args)))
         line = rf"\A(sqzlook: (({paths}): )?)?{fault}\n\Z"
         self.assertRegex(outcome.stderr.decode(), line)

@@ -145,8 +145,7 @@ class ArgumentsTest(LookTest):
 
     def assert_shown(self, address, *words):
         outcome = look("show", "--json", FILE, *words, folder=self.folder)
-        self.assertEqual((outcome.status, outcome.stderr), (0, b""))
-        (row,) = rows_of(outcome.stdout)
+        (row,) = rows_of(self.printed_by(outcome))
         self.assertEqual(row["address"], address)
 
     def test_names_of_classes(self):
@@ -170,7 +169,7 @@ class ArgumentsTest(LookTest):
         addresses = []
         for words in (("Point",), (self.class_address("Point"),)):
             outcome = look("list", "--json", FILE, *words, folder=self.folder)
-            self.assertEqual((outcome.status, outcome.stderr), (0, b""))
+            self.assert_quiet(outcome)
             addresses.append([row.get("address") for row in rows_of(outcome.stdout)])
         self.assertEqual(addresses[0], addresses[1])
         self.assertEqual(len(addresses[0]), 2)

@@ -15,7 +15,6 @@ from tests.making.seed import SEED
 from tests.reference.answers import Answers
 from tests.reference.image import Image
 
-RANDOM_IMAGES = 20
 # A line of a class histogram: objects, bytes, the address of the class in OUT, and its name.
 LINE = re.compile(r" *(\d+) +(\d+) ([0-9a-f]{8}|-{8}) (.*)")
 
@@ -104,7 +103,7 @@ class RetainedTest(unittest.TestCase):
                 self.check_image(path.read_bytes())
 
     def test_random_images(self):
-        for name, file in random_files(RANDOM_IMAGES).items():
+        for name, file in random_files().items():
             with self.subTest(name):
                 self.check_image(file)
 

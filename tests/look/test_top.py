@@ -26,7 +26,6 @@ from tests.reference.answers import Answers
 from tests.reference.image import Image
 from tests.reference.tree import Tree, percent
 
-RANDOM_IMAGES = 20
 SHAPES = (
     USUAL,
     Shape(0),
@@ -87,7 +86,7 @@ class TreeTest(unittest.TestCase):
         self.check_files(readable_files())
 
     def test_random_images(self):
-        self.check_files(random_files(RANDOM_IMAGES))
+        self.check_files(random_files())
 
     def test_image_with_names(self):
         self.check_files({NAME: named_file()})
@@ -113,7 +112,7 @@ class SmallImagesTest(TopTest):
         self.check_trees(trees_of(readable_files()), SHAPES, folder=IMAGES)
 
     def test_random_images(self):
-        self.check_trees(self.write_all(random_files(RANDOM_IMAGES)), SHAPES)
+        self.check_trees(self.write_all(random_files()), SHAPES)
 
     def test_image_with_names(self):
         self.check_trees(self.write_all({NAME: named_file()}), SHAPES)
@@ -182,9 +181,7 @@ class HeldTest(TopTest, KnownImageTest):
         self.write("held.image", self.held.image.file())
 
     def asked(self, *words):
-        outcome = look(*words, folder=self.folder)
-        self.assertEqual((outcome.status, outcome.stderr), (0, b""))
-        return outcome.stdout
+        return self.printed_by(look(*words, folder=self.folder))
 
     def test_is_first(self):
         text = self.asked("top", "held.image").decode()
@@ -222,20 +219,15 @@ class CommandLineTest(FailedOutputs, DeadArrayTest):
         for option, values in (("--depth", depths), ("--min", shares)):
             for value in values:
                 with self.subTest(option, value=value):
-                    self.assert_explained(f"{option}={value}", "in")
-            self.assert_explained("in", option)
+                    self.assert_explained(self.top(f"{option}={value}", "in"))
+            self.assert_explained(self.top("in", option))
 
     def test_one_form(self):
-        self.assert_explained("--folded", "--svg", "in")
-
-    def assert_explained(self, *words):
-        outcome = self.top(*words)
-        self.assertEqual((outcome.status, outcome.stdout), (2, b""))
-        self.assertRegex(outcome.stderr, rb"\A(?!fault).")
+        self.assert_explained(self.top("--folded", "--svg", "in"))
 
     def test_help(self):
         outcome = self.top("--help")
-        self.assertEqual((outcome.status, outcome.stderr), (0, b""))
+        self.assert_quiet(outcome)
         text = outcome.stdout.decode()
         self.assertRegex(text, r"(?m)^ *(\$ )?sqzlook top .*\.image")
         for option in ("--depth <N>", "--min <PERCENT>", "--folded", "--svg", "--json"):

@@ -7,6 +7,8 @@ from tests.making.seed import SEED
 from tests.reference.fields import ClassField
 from tests.reference.objects import ZERO, Format
 
+# The number of images, unless a test needs more.
+FEW = 20
 # The most objects of an image.
 LARGEST = 200
 FORMATS = (Format.EMPTY, Format.FIXED, Format.INDEXED, Format.INDEXED, Format.WEAK)
@@ -55,7 +57,7 @@ def random_file(generator):
     return builder.file()
 
 
-def random_files(count):
+def random_files(count=FEW):
     """The files of the first `count` random images, by name."""
     generator = random.Random(SEED)
     return {f"{number}.image": random_file(generator) for number in range(count)}
