@@ -5,8 +5,8 @@ Prints a table in Markdown.
 Usage: bench/count_lines.py
 
 A line counts unless it is blank or a comment alone. Code is `src/*.rt`, contracts among it;
-definitions are `specs/*.antt`, and proofs `proofs/**/*.antt`. A wrong body is an edit in
-`must-fail/`, and a test a function behind `#[test]`."""
+definitions are `specs/*.antt`, and proofs `proofs/**/*.antt`. A mutant is an edit in `must-fail/`,
+and a test a function after `#[test]`."""
 
 import pathlib
 
@@ -37,7 +37,7 @@ def main():
     names = [
         line.split(":")[0]
         for line in (ROOT / "crates.txt").read_text(encoding="utf-8").splitlines()
-        if ":" in line
+        if ":" in line and not line.startswith("#")
     ]
     rows = [(name, counts_of(ROOT / "crates" / name)) for name in names]
     rows.append(("all", tuple(map(sum, zip(*(counts for _, counts in rows))))))

@@ -5,7 +5,7 @@ Usage: python3 -m bench.stages [--part PART] [--mib N] [--runs N] [--workers N .
                                [--beside PROGRAM]
 
 The image is a part of `bench/images`, `mixed` if none is named; with `--swapped` it is big-endian.
-The numbers are milliseconds, each the median of 3 N runs, since `sqz_stage_times` makes three at a
+The numbers are milliseconds, each the median of 3 N runs, since `sqz_dev_stage_times` makes three at a
 time. Copies by `cp` alternate with the runs.
 
 With `--beside` the program of another checkout that times stages makes runs over the same image,
@@ -24,7 +24,7 @@ from bench.images import MIB, PARTS, make_image
 from tests.harness.programs import build, measured, program_path
 from tests.reference.file_format import bytes_of, words_of
 
-PROGRAM = program_path("sqz_stage_times")
+PROGRAM = program_path("sqz_dev_stage_times")
 
 
 def timed(program, workers, image, out):
@@ -87,7 +87,7 @@ def main():
     parser.add_argument("--swapped", action="store_true")
     parser.add_argument("--beside", metavar="PROGRAM", type=pathlib.Path)
     options = parser.parse_args()
-    build("sqz_stage_times")
+    build("sqz_dev_stage_times")
     programs = [PROGRAM, options.beside] if options.beside else [PROGRAM]
     with tempfile.TemporaryDirectory() as folder:
         image, out = (pathlib.Path(folder, name) for name in ("in.image", "out.image"))

@@ -1,11 +1,11 @@
-"""Compares the worked images in images/ with what `sqz_write_images` writes from its constants."""
+"""Compares the worked images in images/ with what `sqz_dev_write_images` writes from its constants."""
 
 from tests.harness.outcomes import SUCCESS
 from tests.harness.program_checks import ProgramTest
 from tests.harness.programs import build, program_path
 from tests.harness.worked_images import IMAGES, bytes_at
 
-WRITE_IMAGES = program_path("sqz_write_images")
+WRITE_IMAGES = program_path("sqz_dev_write_images")
 FOLDERS = ("accepted", "unreadable", "defects", "weak")
 
 
@@ -19,7 +19,7 @@ class WrittenImagesTest(ProgramTest):
     @classmethod
     def setUpClass(cls):
         super().setUpClass()
-        build("sqz_write_images")
+        build("sqz_dev_write_images")
 
     def test_writes_each_file(self):
         for name in FOLDERS:

@@ -15,7 +15,7 @@ from tests.harness.worked_images import (
     worked_paths,
 )
 
-STAGE_TIMES = program_path("sqz_stage_times")
+STAGE_TIMES = program_path("sqz_dev_stage_times")
 
 
 def folder_of(worked):
@@ -122,7 +122,7 @@ class StageTimesTest(ProgramTest):
     @classmethod
     def setUpClass(cls):
         super().setUpClass()
-        build("sqz_stage_times")
+        build("sqz_dev_stage_times")
 
     def test_writes_a_dozen_classes(self):
         self.check_times(worked_image("dozen_classes"))

@@ -1,6 +1,6 @@
 """Compares the dominators in images with a brute force.
 
-`sqz_check_dominators` compares them, with weak slots kept and cleared. The images are those of
+`sqz_dev_check_dominators` compares them, with weak slots kept and cleared. The images are those of
 images/, and `COUNT` random ones that `SQZ_SEED` chooses."""
 
 import unittest
@@ -12,7 +12,7 @@ from tests.harness.worked_images import readable_paths, unreadable_paths
 from tests.making.random_images import random_files
 from tests.reference.image import Image
 
-CHECK_DOMINATORS = program_path("sqz_check_dominators")
+CHECK_DOMINATORS = program_path("sqz_dev_check_dominators")
 COUNT = 100
 
 
@@ -27,7 +27,7 @@ class DominatorsTest(ProgramTest):
 
     @classmethod
     def setUpClass(cls):
-        build("sqz_check_dominators")  # the other programs are not run
+        build("sqz_dev_check_dominators")  # the other programs are not run
 
     def check_image(self, path, line):
         outcome = self.run_here(CHECK_DOMINATORS, path)

@@ -1,10 +1,10 @@
 //! What is reachable without some objects.
 
 use super::images::{CHAIN, CYCLE_WITH_TWO_ENTRIES, DIAMOND, ROOT_IN_CYCLE};
-use sqz_fixtures::accepted::DEAD_CYCLE;
-use sqz_fixtures::with_weak_objects::WEAK_FIXED_FIELD;
-use sqz_fixtures::{TestImage, image_of};
 use sqz_object::ObjectIndex;
+use sqz_test_fixtures::accepted::DEAD_CYCLE;
+use sqz_test_fixtures::with_weak_objects::WEAK_FIXED_FIELD;
+use sqz_test_fixtures::{TestImage, image_of};
 use sqz_trace::{Marks, Weak, reachable_without};
 use std::process::Abort;
 use std::test::Fail;

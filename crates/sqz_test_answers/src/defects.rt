@@ -1,11 +1,11 @@
 //! All defects of an image.
 
 use super::images::DIAMOND;
-use sqz_fixtures::with_defects::LOWER_OF_TWO;
-use sqz_fixtures::with_weak_objects::WEAK_TOO_MANY_FIXED;
-use sqz_fixtures::{TestImage, image_of};
 use sqz_image::{Fault, Slot};
 use sqz_paths::defects_of;
+use sqz_test_fixtures::with_defects::LOWER_OF_TWO;
+use sqz_test_fixtures::with_weak_objects::WEAK_TOO_MANY_FIXED;
+use sqz_test_fixtures::{TestImage, image_of};
 use sqz_trace::{Marks, Weak, mark_plain};
 use std::process::Abort;
 use std::test::Fail;

@@ -1,12 +1,12 @@
 //! What dominates an object.
 
 use super::images::{CHAIN, CYCLE_WITH_TWO_ENTRIES, DIAMOND, ROOT_IN_CYCLE};
-use sqz_fixtures::accepted::{DEAD_CYCLE, SPECIAL_ARRAY_ALONE};
-use sqz_fixtures::with_classes::CLASS_EDGE;
-use sqz_fixtures::with_weak_objects::WEAK_FIELDS;
-use sqz_fixtures::{TestImage, image_of};
 use sqz_object::ObjectIndex;
 use sqz_dominators::dominators_of;
+use sqz_test_fixtures::accepted::{DEAD_CYCLE, SPECIAL_ARRAY_ALONE};
+use sqz_test_fixtures::with_classes::CLASS_EDGE;
+use sqz_test_fixtures::with_weak_objects::WEAK_FIELDS;
+use sqz_test_fixtures::{TestImage, image_of};
 use sqz_trace::Weak;
 use std::process::Abort;
 use std::test::Fail;

@@ -1,7 +1,7 @@
 //! Small images of these tests. Object 0 of each is nil.
 
-use sqz_fixtures::Chunk::{Array, Fixed, Instance};
-use sqz_fixtures::{EMPTY, LEAF, NIL, TestImage};
+use sqz_test_fixtures::Chunk::{Array, Fixed, Instance};
+use sqz_test_fixtures::{EMPTY, LEAF, NIL, TestImage};
 
 /// The special objects array, object 5, points to object 1, which points to objects 2 and 3. Both
 /// point to object 4.

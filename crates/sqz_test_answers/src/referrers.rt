@@ -1,12 +1,12 @@
 //! What points to an object.
 
 use super::images::{DIAMOND, ROOT_IN_CYCLE, THREE_SLOTS};
-use sqz_fixtures::accepted::DEAD_CYCLE;
-use sqz_fixtures::with_weak_objects::WEAK_FIELDS;
-use sqz_fixtures::{TestImage, image_of};
 use sqz_image::Slot;
 use sqz_object::ObjectIndex;
 use sqz_paths::{Referrer, referrers_of};
+use sqz_test_fixtures::accepted::DEAD_CYCLE;
+use sqz_test_fixtures::with_weak_objects::WEAK_FIELDS;
+use sqz_test_fixtures::{TestImage, image_of};
 use sqz_trace::{Marks, Weak, mark_plain};
 use std::process::Abort;
 use std::test::Fail;

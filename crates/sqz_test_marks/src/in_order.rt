@@ -13,11 +13,11 @@ ghost use Rattle.sqz_test_marks.specs.InOrder.{special_black, all_black};
 
 use super::passes::{assert_parts, assert_whole};
 use super::steps::{assert_closed, assert_dead_cycle, close_again, is_same, new_cut};
-use sqz_fixtures::accepted::DEAD_CYCLE;
-use sqz_fixtures::image_of;
 use sqz_image::{Heap, Slot};
 use sqz_marks::{Claim, Closed, MarkTable, Pass, Workers};
 use sqz_regions::{Cut, Regions};
+use sqz_test_fixtures::accepted::DEAD_CYCLE;
+use sqz_test_fixtures::image_of;
 use sqz_trace::{OutEdges, Shade, Weak, strong};
 use std::process::Abort;
 use std::test::Fail;

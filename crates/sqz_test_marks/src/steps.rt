@@ -8,11 +8,11 @@ ghost use Rattle.sqz_marks.specs.Table.{IsPassOf, HasCountedAll, start_of};
 ghost use Rattle.sqz_test_marks.specs.Passes.{IsLater, Knows};
 
 use super::targets::mark_targets;
-use sqz_fixtures::accepted::DEAD_CYCLE;
-use sqz_fixtures::image_of;
 use sqz_image::{Fault, Heap, Slot};
 use sqz_marks::{Claim, Closed, MarkTable, Pass, Workers};
 use sqz_regions::{Cut, Regions};
+use sqz_test_fixtures::accepted::DEAD_CYCLE;
+use sqz_test_fixtures::image_of;
 use sqz_trace::{Shade, Weak};
 use std::alloc::Global;
 use std::process::Abort;

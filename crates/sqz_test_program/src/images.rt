@@ -1,8 +1,8 @@
 //! The images of these tests, in little-endian files.
 
-use sqz_fixtures::accepted::{DEAD_ARRAY, NIL_ALONE};
-use sqz_fixtures::{file_of, put_header, put_words};
 use sqz_object::Order;
+use sqz_test_fixtures::accepted::{DEAD_ARRAY, NIL_ALONE};
+use sqz_test_fixtures::{file_of, put_header, put_words};
 use std::alloc::{AllocError, Global};
 
 /// How many bytes the object of the large image has: more than a MiB.

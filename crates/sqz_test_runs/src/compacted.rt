@@ -2,25 +2,25 @@
 
 use super::prefixes::assert_array_left_out;
 use super::runs::assert_compacts;
-use sqz_fixtures::Chunk::{Array, Instance, Long, Short};
-use sqz_fixtures::accepted::{
+use sqz_object::Order;
+use sqz_test_fixtures::Chunk::{Array, Instance, Long, Short};
+use sqz_test_fixtures::accepted::{
     DEAD_BAD_CONTEXT, DEAD_BAD_METHOD, DEAD_BAD_POINTER, DEAD_WITHOUT_CLASS, FREE_CHUNK, FREE_WORD,
     HIGHEST_BASE, INTEGERS, NIL_ALONE,
 };
-use sqz_fixtures::answers::{
+use sqz_test_fixtures::answers::{
     CLASS_EDGE_ANSWER, CLASS_EDGE_OF_THREE_WORDS_ANSWER, HIGHEST_BASE_ANSWER,
 };
-use sqz_fixtures::answers_of_formats::{
+use sqz_test_fixtures::answers_of_formats::{
     CONTEXT_STACK_ANSWER, CONTEXT_WITH_CLASS_WORD_ANSWER, LITERALS_ALONE_ANSWER,
     METHOD_LITERALS_ANSWER,
 };
-use sqz_fixtures::with_classes::{CLASS_EDGE, CLASS_EDGE_OF_THREE_WORDS, CLASS_NAMES};
-use sqz_fixtures::with_formats::{
+use sqz_test_fixtures::with_classes::{CLASS_EDGE, CLASS_EDGE_OF_THREE_WORDS, CLASS_NAMES};
+use sqz_test_fixtures::with_formats::{
     CONTEXT_STACK, CONTEXT_WITH_CLASS_WORD, CONTEXT_WITHOUT_STACK_POINTER, HIGHEST_METHOD_FORMAT,
     LIKE_CONTEXTS, LITERALS_ALONE, LOWEST_METHOD_FORMAT, METHOD_LITERALS,
 };
-use sqz_fixtures::{EMPTY, NIL, TestImage, with_word};
-use sqz_object::Order;
+use sqz_test_fixtures::{EMPTY, NIL, TestImage, with_word};
 use sqz_trace::Weak;
 use std::process::Abort;
 use std::sync::Wait;

@@ -2,22 +2,22 @@
 //! defect.
 
 use super::runs::assert_image_refused;
-use sqz_fixtures::accepted::NIL_ALONE;
-use sqz_fixtures::with_bad_contexts::{
+use sqz_image::{Fault, Slot};
+use sqz_test_fixtures::accepted::NIL_ALONE;
+use sqz_test_fixtures::with_bad_contexts::{
     CONTEXT_OF_FIVE_FIELDS, CONTEXT_OF_TWO_FIELDS, FIVE_FIELDS_WITHOUT_STACK_POINTER, SHORT_CONTEXT,
 };
-use sqz_fixtures::with_bad_methods::{
+use sqz_test_fixtures::with_bad_methods::{
     ALL_ONES, BAD_LITERAL, METHOD_HEADER, METHOD_WITHOUT_CLASS, METHOD_WITHOUT_FIELDS,
     ODD_METHOD_HEADER, TOO_MANY_LITERALS,
 };
-use sqz_fixtures::with_defects::{
+use sqz_test_fixtures::with_defects::{
     BAD_CLASS_WORD, BAD_CLASS_WORD_OF_THREE, CLASS_WORD_BEFORE_FIELD, FIELD_NAMES_CLASS_WORD,
     FIELD_NAMES_FREE_CHUNK, LOWER_IS_NAMED, LOWER_OF_TWO, NO_CLASS, NO_CLASS_BEFORE_FIELD,
     TWO_ODD_FIELDS,
 };
-use sqz_fixtures::with_formats::CONTEXT_STACK;
-use sqz_fixtures::{TestImage, with_word};
-use sqz_image::{Fault, Slot};
+use sqz_test_fixtures::with_formats::CONTEXT_STACK;
+use sqz_test_fixtures::{TestImage, with_word};
 use sqz_trace::Weak;
 use std::process::Abort;
 use std::sync::Wait;

@@ -2,11 +2,11 @@
 
 use super::prefixes::file_behind;
 use super::runs::{Devices, Outcome, SOUND, assert_bytes, assert_writes_both, plan_by, run_over};
-use sqz_fixtures::TestImage;
-use sqz_fixtures::accepted::{DEAD_ARRAY, NIL_ALONE};
-use sqz_fixtures::censuses::{CLASS_NAMES_CENSUS, NIL_ALONE_CENSUS};
-use sqz_fixtures::with_classes::CLASS_NAMES;
 use sqz_image::Fault;
+use sqz_test_fixtures::TestImage;
+use sqz_test_fixtures::accepted::{DEAD_ARRAY, NIL_ALONE};
+use sqz_test_fixtures::censuses::{CLASS_NAMES_CENSUS, NIL_ALONE_CENSUS};
+use sqz_test_fixtures::with_classes::CLASS_NAMES;
 use sqz_tool::Plan;
 use sqz_trace::Weak;
 use std::alloc::{AllocError, Global};

@@ -6,8 +6,8 @@ ghost use Rattle.std.specs.Prelude.{◌<◌, IfSome};
 
 use super::prefixes::behind;
 use super::runs::{Devices, Outcome, SOUND, nine_plans, plan_of, run_over};
-use sqz_fixtures::{put_header, put_words};
 use sqz_object::Order;
+use sqz_test_fixtures::{put_header, put_words};
 use sqz_tool::{Plan, Summary};
 use sqz_trace::Weak;
 use std::alloc::{AllocError, Global};

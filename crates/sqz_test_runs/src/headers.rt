@@ -2,18 +2,18 @@
 //! nothing is written.
 
 use super::runs::assert_refused;
-use sqz_fixtures::Contents::{self, File, Image};
-use sqz_fixtures::accepted::DEAD_ARRAY;
-use sqz_fixtures::with_bad_headers::{
+use sqz_image::Fault;
+use sqz_object::Order;
+use sqz_test_fixtures::Contents::{self, File, Image};
+use sqz_test_fixtures::accepted::DEAD_ARRAY;
+use sqz_test_fixtures::with_bad_headers::{
     BASE_TOO_HIGH, OTHER_HEADER_SIZE, OTHER_HEADER_SIZE_AND_UNEVEN_DATA_SIZE, OTHER_VERSION,
     OTHER_VERSION_AND_HEADER_SIZE, UNEVEN_BASE, UNEVEN_DATA_SIZE, UNEVEN_DATA_SIZE_AND_BASE,
 };
-use sqz_fixtures::with_other_bytes::{
+use sqz_test_fixtures::with_other_bytes::{
     CUT_IN_DATA, CUT_IN_HEADER, NO_BYTES, SHORT_OF_ANOTHER_VERSION, UNEVEN_BASE_OF_TRUNCATED_DATA,
 };
-use sqz_fixtures::{PLAIN, TestFile, TestImage};
-use sqz_image::Fault;
-use sqz_object::Order;
+use sqz_test_fixtures::{PLAIN, TestFile, TestImage};
 use sqz_trace::Weak;
 use std::process::Abort;
 use std::sync::Wait;

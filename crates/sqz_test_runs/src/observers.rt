@@ -1,10 +1,10 @@
 //! The stages that an observer of a run sees.
 
 use super::runs::plan_of;
-use sqz_fixtures::accepted::DEAD_ARRAY;
-use sqz_fixtures::with_defects::ODD_FIELD;
-use sqz_fixtures::{TestImage, file_of};
 use sqz_image::{Fault, MemorySink, MemorySource};
+use sqz_test_fixtures::accepted::DEAD_ARRAY;
+use sqz_test_fixtures::with_defects::ODD_FIELD;
+use sqz_test_fixtures::{TestImage, file_of};
 use sqz_tool::{Plan, Session, Stage, StageObserver, Summary, run_observed};
 use sqz_trace::Weak;
 use sqz_workers::OpenGate;

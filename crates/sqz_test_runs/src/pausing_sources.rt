@@ -5,9 +5,9 @@ ghost use Rattle.std.specs.Prelude.{◌≡◌, false};
 ghost use Rattle.sqz_image.specs.Devices.{SourceState};
 
 use super::runs::{assert_bytes, plan_of};
-use sqz_fixtures::accepted::{DEAD_ARRAY, NIL_ALONE};
-use sqz_fixtures::file_of;
 use sqz_image::{DeviceFault, MemorySink, MemorySource, Source, read_all};
+use sqz_test_fixtures::accepted::{DEAD_ARRAY, NIL_ALONE};
+use sqz_test_fixtures::file_of;
 use sqz_tool::{Plan, run};
 use sqz_trace::Weak;
 use sqz_workers::OpenGate;

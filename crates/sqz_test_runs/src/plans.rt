@@ -2,13 +2,13 @@
 
 use super::runs::{SOUND, assert_writes_both, nine_plans};
 use super::weak_censuses::{WEAK_CLASS, WEAK_CLASS_CENSUS, WEAK_CLASS_CLEARED};
-use sqz_fixtures::accepted::DEAD_CYCLE;
-use sqz_fixtures::answers::DEAD_CYCLE_ANSWER;
-use sqz_fixtures::censuses::DEAD_CYCLE_CENSUS;
-use sqz_fixtures::{TestImage, file_of};
 use sqz_image::Fault;
 use sqz_marks::Workers;
 use sqz_regions::Cut;
+use sqz_test_fixtures::accepted::DEAD_CYCLE;
+use sqz_test_fixtures::answers::DEAD_CYCLE_ANSWER;
+use sqz_test_fixtures::censuses::DEAD_CYCLE_CENSUS;
+use sqz_test_fixtures::{TestImage, file_of};
 use sqz_tool::Plan;
 use sqz_trace::Weak;
 use std::alloc::Global;

@@ -4,11 +4,11 @@ use super::runs::{
     SOUND, assert_bytes, assert_refused, assert_writes, assert_writes_both, plan_of,
 };
 use super::weak_censuses::{WEAK_CLASS, WEAK_CLASS_CENSUS, WEAK_CLASS_CLEARED};
-use sqz_fixtures::accepted::{DEAD_ARRAY, NIL_ALONE};
-use sqz_fixtures::with_bad_headers::{OTHER_HEADER_SIZE, UNEVEN_BASE, UNEVEN_DATA_SIZE};
-use sqz_fixtures::{Before, EMPTY, PLAIN, TestFile, TestImage, bytes_of, file_in, file_of};
 use sqz_image::{Fault, Image, MemorySink, read_image, write_image};
 use sqz_object::Order;
+use sqz_test_fixtures::accepted::{DEAD_ARRAY, NIL_ALONE};
+use sqz_test_fixtures::with_bad_headers::{OTHER_HEADER_SIZE, UNEVEN_BASE, UNEVEN_DATA_SIZE};
+use sqz_test_fixtures::{Before, EMPTY, PLAIN, TestFile, TestImage, bytes_of, file_in, file_of};
 use sqz_tool::{Plan, Summary};
 use sqz_trace::Weak;
 use std::alloc::{AllocError, Global};

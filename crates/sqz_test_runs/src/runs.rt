@@ -1,10 +1,10 @@
 //! A run over a file in memory, and what it is to do.
 
-use sqz_fixtures::{TestImage, file_in};
 use sqz_image::{Fault, MemorySink, MemorySource};
 use sqz_marks::Workers;
 use sqz_object::Order;
 use sqz_regions::Cut;
+use sqz_test_fixtures::{TestImage, file_in};
 use sqz_tool::{Plan, Summary, run};
 use sqz_trace::Weak;
 use sqz_workers::{Gate, OpenGate};

@@ -2,9 +2,9 @@
 
 use super::prefixes::with_tail;
 use super::runs::assert_writes;
-use sqz_fixtures::accepted::{DEAD_ARRAY, NIL_ALONE};
-use sqz_fixtures::file_in;
 use sqz_object::Order;
+use sqz_test_fixtures::accepted::{DEAD_ARRAY, NIL_ALONE};
+use sqz_test_fixtures::file_in;
 use sqz_tool::Summary;
 use sqz_trace::Weak;
 use std::process::Abort;

@@ -3,13 +3,13 @@
 use super::plans::{Case, assert_answers};
 use super::prefixes::behind;
 use super::runs::{assert_refused, assert_refused_by, nine_plans};
-use sqz_fixtures::Chunk::Words;
-use sqz_fixtures::answers::CLASS_EDGE_ANSWER;
-use sqz_fixtures::with_bad_methods::ALL_ONES;
-use sqz_fixtures::with_classes::{CLASS_EDGE, CLASS_NAMES};
-use sqz_fixtures::{EMPTY, TestImage, file_in, file_of};
 use sqz_image::Fault;
 use sqz_object::{Order, put_word};
+use sqz_test_fixtures::Chunk::Words;
+use sqz_test_fixtures::answers::CLASS_EDGE_ANSWER;
+use sqz_test_fixtures::with_bad_methods::ALL_ONES;
+use sqz_test_fixtures::with_classes::{CLASS_EDGE, CLASS_NAMES};
+use sqz_test_fixtures::{EMPTY, TestImage, file_in, file_of};
 use sqz_trace::Weak;
 use std::process::Abort;
 use std::sync::Wait;

@@ -2,11 +2,11 @@
 
 use super::prefixes::{behind, with_tail};
 use super::runs::{Outcome, SOUND, assert_bytes, assert_writes, run_by_two, run_over};
-use sqz_fixtures::accepted::NIL_ALONE;
-use sqz_fixtures::{Contents, WorkedImage, file_of, worked_tables};
 use sqz_image::Fault;
 use sqz_marks::Workers;
 use sqz_regions::Cut;
+use sqz_test_fixtures::accepted::NIL_ALONE;
+use sqz_test_fixtures::{Contents, WorkedImage, file_of, worked_tables};
 use sqz_tool::{Plan, Summary};
 use sqz_trace::Weak;
 use std::alloc::{AllocError, Global};

@@ -1,16 +1,16 @@
 //! Images with a chunk that cannot be read, and images without a special objects array.
 
 use super::runs::assert_image_refused;
-use sqz_fixtures::unreadable::{
+use sqz_image::Fault;
+use sqz_test_fixtures::unreadable::{
     FIRST_UNREADABLE_CHUNK, FREE_CHUNK_AT_SPECIAL, FREE_OVERRUN, FREE_ZERO_SIZE, HEADER_OVERRUN,
     HEADER_OVERRUN_BEFORE_MIXED, LONE_CLASS_WORD, LONE_SIZE_WORD, MIXED_BEFORE_OVERRUN,
     MIXED_BEFORE_SIZE, MIXED_CLASS_HEADER, MIXED_HEADER, MIXED_SECOND_HEADER, NO_OBJECT_AT_SPECIAL,
     OVERRUN, OVERRUN_OF_THREE, OVERRUN_OF_TWO, UNREADABLE_BEFORE_SPECIAL, ZERO_SIZE,
     ZERO_SIZE_OF_THREE, ZERO_SIZE_OF_TWO,
 };
-use sqz_fixtures::with_classes::CLASS_EDGE;
-use sqz_fixtures::{Change, EMPTY, TestImage};
-use sqz_image::Fault;
+use sqz_test_fixtures::with_classes::CLASS_EDGE;
+use sqz_test_fixtures::{Change, EMPTY, TestImage};
 use sqz_trace::Weak;
 use std::process::Abort;
 use std::sync::Wait;

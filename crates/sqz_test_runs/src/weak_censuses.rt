@@ -1,8 +1,8 @@
 //! Censuses of images with weak objects.
 
 use super::censuses::assert_census;
-use sqz_fixtures::Chunk::{self, Array, Fixed, Instance, LongArray};
-use sqz_fixtures::{EMPTY, NIL, TestImage};
+use sqz_test_fixtures::Chunk::{self, Array, Fixed, Instance, LongArray};
+use sqz_test_fixtures::{EMPTY, NIL, TestImage};
 use sqz_trace::Weak;
 use std::test::Fail;
 

@@ -1,17 +1,17 @@
 //! Images with weak objects that are refused, and images without nil.
 
 use super::runs::{assert_compacts, assert_image_refused};
-use sqz_fixtures::TestImage;
-use sqz_fixtures::accepted::SPECIAL_ARRAY_ALONE;
-use sqz_fixtures::with_defects::{
+use sqz_image::{Fault, Slot};
+use sqz_test_fixtures::TestImage;
+use sqz_test_fixtures::accepted::SPECIAL_ARRAY_ALONE;
+use sqz_test_fixtures::with_defects::{
     WEAK_BAD_BEFORE_FIELD, WEAK_NO_NIL_BEFORE_NO_CLASS, WEAK_ODD_SLOT, WEAK_SLOT_NAMES_NOTHING,
     WEAK_WITHOUT_CLASS,
 };
-use sqz_fixtures::with_weak_objects::{
+use sqz_test_fixtures::with_weak_objects::{
     WEAK_BAD_CLASS, WEAK_COMPACT_CLASSES, WEAK_NEGATIVE_FIXED, WEAK_SMALL_CLASS, WEAK_SPECIAL,
     WEAK_TOO_MANY_FIXED,
 };
-use sqz_image::{Fault, Slot};
 use sqz_trace::Weak;
 use std::process::Abort;
 use std::sync::Wait;

@@ -2,13 +2,13 @@
 //! kept.
 
 use super::runs::assert_compacts;
-use sqz_fixtures::TestImage;
-use sqz_fixtures::cleared::{
+use sqz_test_fixtures::TestImage;
+use sqz_test_fixtures::cleared::{
     WEAK_COMPACT_CLASS_CLEARED, WEAK_FIELDS_CLEARED, WEAK_FIXED_FIELD_CLEARED,
     WEAK_OWN_CLASS_CLEARED, WEAK_SIXTY_FOUR_FIXED_CLEARED, WEAK_SLOT_OF_LIVE_OBJECT_ANSWER,
     WEAK_WEAK_CLASS_CLEARED,
 };
-use sqz_fixtures::with_weak_objects::{
+use sqz_test_fixtures::with_weak_objects::{
     WEAK_COMPACT_CLASS, WEAK_FIELDS, WEAK_FIXED_FIELD, WEAK_OWN_CLASS, WEAK_SIXTY_FOUR_FIXED,
     WEAK_SLOT_OF_LIVE_OBJECT, WEAK_SPECIAL_WITH_CLASS_WORD, WEAK_WEAK_CLASS,
 };

@@ -1,8 +1,8 @@
 //! Devices that pass calls on: what goes through them, and what does not after they failed.
 
-use sqz_fixtures::accepted::DEAD_ARRAY;
-use sqz_fixtures::file_of;
 use sqz_image::{Fault, MemorySource, ReadSource, Sink, Source, WriteSink, read_all, write_all};
+use sqz_test_fixtures::accepted::DEAD_ARRAY;
+use sqz_test_fixtures::file_of;
 use std::io::{Cursor, ErrorKind, Read, Write};
 use std::process::Abort;
 use std::test::Fail;

@@ -1,9 +1,9 @@
 //! Words where they lie in a file, and an image that keeps its file's bytes.
 
-use sqz_fixtures::with_classes::{BIG_ENDIAN_CLASS_NAMES, CLASS_NAMES};
-use sqz_fixtures::{TestImage, file_of};
 use sqz_image::{Heap, image_of_file, read_image};
 use sqz_object::{Chunk, Kind, Order, Words, chunk_in};
+use sqz_test_fixtures::with_classes::{BIG_ENDIAN_CLASS_NAMES, CLASS_NAMES};
+use sqz_test_fixtures::{TestImage, file_of};
 use std::process::Abort;
 use std::test::Fail;
 

@@ -2,11 +2,11 @@
 
 ghost use Rattle.std.specs.Prelude.{◌<◌};
 
-use sqz_fixtures::Chunk::{Array, Fixed, Free, Instance, Long, LongArray, Short, Weak, Words};
-use sqz_fixtures::accepted::DEAD_CYCLE;
-use sqz_fixtures::{EMPTY, LEAF, NIL, ODD, TestImage, image_of, put_header, put_words};
 use sqz_image::{Image, read_image};
 use sqz_object::Order;
+use sqz_test_fixtures::Chunk::{Array, Fixed, Free, Instance, Long, LongArray, Short, Weak, Words};
+use sqz_test_fixtures::accepted::DEAD_CYCLE;
+use sqz_test_fixtures::{EMPTY, LEAF, NIL, ODD, TestImage, image_of, put_header, put_words};
 use std::alloc::Global;
 use std::test::Fail;
 

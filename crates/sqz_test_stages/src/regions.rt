@@ -4,10 +4,10 @@ ghost use Rattle.std.specs.Prelude.{◌≡◌, length, IfOk};
 ghost use Rattle.sqz_image.specs.Objects.{object_count};
 
 use super::images::{FREE_AT_THE_END, LONG_HEADER, dead_cycle_image};
-use sqz_fixtures::accepted::{SPECIAL_ARRAY_ALONE, THREE_WORD_HEADER};
-use sqz_fixtures::image_of;
 use sqz_image::{Heap, Image};
 use sqz_regions::{Cut, Forward, Regions, bases, live_words};
+use sqz_test_fixtures::accepted::{SPECIAL_ARRAY_ALONE, THREE_WORD_HEADER};
+use sqz_test_fixtures::image_of;
 use sqz_trace::{Marks, Weak, mark_plain};
 use std::alloc::Global;
 use std::process::Abort;

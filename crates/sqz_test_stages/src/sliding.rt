@@ -8,13 +8,13 @@ use super::images::{
     THREE_WEAK_SLOTS_KEPT, dead_cycle_image,
 };
 use super::regions::{cut_at, places_of};
-use sqz_fixtures::accepted::{DEAD_ARRAY, NIL_ALONE};
-use sqz_fixtures::answers::DEAD_CYCLE_ANSWER;
-use sqz_fixtures::{TestImage, image_of, words_of};
 use sqz_image::{Heap, Image};
 use sqz_marks::Workers;
 use sqz_regions::{Cut, Forward, Regions};
 use sqz_slide::{Pieces, moved_word, slide};
+use sqz_test_fixtures::accepted::{DEAD_ARRAY, NIL_ALONE};
+use sqz_test_fixtures::answers::DEAD_CYCLE_ANSWER;
+use sqz_test_fixtures::{TestImage, image_of, words_of};
 use sqz_trace::Weak;
 use sqz_workers::{Gate, OpenGate};
 use std::alloc::{AllocError, Global};

@@ -3,10 +3,10 @@
 use super::gates::{Hold, MEETING, TurnGate, assert_held, turn_of};
 use super::images::{dead_cycle_image, long_object_image};
 use super::sliding::{assert_pieces, assert_sizes, slid, slid_by};
-use sqz_fixtures::answers::DEAD_CYCLE_ANSWER;
 use sqz_image::Image;
 use sqz_regions::Cut;
 use sqz_slide::Pieces;
+use sqz_test_fixtures::answers::DEAD_CYCLE_ANSWER;
 use sqz_trace::Weak;
 use sqz_workers::Phase;
 use std::process::Abort;

@@ -3,10 +3,10 @@
 use super::gates::{Hold, TurnGate, assert_held, turn_of};
 use super::sliding::{slid, slid_by};
 use super::sliding_gates::assert_turns;
-use sqz_fixtures::{put_header, put_words};
 use sqz_image::{Image, read_image};
 use sqz_object::Order;
 use sqz_regions::Cut;
+use sqz_test_fixtures::{put_header, put_words};
 use sqz_trace::Weak;
 use sqz_workers::{Gate, Phase};
 use std::alloc::Global;

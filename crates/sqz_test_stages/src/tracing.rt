@@ -5,12 +5,12 @@ ghost use Rattle.std.specs.Prelude.{◌≡◌, length};
 ghost use Rattle.sqz_image.specs.Objects.{object_count};
 
 use super::images::{CONTEXT_AND_METHOD, FIXED_FIELD_BY_INDEX, dead_cycle_image};
-use sqz_fixtures::accepted::SPECIAL_ARRAY_ALONE;
-use sqz_fixtures::image_of;
-use sqz_fixtures::with_classes::CLASS_EDGE;
-use sqz_fixtures::with_defects::LOWER_OF_TWO;
-use sqz_fixtures::with_weak_objects::{WEAK_FIXED_FIELD, WEAK_SPECIAL, WEAK_TOO_MANY_FIXED};
 use sqz_image::{Fault, Heap, Image, Slot};
+use sqz_test_fixtures::accepted::SPECIAL_ARRAY_ALONE;
+use sqz_test_fixtures::image_of;
+use sqz_test_fixtures::with_classes::CLASS_EDGE;
+use sqz_test_fixtures::with_defects::LOWER_OF_TWO;
+use sqz_test_fixtures::with_weak_objects::{WEAK_FIXED_FIELD, WEAK_SPECIAL, WEAK_TOO_MANY_FIXED};
 use sqz_trace::{
     Marks, Weak, defect, finish, first_defect, first_shades, lacks_nil, mark_plain, strong, target,
     traced,

@@ -1,0 +1,115 @@
+//! The program `sqz_dev_check_dominators FILE...`: compares the immediate dominator of each object of
+//! images, and what it retains, with those that a brute force finds, with weak slots kept and
+//! cleared. It prints how many objects each image has, and ends with exit code 1 at the first
+//! difference.
+//!
+//! `sqz_dev_check_dominators --retained ADDRESS FILE` prints what one object retains, without the brute
+//! force.
+#![tactic(auto)]
+
+mod brute_force;
+mod difference;
+
+use anyhow::Result;
+use difference::{Difference, first_difference};
+use sqz_image::{Fault, Image, ReadSource, image_of_file, read_all};
+use sqz_dominators::dominators_of;
+use sqz_trace::Weak;
+use std::alloc::Global;
+use std::env;
+use std::fs::File;
+use std::process::ExitCode;
+use std::rt::Files;
+
+/// The exit code if the command line is wrong.
+const BAD_ARGUMENTS: u8 = 2;
+
+/// Returns the image in a file, or None if the file has a fault.
+fn image_in<R: Files>(rt: &R, alloc: Global, path: &str) -> Result<Option<Image>> {
+    let bytes = read_all(alloc, &mut ReadSource::new(File::open(rt, path)?))?;
+    match image_of_file(alloc, bytes) {
+        Ok(image) => Ok(Some(image)),
+        Err(Fault::OutOfMemory) => Err(Fault::OutOfMemory.into()),
+        Err(_) => Ok(None),
+    }
+}
+
+/// Returns the first difference in an image, with weak slots kept or else cleared.
+fn difference_in(alloc: Global, image: &Image) -> Result<Option<Difference>> {
+    for weak in [Weak::Keep, Weak::Clear] {
+        let found = first_difference(alloc, image.heap(), weak)?;
+        if found.is_some() {
+            return Ok(found);
+        }
+    }
+    Ok(None)
+}
+
+/// Checks the image in a file, and prints a line. Returns whether there is no difference.
+fn check_file<R: Files + Print>(rt: &R, alloc: Global, path: &str) -> Result<bool> {
+    let Some(image) = image_in(rt, alloc, path)? else {
+        println!(rt; "{path}: unreadable")?;
+        return Ok(true);
+    };
+    if let Some(difference) = difference_in(alloc, &image)? {
+        println!(rt; "{path}: {difference}")?;
+        return Ok(false);
+    }
+    println!(rt; "{path}: {} objects", image.heap().len())?;
+    Ok(true)
+}
+
+/// Checks the images in files, up to the first one with a difference. Returns whether there is
+/// none.
+fn check_files<R: Files + Print>(rt: &R, alloc: Global, paths: &[String]) -> Result<bool> {
+    for path in paths {
+        if !check_file(rt, alloc, path.as_str())? {
+            return Ok(false);
+        }
+    }
+    Ok(true)
+}
+
+/// Prints what the object at an address of the image in a file retains. Returns whether there is
+/// such an object.
+fn print_retained<R: Files + Print>(
+    rt: &R,
+    alloc: Global,
+    address: &str,
+    path: &str,
+) -> Result<bool> {
+    let Some(image) = image_in(rt, alloc, path)? else {
+        return Ok(false);
+    };
+    let heap = image.heap();
+    let Ok(address) = u32::from_str_radix(address, 16) else {
+        return Ok(false);
+    };
+    let Some(object) = heap.find(address) else {
+        return Ok(false);
+    };
+    let retained = dominators_of(alloc, heap, Weak::Keep)?.retained(object);
+    println!(rt; "{} objects, {} bytes", retained.objects, retained.bytes)?;
+    Ok(true)
+}
+
+fn main(rt: HostRuntime) -> Result<ExitCode> {
+    let words: Vec<String> = env::args(&rt)?.collect(rt.alloc())?;
+    let done = match words.get(1..).unwrap_or(&[]) {
+        [option, address, path] if option.as_str() == "--retained" => {
+            print_retained(&rt, rt.alloc(), address.as_str(), path.as_str())?
+        }
+        [first, ..] if !first.starts_with("--") => {
+            check_files(&rt, rt.alloc(), words.get(1..).unwrap_or(&[]))?
+        }
+        _ => {
+            eprintln!(rt; "Usage: sqz_dev_check_dominators FILE..., or --retained ADDRESS FILE")?;
+            return Ok(ExitCode::from(BAD_ARGUMENTS));
+        }
+    };
+    Ok(if done {
+        ExitCode::SUCCESS
+    } else {
+        ExitCode::FAILURE
+    })
+}

@@ -1,8 +1,0 @@
-use Rattle.std.proofs.Common.{[], ◌∷◌, Some, refl}
-use Rattle.sqz_object.specs.declared.order.Order.TheVariants.{Little}
-use Rattle.sqz_trace.specs.declared.weak.Weak.TheVariants.{Keep}
-use Rattle.sqz_examples.proofs.WorkedImages.{IsRefused-for_defect}
-use Rattle.sqz_examples.proofs.defects.all_ones.Goals as goal
-
-pub returns : goal.returns
-returns c = IsRefused-for_defect Keep _ Little _ ((Some []) ∷ []) refl refl refl refl refl

@@ -1,5 +1,0 @@
-use Rattle.std.proofs.Common.{inl, refl}
-use Rattle.sqz_examples.proofs.prefixes.cut_in_version.Goals as goal
-
-pub returns : goal.returns
-returns c weak = inl (inl refl)

@@ -1,8 +1,0 @@
-use Rattle.std.proofs.Common.{refl}
-use Rattle.sqz_object.specs.declared.order.Order.TheVariants.{Little}
-use Rattle.sqz_trace.specs.declared.weak.Weak.TheVariants.{Clear}
-use Rattle.sqz_examples.proofs.WorkedImages.{CompactsTo-computed, paths_by_strong_slots}
-use Rattle.sqz_examples.proofs.prefixes.weak_slot.Goals as goal
-
-pub returns : goal.returns
-returns c = CompactsTo-computed Clear _ Little _ paths_by_strong_slots refl refl refl refl refl refl

@@ -1,7 +1,0 @@
-use Rattle.std.proofs.Common.{refl}
-use Rattle.sqz_object.specs.declared.order.Order.TheVariants.{Little}
-use Rattle.sqz_examples.proofs.WorkedImages.{IsRefused-with_no_special}
-use Rattle.sqz_examples.proofs.unreadable.class_word_at_special.Goals as goal
-
-pub returns : goal.returns
-returns c weak = IsRefused-with_no_special _ Little weak refl refl refl

@@ -1,5 +1,0 @@
-use Rattle.std.proofs.Common.{inl, refl}
-use Rattle.sqz_examples.proofs.unreadable.cut_in_data.Goals as goal
-
-pub returns : goal.returns
-returns c weak = inl (inl refl)

@@ -1,8 +1,0 @@
-use Rattle.std.proofs.Common.{refl}
-use Rattle.sqz_object.specs.declared.order.Order.TheVariants.{Little}
-use Rattle.sqz_trace.specs.declared.weak.Weak.TheVariants.{Clear}
-use Rattle.sqz_examples.proofs.WorkedImages.{IsRefused-without_nil}
-use Rattle.sqz_examples.proofs.weak_slots.weak_special_array.Goals as goal
-
-pub returns : goal.returns
-returns c = IsRefused-without_nil _ Little Clear refl refl refl refl

@@ -1,0 +1,10 @@
+use Rattle.std.proofs.Common.{[], ◌∷◌, Some, None, refl}
+use Rattle.sqz_object.specs.declared.order.Order.TheVariants.{Big}
+use Rattle.sqz_trace.specs.declared.weak.Weak.TheVariants.{Keep}
+use Rattle.sqz_test_examples.proofs.WorkedImages.{CompactsTo-computed}
+use Rattle.sqz_test_examples.proofs.compacted.big_endian_bytes.Goals as goal
+
+pub returns : goal.returns
+returns c =
+    CompactsTo-computed Keep _ Big _ ((Some (0 ∷ [])) ∷ None ∷ (Some (3 ∷ 2 ∷ [])) ∷ (Some (3 ∷ [])) ∷ (Some []) ∷ [])
+    refl refl refl refl refl refl

@@ -1,0 +1,9 @@
+use Rattle.std.proofs.Common.{[], ◌∷◌, Some, None, refl}
+use Rattle.sqz_object.specs.declared.order.Order.TheVariants.{Little}
+use Rattle.sqz_trace.specs.declared.weak.Weak.TheVariants.{Keep}
+use Rattle.sqz_test_examples.proofs.WorkedImages.{IsRefused-for_defect}
+use Rattle.sqz_test_examples.proofs.defects.no_class.Goals as goal
+
+pub returns : goal.returns
+returns c =
+    IsRefused-for_defect Keep _ Little _ (None ∷ (Some []) ∷ (Some (2 ∷ [])) ∷ []) refl refl refl refl refl

@@ -1,0 +1,10 @@
+use Rattle.std.proofs.Common.{[], ◌∷◌, Some, None, refl}
+use Rattle.sqz_object.specs.declared.order.Order.TheVariants.{Little}
+use Rattle.sqz_trace.specs.declared.weak.Weak.TheVariants.{Keep}
+use Rattle.sqz_test_examples.proofs.WorkedImages.{CompactsTo-computed}
+use Rattle.sqz_test_examples.proofs.prefixes.version_at_both.Goals as goal
+
+pub returns : goal.returns
+returns c =
+    CompactsTo-computed Keep _ Little _ ((Some (0 ∷ [])) ∷ None ∷ (Some []) ∷ [])
+    refl refl refl refl refl refl

@@ -1,0 +1,5 @@
+use Rattle.std.proofs.Common.{inl, refl}
+use Rattle.sqz_test_examples.proofs.unreadable.cut_in_header.Goals as goal
+
+pub returns : goal.returns
+returns c weak = inl (inl refl)

@@ -1,0 +1,10 @@
+use Rattle.std.proofs.Common.{[], ◌∷◌, refl}
+use Rattle.sqz_object.specs.declared.order.Order.TheVariants.{Little}
+use Rattle.sqz_object.specs.declared.chunk.ChunkFault.TheVariants.{HeaderMismatch}
+use Rattle.sqz_test_examples.proofs.WorkedImages.{IsRefused-at_chunk}
+use Rattle.sqz_test_examples.proofs.unreadable.mixed_before_size.Goals as goal
+
+pub returns : goal.returns
+returns c weak =
+    IsRefused-at_chunk weak _ Little ((0x1007 ∷ []) ∷ []) 0 (0x1000 ∷ 0x203 ∷ []) HeaderMismatch
+    refl refl refl

@@ -1,0 +1,9 @@
+use Rattle.std.proofs.Common.{[], ◌∷◌, Some, refl}
+use Rattle.sqz_object.specs.declared.order.Order.TheVariants.{Little}
+use Rattle.sqz_trace.specs.declared.weak.Weak.TheVariants.{Keep}
+use Rattle.sqz_test_examples.proofs.WorkedImages.{IsRefused-for_defect}
+use Rattle.sqz_test_examples.proofs.weak_slots.no_class_where_weak_slots_are_kept.Goals as goal
+
+pub returns : goal.returns
+returns c =
+    IsRefused-for_defect Keep _ Little _ ((Some (0 ∷ [])) ∷ (Some []) ∷ []) refl refl refl refl refl
