@@ -1,1 +1,1 @@
-"""Measures the programs, and counts what the repository holds."""
+"""Measures the programs, counts what the repository holds, and draws a picture for docs/."""

@@ -5,8 +5,8 @@ Usage: python3 -m bench.stages [--part PART] [--mib N] [--runs N] [--workers N .
                                [--beside PROGRAM]
 
 The image is a part of `bench/images`, `mixed` if none is named; with `--swapped` it is big-endian.
-The numbers are milliseconds, each the median of 3 N runs, since `sqz_dev_stage_times` makes three at a
-time. Copies by `cp` alternate with the runs.
+The numbers are milliseconds, each the median of 3 N runs, since `sqz_dev_stage_times` makes three
+at a time. Copies by `cp` alternate with the runs.
 
 With `--beside` the program of another checkout that times stages makes runs over the same image,
 and has a row below each of this one's. The two take turns in going first, so that noise of the

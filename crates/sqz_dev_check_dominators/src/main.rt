@@ -1,10 +1,10 @@
-//! The program `sqz_dev_check_dominators FILE...`: compares the immediate dominator of each object of
-//! images, and what it retains, with those that a brute force finds, with weak slots kept and
+//! The program `sqz_dev_check_dominators FILE...`: compares the immediate dominator of each object
+//! of images, and what it retains, with those that a brute force finds, with weak slots kept and
 //! cleared. It prints how many objects each image has, and ends with exit code 1 at the first
 //! difference.
 //!
-//! `sqz_dev_check_dominators --retained ADDRESS FILE` prints what one object retains, without the brute
-//! force.
+//! `sqz_dev_check_dominators --retained ADDRESS FILE` prints what one object retains, without the
+//! brute force.
 #![tactic(auto)]
 
 mod brute_force;

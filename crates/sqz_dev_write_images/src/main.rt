@@ -1,6 +1,6 @@
-//! The program `sqz_dev_write_images FOLDER`: writes the worked images of `sqz_test_fixtures`, and what
-//! becomes of each, into the folders `accepted`, `unreadable`, `defects` and `weak` of a folder.
-//! They exist already, since the library makes none.
+//! The program `sqz_dev_write_images FOLDER`: writes the worked images of `sqz_test_fixtures`, and
+//! what becomes of each, into the folders `accepted`, `unreadable`, `defects` and `weak` of a
+//! folder. They exist already, since the library makes none.
 #![tactic(auto)]
 
 use anyhow::Result;

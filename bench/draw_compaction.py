@@ -1,6 +1,6 @@
 """Draws a small image and what it is compacted to, word by word, as an SVG on standard output.
 
-Usage: python3 -m docs.draw_compaction [IN OUT] >docs/compaction.svg
+Usage: python3 -m bench.draw_compaction [IN OUT] >docs/compaction.svg
 
 If no image is named, it has nil, a dead array, two free words, and the special objects array.
 """
@@ -9,16 +9,17 @@ import array
 import pathlib
 import sys
 
-from tests.reference.file_format import image_file
+from tests.reference.fields import SpecialField
+from tests.reference.file_format import BASE, image_file
 from tests.reference.image import Image
 from tests.reference.objects import traced_end
 
-# The place of the first word, and a word's width and height; the tops of the two rows; and the picture's height.
+# The place of the first word, and a word's width and height; the tops of the two rows; and the
+# picture's height.
 LEFT, WIDE, HIGH = 70, 80, 34
 TOPS = (74, 214)
 HEIGHT = 320
-# The example's base, and its data words.
-BASE = 0x1000
+# The data words of the example.
 WORDS = (0x1007, 0x320F, 1, 1, 0xA, 0, 0x320B, BASE)
 # On a page of any colour the picture has its own, which is white.
 PAGE, TEXT, LIVE, DEAD, MOVE = "#ffffff", "#24292f", "#0550ae", "#57606a", "#9a4a00"
@@ -45,16 +46,21 @@ def label(image, number, is_live):
     """What an object is called."""
     if number == image.special:
         return "special objects"
-    return "nil" if number == image.field(image.special, 0) else "array" if is_live else "dead array"
+    if number == image.field(image.special, SpecialField.NIL):
+        return "nil"
+    return "array" if is_live else "dead array"
 
 
 def draw_box(first, end, top, colour, opacity, words):
-    """A box around the words from one up to another, and what stands below it. What is to go has a border of dashes."""
+    """A box around the words from one up to another, and what stands below it.
+
+    What is to go has a border of dashes."""
+    left, width = LEFT + WIDE * first + 2, WIDE * (end - first) - 4
     dashes = "" if colour == LIVE else ' stroke-dasharray="5 4"'
+    below = words_at(LEFT + WIDE * (first + end) // 2, top + HIGH + 17, words, fill=colour)
     return (
-        f'<rect x="{LEFT + WIDE * first + 2}" y="{top}" width="{WIDE * (end - first) - 4}" height="{HIGH}" rx="4" '
-        f'fill="{colour}" fill-opacity="{opacity}" stroke="{colour}"{dashes}/>'
-        + words_at(LEFT + WIDE * (first + end) // 2, top + HIGH + 17, words, fill=colour)
+        f'<rect x="{left}" y="{top}" width="{width}" height="{HIGH}" rx="4" '
+        f'fill="{colour}" fill-opacity="{opacity}" stroke="{colour}"{dashes}/>{below}'
     )
 
 
@@ -68,28 +74,27 @@ def draw_free(image, top):
 
 def draw_object(image, number, is_live, top):
     """The words of an object, their addresses, and what it is called."""
-    it = image.objects[number]
-    yield draw_box(it.first, it.end, top, LIVE if is_live else DEAD, 0.15, label(image, number, is_live))
+    it, colour = image.objects[number], LIVE if is_live else DEAD
+    yield draw_box(it.first, it.end, top, colour, 0.15, label(image, number, is_live))
     for place in range(it.first, it.end):
         yield words_at(middle(place), top + 22, shown(image, it, place))
         yield words_at(LEFT + WIDE * place + 4, top - 6, f"{image.base + 4 * place:X}", "start")
 
 
 def arc(image, pointer, top):
-    """An arrow from a field to the object that it points to, above the words of the first row and below those of the second."""
+    """An arrow from a field to the object that it points to, above the words of the first row and
+    below those of the second."""
     begin, end = middle(pointer.place) + 24, middle(image.objects[pointer.target].first) + 28
     edge, far = (top - 3, top - 56) if top == TOPS[0] else (top + HIGH + 3, top + HIGH + 72)
-    return (
-        f'<path d="M{begin} {edge} C{begin} {far} {end} {far} {end} {edge}" fill="none" stroke="{LIVE}" '
-        f'marker-end="url(#live)"/>'
-    )
+    curve = f"M{begin} {edge} C{begin} {far} {end} {far} {end} {edge}"
+    return f'<path d="{curve}" fill="none" stroke="{LIVE}" marker-end="url(#live)"/>'
 
 
 def arrow(begin, end):
     """An arrow from an object's old place to its new one."""
+    line = f"M{begin} {TOPS[0] + HIGH + 26} L{end} {TOPS[1] - 24}"
     return (
-        f'<path d="M{begin} {TOPS[0] + HIGH + 26} L{end} {TOPS[1] - 24}" fill="none" stroke="{MOVE}" stroke-width="2" '
-        f'marker-end="url(#move)"/>'
+        f'<path d="{line}" fill="none" stroke="{MOVE}" stroke-width="2" marker-end="url(#move)"/>'
     )
 
 
@@ -97,8 +102,20 @@ def head_of(name, colour):
     """The head of arrows of this colour."""
     return (
         f'<marker id="{name}" viewBox="0 0 8 8" refX="7" refY="4" markerWidth="8" markerHeight="8" '
-        f'markerUnits="userSpaceOnUse" orient="auto"><path d="M0 0 L8 4 L0 8 z" fill="{colour}"/></marker>'
+        f'markerUnits="userSpaceOnUse" orient="auto"><path d="M0 0 L8 4 L0 8 z" fill="{colour}"/>'
+        f"</marker>"
     )
+
+
+def draw_row(image, live, top, name):
+    """The words of an image, its objects, and the pointers of live ones."""
+    yield words_at(LEFT - 12, top + 22, name, "end")
+    yield from draw_free(image, top)
+    for number in range(len(image.objects)):
+        yield from draw_object(image, number, live[number], top)
+    for pointer in image.pointers:
+        if live[pointer.owner]:
+            yield arc(image, pointer, top)
 
 
 def draw(before, after):
@@ -106,20 +123,14 @@ def draw(before, after):
     width = LEFT + WIDE * len(before.words) + 10
     live = before.live()
     yield (
-        f'<svg xmlns="http://www.w3.org/2000/svg" viewBox="0 0 {width} {HEIGHT}" width="{width}" height="{HEIGHT}" '
-        f'font-family="sans-serif" font-size="13">'
+        f'<svg xmlns="http://www.w3.org/2000/svg" viewBox="0 0 {width} {HEIGHT}" width="{width}" '
+        f'height="{HEIGHT}" font-family="sans-serif" font-size="13">'
     )
     yield "<title>An image and what it is compacted to</title>"
     yield f'<rect width="{width}" height="{HEIGHT}" rx="8" fill="{PAGE}"/>'
     yield f"<defs>{head_of('live', LIVE)}{head_of('move', MOVE)}</defs>"
-    for image, alive, top, name in ((before, live, TOPS[0], "before"), (after, after.live(), TOPS[1], "after")):
-        yield words_at(LEFT - 12, top + 22, name, "end")
-        yield from draw_free(image, top)
-        for number in range(len(image.objects)):
-            yield from draw_object(image, number, alive[number], top)
-        for pointer in image.pointers:
-            if alive[pointer.owner]:
-                yield arc(image, pointer, top)
+    yield from draw_row(before, live, TOPS[0], "before")
+    yield from draw_row(after, after.live(), TOPS[1], "after")
     moved = [it for it, is_live in zip(before.objects, live) if is_live]
     for old, new in zip(moved, after.objects):
         yield arrow(*(LEFT + WIDE * (it.first + it.end) // 2 for it in (old, new)))
@@ -129,7 +140,7 @@ def draw(before, after):
 def main():
     files = [pathlib.Path(path).read_bytes() for path in sys.argv[1:3]]
     if not files:
-        files = [image_file(array.array("I", WORDS), BASE + 4 * (len(WORDS) - 2), base=BASE)]
+        files = [image_file(array.array("I", WORDS), BASE + 4 * (len(WORDS) - 2))]
     images = [Image.read(file)[0] for file in files]
     print("\n".join(draw(images[0], images[1] if len(images) > 1 else images[0].compacted())))
 

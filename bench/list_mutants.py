@@ -1,9 +1,10 @@
 #!/usr/bin/env python3
 """Lists the mutants of each crate: what each one does, and the file that it changes.
 
-Usage: docs/list_mutants.py [CRATE ...]
+Usage: bench/list_mutants.py [CRATE ...]
 
-A mutant is an edit in crates/CRATE/must-fail/. Its name without the number in front is its sentence."""
+A mutant is an edit in crates/CRATE/must-fail/. Its name without the number before it is its
+sentence."""
 
 import pathlib
 import re
