@@ -1,7 +1,7 @@
 -- What the words of a chunk say about it, and when no chunk begins with some words.
 -- Serves `chunk::chunk_in`, `chunk::known_chunk` and `PartitionLemmas`; `CutLemmas`, `HeapLemmas`,
 -- `IndexLemmas` and `ObjectLemmas` of `sqz_image`; `ShapeLemmas` of `sqz_trace`; `LengthLemmas`,
--- `MovedShapeLemmas` and `SettledLemmas` of `sqz_slide`; `WorkedImages` of `sqz_examples`.
+-- `MovedShapeLemmas` and `SettledLemmas` of `sqz_slide`; `WorkedImages` of `sqz_test_examples`.
 use Rattle.std.proofs.Common.{◌≡◌, ℕ, zero, suc, ◌+◌, ◌-◌, ◌/◌, ◌%◌, ◌<◌, ◌≤◌, ◌⊎◌, Bool, true, false, not, ◌&&◌, cond}
 use Rattle.std.proofs.Common.{eqb, ltb}
 use Rattle.std.proofs.Common.{List, ◌∷◌, ◌++◌, length, take, drop, slice_index, Option, Some, None}

@@ -8,11 +8,11 @@ ghost use Rattle.sqz_regions.specs.Bases.{AreSums};
 
 use super::steps::{assert_closed, assert_dead_cycle, new_cut};
 use super::targets::mark_targets;
-use sqz_fixtures::accepted::DEAD_CYCLE;
-use sqz_fixtures::image_of;
 use sqz_image::{Fault, Heap};
 use sqz_marks::{Closed, MarkTable, Workers};
 use sqz_regions::{Cut, Regions};
+use sqz_test_fixtures::accepted::DEAD_CYCLE;
+use sqz_test_fixtures::image_of;
 use sqz_trace::Weak;
 use std::alloc::Global;
 use std::process::Abort;

@@ -1,5 +1,5 @@
 -- The objects of a compacted image are the marked objects of the image, moved.
--- Serves `laws::keeps_objects`; `moved_objects::dead_cycle` of `sqz_examples`.
+-- Serves `laws::keeps_objects`; `moved_objects::dead_cycle` of `sqz_test_examples`.
 use Rattle.std.proofs.Common.{◌≡◌, ◌↔◌, ℕ, ◌%◌, ◌<◌, Bool, true, false, List, length, take, ap, subst, ◌∙◌, arith, inl, inr, None}
 use Rattle.std.specs.List.{AllByRecursion}
 use Rattle.std.proofs.lemmas.Bool.{cases_lt}
