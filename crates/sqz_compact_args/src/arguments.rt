@@ -71,7 +71,7 @@ fn command<'a>(alloc: Global) -> Result<Command<'a>, AllocError>
     Command::new(alloc, "sqzcompact")
         .version("1.0.0")
         .about("Write a Squeak image without its garbage")
-        .arg(required(alloc, "IN", "The image to read; may be /dev/stdin"))?
+        .arg(required(alloc, "IN", "The image to read"))?
         .arg(required(
             alloc,
             "OUT",

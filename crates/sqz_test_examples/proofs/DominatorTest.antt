@@ -113,7 +113,7 @@ module _ (memory : Memory) (weak : Weak) (start : ℕ) where
       is_one_or_marked one without start && is_closed_from memory weak (is_one_or_marked one without) without (objects memory)
 
   -- a path from a marked object contains the one, or leads to a marked object
-  on_or_marked : (one : ℕ) (without : List Bool)
+  pub on_or_marked : (one : ℕ) (without : List Bool)
       → is_closed_from memory weak (is_one_or_marked one without) without (objects memory) ≡ true → (from : ℕ) (path : List ℕ)
       (goal : ℕ) → is_marked without from ≡ true → Leads (graph_from start memory weak) from path goal
       → Contains path one ⊎ (is_marked without goal ≡ true)

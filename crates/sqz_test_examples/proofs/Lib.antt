@@ -1,5 +1,6 @@
 pub mod RunTest
 pub mod TracingTest
+pub mod PathTest
 pub mod WorkedImages
 pub mod DominatorTest
 pub mod RetainedTest

@@ -4,10 +4,12 @@
 //! is counted in objects and bytes. Object 0 is nil, and only the special objects array, the last
 //! object, points to it.
 
-ghost use Rattle.std.specs.Prelude.{[], ◌∷◌, Some, None};
+ghost use Rattle.std.specs.Prelude.{true, false, [], ◌∷◌, Some, None};
 ghost use Rattle.sqz_trace.specs.declared.weak.Weak.TheVariants.{Keep, Clear};
 ghost use Rattle.sqz_trace.specs.Reachability.{graph_from};
 ghost use Rattle.sqz_dominators.specs.Dominators.{AreImmediate};
+ghost use Rattle.sqz_trace.specs.Avoiding.{IsReachabilityWithout};
+ghost use Rattle.sqz_dominators.specs.Children.{AreChildren};
 ghost use Rattle.sqz_dominators.specs.Retained.{IsRetained, nothing};
 ghost use Rattle.sqz_test_examples.specs.DeadCycle.{dead_cycle};
 ghost use Rattle.sqz_test_examples.specs.Shapes.{diamond, chain, cycle_with_two_entries, root_in_cycle};
@@ -65,4 +67,27 @@ fn target_of_a_weak_slot()
         (Some 4 ∷ Some 3 ∷ None ∷ Some 4 ∷ None ∷ []) }
     ensures retained_if_cleared { IsRetained weak_fields (graph_from 4 weak_fields Clear) 3
         record { objects = 2; bytes = 28 } }
+{}
+
+/// The children of the objects of the chain. Of two children, the one that retains more comes first.
+fn children_in_a_chain()
+    ensures { AreChildren record {
+          immediate = Some 4 ∷ Some 4 ∷ Some 1 ∷ Some 2 ∷ None ∷ [];
+          retained = record { objects = 1; bytes = 4 } ∷ record { objects = 3; bytes = 24 } ∷ record {
+            objects = 2;
+            bytes = 16;
+          } ∷ record { objects = 1; bytes = 8 } ∷ record { objects = 5; bytes = 40 } ∷ [];
+        } (record { parent = 1; object = 2 } ∷ record { parent = 2; object = 3 } ∷ record { parent =
+        4; object = 1 } ∷ record { parent = 4; object = 0 } ∷ []) }
+{}
+
+/// Without object 1, only nil and the special objects array are reachable. Without the special
+/// objects array nothing is.
+fn reachable_without_an_object()
+    ensures one { IsReachabilityWithout dead_cycle Keep
+        (false ∷ true ∷ false ∷ false ∷ false ∷ false ∷ [])
+        (true ∷ false ∷ false ∷ false ∷ false ∷ true ∷ []) }
+    ensures start { IsReachabilityWithout dead_cycle Keep
+        (false ∷ false ∷ false ∷ false ∷ false ∷ true ∷ [])
+        (false ∷ false ∷ false ∷ false ∷ false ∷ false ∷ []) }
 {}

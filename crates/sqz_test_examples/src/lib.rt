@@ -5,6 +5,7 @@
 mod compacted;
 mod defects;
 mod dominators;
+mod facts;
 mod marking;
 mod memories;
 mod moved_objects;

@@ -20,5 +20,5 @@ pub returns-clause-other_slot : goal.returns-clause-other_slot
 returns-clause-other_slot c = λ shortest.
     let start : 5 ≡ shortest.start = same_Some _ _ shortest.is_special in
     let named : Some 0 ≡ Some 1 =
-    subst (λ (from : ℕ). strong_target dead_cycle Keep from (Field 0) ≡ Some 1) (sym start) shortest.by_slots.0 in
+    subst (λ (from : ℕ). strong_target dead_cycle Keep from (Field 0) ≡ Some 1) (sym start) shortest.by_slots.0.names in
     absurd (omega (arith, same_Some _ _ named))

@@ -1,8 +1,11 @@
 use Rattle.std.proofs.Common.{◌≡◌, ℕ, ◌≤◌, true, false, not, eqb, List, [], ◌∷◌, length, refl, subst, arith, rules}
 use Rattle.sqz_trace.specs.declared.weak.Weak.TheVariants.{Keep}
+use Rattle.sqz_image.specs.declared.slot.Slot.TheVariants.{ClassWord, Field}
+use Rattle.sqz_trace.specs.Edges.{out_edges}
 use Rattle.sqz_trace.specs.Graph.{Leads}
 use Rattle.sqz_trace.specs.Reachability.{graph_from}
 use Rattle.sqz_test_examples.specs.ClassEdge.{class_edge}
+use Rattle.sqz_test_examples.proofs.PathTest.{IsFirstSlotTo-computed}
 use Rattle.sqz_test_examples.proofs.TracingTest.{has_edge-true, targets_pass}
 use Rattle.sqz_test_examples.proofs.questions.path_by_a_class_word.Goals as goal
 
@@ -21,6 +24,9 @@ returns c =
       is_special = refl;
       inside = search rules;
       leads = (has_edge-true class_edge Keep 4 3 refl, (has_edge-true class_edge Keep 3 2 refl, refl));
-      by_slots = (refl, (refl, refl));
+      by_slots = (
+        IsFirstSlotTo-computed (out_edges class_edge Keep 4) 3 (Field 1) (ClassWord ∷ Field 0 ∷ []) [] refl refl refl,
+        (IsFirstSlotTo-computed (out_edges class_edge Keep 3) 2 ClassWord [] (Field 0 ∷ []) refl refl refl, refl),
+      );
       shortest = two_at_least;
     }

@@ -1,9 +1,12 @@
 use Rattle.std.proofs.Common.{◌≡◌, ℕ, ◌≤◌, true, false, not, eqb, List, [], ◌∷◌, length}
 use Rattle.std.proofs.Common.{Option, Some, None, refl, subst, arith, rules}
 use Rattle.sqz_trace.specs.declared.weak.Weak.TheVariants.{Keep}
+use Rattle.sqz_image.specs.declared.slot.Slot.TheVariants.{ClassWord, Field}
+use Rattle.sqz_trace.specs.Edges.{out_edges}
 use Rattle.sqz_trace.specs.Graph.{Leads}
 use Rattle.sqz_trace.specs.Reachability.{graph_from}
 use Rattle.sqz_test_examples.specs.DeadCycle.{dead_cycle}
+use Rattle.sqz_test_examples.proofs.PathTest.{IsFirstSlotTo-computed}
 use Rattle.sqz_test_examples.proofs.TracingTest.{has_edge-true, is_tracing-true, targets_pass}
 use Rattle.sqz_test_examples.proofs.questions.paths_of_a_cycle.Goals as goal
 
@@ -25,7 +28,10 @@ returns-clause-into c =
       is_special = refl;
       inside = search rules;
       leads = (has_edge-true dead_cycle Keep 5 1 refl, (has_edge-true dead_cycle Keep 1 3 refl, refl));
-      by_slots = (refl, (refl, refl));
+      by_slots = (
+        IsFirstSlotTo-computed (out_edges dead_cycle Keep 5) 1 (Field 1) (ClassWord ∷ Field 0 ∷ []) [] refl refl refl,
+        (IsFirstSlotTo-computed (out_edges dead_cycle Keep 1) 3 (Field 0) (ClassWord ∷ []) [] refl refl refl, refl),
+      );
       shortest = two_at_least;
     }
 
