@@ -72,13 +72,16 @@ fn target_of_a_weak_slot()
 /// The children of the objects of the chain. Of two children, the one that retains more comes first.
 fn children_in_a_chain()
     ensures { AreChildren record {
-          immediate = Some 4 ∷ Some 4 ∷ Some 1 ∷ Some 2 ∷ None ∷ [];
-          retained = record { objects = 1; bytes = 4 } ∷ record { objects = 3; bytes = 24 } ∷ record {
-            objects = 2;
-            bytes = 16;
-          } ∷ record { objects = 1; bytes = 8 } ∷ record { objects = 5; bytes = 40 } ∷ [];
-        } (record { parent = 1; object = 2 } ∷ record { parent = 2; object = 3 } ∷ record { parent =
-        4; object = 1 } ∷ record { parent = 4; object = 0 } ∷ []) }
+      immediate = Some 4 ∷ Some 4 ∷ Some 1 ∷ Some 2 ∷ None ∷ [];
+      retained = record { objects = 1; bytes = 4 } ∷ record { objects = 3; bytes = 24 } ∷ record {
+        objects = 2;
+        bytes = 16;
+      } ∷ record { objects = 1; bytes = 8 } ∷ record { objects = 5; bytes = 40 } ∷ [];
+    } (record { parent = 1; object = 2 } ∷ record { parent = 2; object = 3 } ∷ record {
+      parent =
+          4;
+      object = 1;
+    } ∷ record { parent = 4; object = 0 } ∷ []) }
 {}
 
 /// Without object 1, only nil and the special objects array are reachable. Without the special

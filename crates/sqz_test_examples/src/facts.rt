@@ -45,6 +45,9 @@ fn dead_objects()
 /// Each group has twelve bytes. On a tie, classes come first, and then compact indexes ascend.
 fn histogram_of_classes()
     ensures { IsHistogram class_edge Keep class_edge_marks
-        (record { group = Class 2; count = 1; bytes = 12 } ∷ record { group = Compact 1; count = 2;
-        bytes = 12 } ∷ record { group = Compact 3; count = 1; bytes = 12 } ∷ []) }
+        (record { group = Class 2; count = 1; bytes = 12 } ∷ record {
+          group = Compact 1;
+          count = 2;
+          bytes = 12;
+        } ∷ record { group = Compact 3; count = 1; bytes = 12 } ∷ []) }
 {}
