@@ -3,6 +3,8 @@ first."""
 
 import os
 import re
+import shutil
+import sys
 
 from tests.harness.outcomes import SUCCESS, Outcome
 from tests.harness.programs import ROOT, run
@@ -96,6 +98,21 @@ class LaunchersTest(DeadArrayTest):
         self.put_old()
         self.assert_rejected(run(ROOT / "sqzcompact", ["in", "out"], folder=self.folder), it.fault)
         self.assert_untouched()
+
+    def test_build_needs_the_toolchain(self):
+        for name in ("build", "crates.txt", "sqzcompact"):
+            shutil.copy2(ROOT / name, self.folder)
+        path = self.folder / "bin"
+        path.mkdir()
+        (path / "python3").symlink_to(sys.executable)
+        for name in ("bash", "basename", "dirname", "readlink"):
+            (path / name).symlink_to(shutil.which(name))
+        words = ["in", "out"]
+        outcome = run(
+            self.folder / "sqzcompact", words, env={"PATH": str(path)}, folder=self.folder
+        )
+        line = b"build: rt not found; see Install in README.md\n"
+        self.assert_ends(outcome, Outcome(70, stderr=line))
 
     def test_sqzlook_tells_its_version(self):
         outcome = run(ROOT / "sqzlook", ["--version"], folder=self.folder)

@@ -8,6 +8,19 @@ pub(crate) fn print_refused<R: Print>(rt: &R, name: &str) -> Result<(), Fail> {
     Ok(())
 }
 
+/// What a test itself asks memory for. After an allocation failure, it says so and asks again.
+macro_rules! own {
+    ($rt:expr, $made:expr) => {
+        match $made {
+            Err(_) => {
+                println!($rt; "the test asks again")?;
+                $made?
+            }
+            Ok(made) => made,
+        }
+    };
+}
+
 /// What a call returns, as the result of a function. If it runs out of memory, its name is printed
 /// and it is made again, with the same arguments.
 macro_rules! again {
@@ -22,4 +35,4 @@ macro_rules! again {
     };
 }
 
-pub(crate) use again;
+pub(crate) use {again, own};

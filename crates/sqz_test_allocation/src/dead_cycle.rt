@@ -3,10 +3,9 @@
 ghost use Rattle.std.specs.Prelude.{◌≡◌, IfOk};
 ghost use Rattle.sqz_image.specs.Objects.{object_count};
 
-use super::again::again;
+use super::again::{again, own};
 use sqz_image::{Fault, Heap, Image, MemorySink, read_image};
 use sqz_regions::{Cut, Regions};
-use std::alloc::Global;
 use std::process::Abort;
 use std::test::Fail;
 
@@ -28,12 +27,8 @@ pub(crate) fn new_sink<R: Print + AllocGlobal>(rt: &R) -> Result<MemorySink, Fai
 }
 
 /// The cut before the data words 1 and 3.
-pub(crate) fn new_cut(alloc: Global) -> Result<Cut, Fail> {
-    let points = match [1, 3].to_vec(alloc) {
-        Ok(points) => points,
-        Err(_) => [1, 3].to_vec(alloc)?,
-    };
-    Ok(Cut::at(points)?)
+pub(crate) fn new_cut<R: Print + AllocGlobal>(rt: &R) -> Result<Cut, Fail> {
+    Ok(Cut::at(own!(rt, [1, 3].to_vec(rt.alloc())))?)
 }
 
 /// The regions of a heap under a cut.

@@ -1,6 +1,6 @@
 //! A whole run, under allocation failures.
 
-use super::again::print_refused;
+use super::again::{own, print_refused};
 use super::dead_cycle::{new_cut, new_sink};
 use super::rows::{DEAD_CYCLE, ROWS, Row};
 use sqz_image::{Fault, MemorySink, MemorySource, ReadSource};
@@ -9,7 +9,6 @@ use sqz_regions::Cut;
 use sqz_tool::{Plan, Summary, run};
 use sqz_trace::Weak;
 use sqz_workers::OpenGate;
-use std::alloc::{AllocError, Global};
 use std::process::Abort;
 use std::test::Fail;
 use std::thread::Threads;
@@ -75,7 +74,7 @@ fn run_serves_again(rt: HostRuntime) -> Result<(), Fail> {
     for weak in [Weak::Keep, Weak::Clear] {
         let plan = Plan {
             workers: Workers::new(2)?,
-            cut: new_cut(rt.alloc())?,
+            cut: new_cut(&rt)?,
             weak,
             census: true,
         };
@@ -93,18 +92,10 @@ struct Devices {
     report: MemorySink,
 }
 
-/// The bytes of a file. After an allocation failure, memory is asked for again.
-fn copy_of(alloc: Global, file: &[u8]) -> Result<Vec<u8>, AllocError> {
-    match Vec::from_slice(alloc, file) {
-        Ok(copy) => Ok(copy),
-        Err(_) => Vec::from_slice(alloc, file),
-    }
-}
-
 /// Devices that do not fail, over an image's file.
 fn new_devices<R: Print + AllocGlobal>(rt: &R, file: &[u8]) -> Result<Devices, Fail> {
     Ok(Devices {
-        source: MemorySource::new(copy_of(rt.alloc(), file)?, 40, None),
+        source: MemorySource::new(own!(rt, Vec::from_slice(rt.alloc(), file)), 40, None),
         sink: new_sink(rt)?,
         report: new_sink(rt)?,
     })

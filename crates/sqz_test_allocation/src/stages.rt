@@ -344,5 +344,5 @@ fn stages_serve_again(rt: HostRuntime) -> Result<(), Fail> {
     let image = image_in(&rt, DEAD_CYCLE.file)?;
     let heap = image.heap();
     assert_six_objects(&rt, heap);
-    assert_each_policy(&rt, heap, &new_cut(rt.alloc())?)
+    assert_each_policy(&rt, heap, &new_cut(&rt)?)
 }

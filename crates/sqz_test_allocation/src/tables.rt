@@ -86,5 +86,5 @@ fn mark_table_serves_again(rt: HostRuntime) -> Result<(), Fail> {
     let image = image_in(&rt, DEAD_CYCLE.file)?;
     let heap = image.heap();
     assert_six_objects(&rt, heap);
-    assert_table(&rt, heap, &new_cut(rt.alloc())?)
+    assert_table(&rt, heap, &new_cut(&rt)?)
 }
