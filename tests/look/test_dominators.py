@@ -1,25 +1,41 @@
 """Compares the dominators in images with a brute force.
 
-`sqz_dev_check_dominators` compares them, with weak slots kept and cleared. The images are those of
-images/, and `COUNT` random ones that `SQZ_SEED` chooses."""
+`sqz_dev_check_dominators` compares them, with weak slots kept and cleared, from passes alone and
+from a candidate, which the check must accept. The images are those of images/, `COUNT` random ones
+and `GRAPHS` images of small graphs that `SQZ_SEED` chooses."""
 
+import random
 import unittest
 
 from tests.harness.outcomes import Outcome
 from tests.harness.program_checks import ProgramTest
 from tests.harness.programs import build, program_path
 from tests.harness.worked_images import readable_paths, unreadable_paths
+from tests.making.graph_shapes import SHAPES, graph_file, list_with_both_ends
 from tests.making.random_images import random_files
+from tests.making.seed import SEED
+from tests.reference.file_format import BASE
 from tests.reference.image import Image
 
 CHECK_DOMINATORS = program_path("sqz_dev_check_dominators")
 COUNT = 100
+# The images of small graphs, and how many of them a process compares.
+GRAPHS = 4200
+GRAPHS_AT_ONCE = 300
+# The address of the first node of such an image.
+FIRST = BASE + 4
+# The nodes of a list that a few passes settle, and of one for which passes take minutes.
+SHORT, LONG = 8, 300_000
 
 
 def objects_line(file):
     """What the program prints about the image of a file that has no difference."""
     image, _ = Image.read(file)
-    return f"{len(image.objects)} objects"
+    return line_of(len(image.objects))
+
+
+def line_of(count):
+    return f"{count} objects, 2 of 2 trees certified"
 
 
 class DominatorsTest(ProgramTest):
@@ -48,6 +64,27 @@ class DominatorsTest(ProgramTest):
             with self.subTest(name):
                 self.write("in", file)
                 self.check_image("in", objects_line(file))
+
+    def test_graphs(self):
+        generator = random.Random(SEED)
+        for start in range(0, GRAPHS, GRAPHS_AT_ONCE):
+            lines = []
+            for number in range(GRAPHS_AT_ONCE):
+                shape = SHAPES[number % len(SHAPES)](generator)
+                self.write(f"{number}", graph_file(shape))
+                lines.append(f"{number}: {line_of(len(shape.successors) + 2)}\n")
+            with self.subTest(start=start):
+                outcome = self.run_here(CHECK_DOMINATORS, *map(str, range(GRAPHS_AT_ONCE)))
+                self.assert_ends(outcome, Outcome(0, stdout="".join(lines).encode()))
+
+    def test_doubly_linked_lists(self):
+        """Passes settle a short list. For a long one a candidate is made in time."""
+        for count, way in ((SHORT, "Settled"), (LONG, "Certified")):
+            with self.subTest(count=count):
+                self.write("in", graph_file(list_with_both_ends(count)))
+                outcome = self.run_here(CHECK_DOMINATORS, "--retained", f"{FIRST:x}", "in")
+                line = f"1 objects, 8 bytes, {way}\n"
+                self.assert_ends(outcome, Outcome(0, stdout=line.encode()))
 
 
 class RandomImagesTest(unittest.TestCase):

@@ -1,7 +1,8 @@
-//! The program `sqz_dev_check_dominators FILE...`: compares the immediate dominator of each object
-//! of images, and what it retains, with those that a brute force finds, with weak slots kept and
-//! cleared. It prints how many objects each image has, and ends with exit code 1 at the first
-//! difference.
+//! The program `sqz_dev_check_dominators FILE...`: compares the immediate dominator of each object of
+//! images, and what it retains, with those that a brute force finds: with weak slots kept and
+//! cleared, from passes alone and from a candidate. It prints how many objects each image has, and
+//! for how many of its two trees the check accepted the candidate. It ends with exit code 1 at the
+//! first difference.
 //!
 //! `sqz_dev_check_dominators --retained ADDRESS FILE` prints what one object retains, without the
 //! brute force.
@@ -11,9 +12,9 @@ mod brute_force;
 mod difference;
 
 use anyhow::Result;
-use difference::{Difference, first_difference};
-use sqz_image::{Fault, Image, ReadSource, image_of_file, read_all};
+use difference::compare;
 use sqz_dominators::dominators_of;
+use sqz_image::{Fault, Image, ReadSource, image_of_file, read_all};
 use sqz_trace::Weak;
 use std::alloc::Global;
 use std::env;
@@ -34,28 +35,23 @@ fn image_in<R: Files>(rt: &R, alloc: Global, path: &str) -> Result<Option<Image>
     }
 }
 
-/// Returns the first difference in an image, with weak slots kept or else cleared.
-fn difference_in(alloc: Global, image: &Image) -> Result<Option<Difference>> {
-    for weak in [Weak::Keep, Weak::Clear] {
-        let found = first_difference(alloc, image.heap(), weak)?;
-        if found.is_some() {
-            return Ok(found);
-        }
-    }
-    Ok(None)
-}
-
 /// Checks the image in a file, and prints a line. Returns whether there is no difference.
 fn check_file<R: Files + Print>(rt: &R, alloc: Global, path: &str) -> Result<bool> {
     let Some(image) = image_in(rt, alloc, path)? else {
         println!(rt; "{path}: unreadable")?;
         return Ok(true);
     };
-    if let Some(difference) = difference_in(alloc, &image)? {
-        println!(rt; "{path}: {difference}")?;
-        return Ok(false);
+    let mut certified: u32 = 0;
+    for weak in [Weak::Keep, Weak::Clear] {
+        let comparison = compare(alloc, image.heap(), weak)?;
+        if let Some(difference) = comparison.difference {
+            println!(rt; "{path}: {difference}")?;
+            return Ok(false);
+        }
+        certified = certified.saturating_add(u32::from(comparison.is_certified));
     }
-    println!(rt; "{path}: {} objects", image.heap().len())?;
+    let count = image.heap().len();
+    println!(rt; "{path}: {count} objects, {certified} of 2 trees certified")?;
     Ok(true)
 }
 
