@@ -4,8 +4,8 @@
 //! for how many of its two trees the check accepted the candidate. It ends with exit code 1 at the
 //! first difference.
 //!
-//! `sqz_dev_check_dominators --retained ADDRESS FILE` prints what one object retains, without the
-//! brute force.
+//! `sqz_dev_check_dominators --retained ADDRESS FILE` prints what one object retains, and how the
+//! dominator tree was found, without the brute force.
 #![tactic(auto)]
 
 mod brute_force;
@@ -13,7 +13,7 @@ mod difference;
 
 use anyhow::Result;
 use difference::compare;
-use sqz_dominators::dominators_of;
+use sqz_dominators::{MOST_PASSES, Retained, dominators_within};
 use sqz_image::{Fault, Image, ReadSource, image_of_file, read_all};
 use sqz_trace::Weak;
 use std::alloc::Global;
@@ -66,8 +66,8 @@ fn check_files<R: Files + Print>(rt: &R, alloc: Global, paths: &[String]) -> Res
     Ok(true)
 }
 
-/// Prints what the object at an address of the image in a file retains. Returns whether there is
-/// such an object.
+/// Prints what the object at an address of the image in a file retains, and how the tree was found.
+/// Returns whether there is such an object.
 fn print_retained<R: Files + Print>(
     rt: &R,
     alloc: Global,
@@ -84,8 +84,10 @@ fn print_retained<R: Files + Print>(
     let Some(object) = heap.find(address) else {
         return Ok(false);
     };
-    let retained = dominators_of(alloc, heap, Weak::Keep)?.retained(object);
-    println!(rt; "{} objects, {} bytes", retained.objects, retained.bytes)?;
+    let found = dominators_within(alloc, heap, Weak::Keep, MOST_PASSES)?;
+    let retained = found.dominators.retained(object);
+    let Retained { objects, bytes } = retained;
+    println!(rt; "{objects} objects, {bytes} bytes, {:?}", found.way)?;
     Ok(true)
 }
 

@@ -5,6 +5,8 @@
 #[cfg(test)]
 mod avoiding;
 #[cfg(test)]
+mod candidates;
+#[cfg(test)]
 mod children;
 #[cfg(test)]
 mod defects;
