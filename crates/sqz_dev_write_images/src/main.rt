@@ -4,7 +4,7 @@
 #![tactic(auto)]
 
 use anyhow::Result;
-use sqz_test_fixtures::{Contents, Outcome, WorkedImage, WorkedTable, worked_tables};
+use sqz_test_fixtures::{Contents, Outcome, WorkedImage, worked_tables};
 use std::alloc::Global;
 use std::process::ExitCode;
 use std::rt::Files;
@@ -60,10 +60,10 @@ fn write_cleared<R: Files>(rt: &R, alloc: Global, start: &str, worked: &WorkedIm
     write_census(rt, alloc, cleared.as_str(), worked.cleared_census)
 }
 
-/// Writes the files of a worked image into a folder.
-fn write_worked<R: Files>(rt: &R, alloc: Global, folder: &str, worked: &WorkedImage) -> Result<()> {
-    let name = worked.name;
-    let start = format!(in alloc; "{folder}/{name}")?;
+/// Writes the files of a worked image into its folder in the folder `top`.
+fn write_worked<R: Files>(rt: &R, alloc: Global, top: &str, worked: &WorkedImage) -> Result<()> {
+    let (folder, name) = (worked.folder.name(), worked.name);
+    let start = format!(in alloc; "{top}/{folder}/{name}")?;
     let image = format!(in alloc; "{start}.image")?;
     write_image(rt, alloc, image.as_str(), &worked.input)?;
     write_outcome(rt, alloc, start.as_str(), &worked.kept)?;
@@ -71,12 +71,10 @@ fn write_worked<R: Files>(rt: &R, alloc: Global, folder: &str, worked: &WorkedIm
     write_cleared(rt, alloc, start.as_str(), worked)
 }
 
-/// Writes the files of the images of a table into their folder in the folder `top`.
-fn write_table<R: Files>(rt: &R, alloc: Global, top: &str, table: &WorkedTable) -> Result<()> {
-    let name = table.folder;
-    let folder = format!(in alloc; "{top}/{name}")?;
-    for worked in table.images {
-        write_worked(rt, alloc, folder.as_str(), worked)?;
+/// Writes the files of the images of a table.
+fn write_table<R: Files>(rt: &R, alloc: Global, top: &str, table: &[WorkedImage]) -> Result<()> {
+    for worked in table {
+        write_worked(rt, alloc, top, worked)?;
     }
     Ok(())
 }

@@ -4,7 +4,7 @@ use super::images::DIAMOND;
 use sqz_image::{Fault, Slot};
 use sqz_paths::defects_of;
 use sqz_test_fixtures::with_defects::LOWER_OF_TWO;
-use sqz_test_fixtures::with_weak_objects::WEAK_TOO_MANY_FIXED;
+use sqz_test_fixtures::with_weak_classes::WEAK_TOO_MANY_FIXED;
 use sqz_test_fixtures::{TestImage, image_of};
 use sqz_trace::{Marks, Weak, mark_plain};
 use std::process::Abort;

@@ -9,8 +9,7 @@ ghost use Rattle.sqz_test_examples.specs.ClassEdge.{class_edge};
 ghost use Rattle.sqz_test_examples.specs.Shapes.{weak_fields};
 
 use sqz_test_fixtures::TestImage;
-use sqz_test_fixtures::accepted::DEAD_CYCLE;
-use sqz_test_fixtures::answers::DEAD_CYCLE_ANSWER;
+use sqz_test_fixtures::accepted::{DEAD_CYCLE, DEAD_CYCLE_ANSWER};
 use sqz_test_fixtures::with_classes::CLASS_EDGE;
 use sqz_test_fixtures::with_weak_objects::WEAK_FIELDS;
 

@@ -3,6 +3,9 @@
 use super::chunks::Chunk::{Array, Fixed, Free, Long, Short, Words};
 use super::chunks::NIL;
 use super::images::{EMPTY, TestImage};
+use super::worked::Contents::Image;
+use super::worked::Outcome::{Compacted, Rejected};
+use super::worked::{ACCEPTED, WEAK, WorkedImage};
 use sqz_object::Order;
 
 /// Nil, and a special objects array that points to it: what is left of many images.
@@ -11,6 +14,13 @@ pub const NIL_ALONE: TestImage = TestImage {
     special: 0x1004,
     ..EMPTY
 };
+
+/// The class histogram of `NIL_ALONE`.
+pub const NIL_ALONE_CENSUS: &str = concat!(
+    "         1            8 -------- compact 3\n",
+    "         1            4 -------- compact 1\n",
+    "         2           12 total\n",
+);
 
 /// An array that nothing points to is left out, and what follows moves down.
 pub const DEAD_ARRAY: TestImage = TestImage {
@@ -23,6 +33,12 @@ pub const DEAD_ARRAY: TestImage = TestImage {
 pub const BIG_ENDIAN: TestImage = TestImage {
     order: Order::Big,
     ..DEAD_ARRAY
+};
+
+/// What `BIG_ENDIAN` is compacted to.
+pub const BIG_ENDIAN_ANSWER: TestImage = TestImage {
+    order: Order::Big,
+    ..NIL_ALONE
 };
 
 /// A word of a dead object may be anything.
@@ -106,6 +122,14 @@ pub const HIGHEST_BASE: TestImage = TestImage {
     ..EMPTY
 };
 
+/// What `HIGHEST_BASE` is compacted to.
+pub const HIGHEST_BASE_ANSWER: TestImage = TestImage {
+    base: 0xFFFF_FFE8,
+    chunks: &[NIL, Array(&[0xFFFF_FFE8])],
+    special: 0xFFFF_FFEC,
+    ..EMPTY
+};
+
 /// The special objects array is the only object.
 pub const SPECIAL_ARRAY_ALONE: TestImage = TestImage {
     chunks: &[Array(&[])],
@@ -140,6 +164,25 @@ pub const DEAD_CYCLE: TestImage = TestImage {
     ..EMPTY
 };
 
+/// What `DEAD_CYCLE` is compacted to.
+pub const DEAD_CYCLE_ANSWER: TestImage = TestImage {
+    chunks: &[
+        NIL,
+        Fixed(&[0x100C]),
+        Fixed(&[0x1004]),
+        Array(&[0x1000, 0x1004]),
+    ],
+    special: 0x1014,
+    ..EMPTY
+};
+
+/// The class histogram of `DEAD_CYCLE`.
+pub const DEAD_CYCLE_CENSUS: &str = concat!(
+    "         3           20 -------- compact 1\n",
+    "         1           12 -------- compact 3\n",
+    "         4           32 total\n",
+);
+
 /// An object of 63 words, which are all that a size field can say.
 pub const LARGEST_SHORT_OBJECT: TestImage = TestImage {
     chunks: &[
@@ -172,3 +215,111 @@ pub const THREE_WORD_HEADER: TestImage = TestImage {
     special: 0x1118,
     ..EMPTY
 };
+
+/// What `THREE_WORD_HEADER` is compacted to.
+pub const THREE_WORD_HEADER_ANSWER: TestImage = TestImage {
+    chunks: &[
+        NIL,
+        Long {
+            class: 0x1000,
+            compact: 0,
+            format: 2,
+            first: &[1; 63],
+            others: &[],
+        },
+        Array(&[0x1000, 0x100C]),
+    ],
+    special: 0x110C,
+    ..EMPTY
+};
+
+/// The worked images among these.
+const IMAGES: &[WorkedImage] = &[
+    WorkedImage {
+        name: "big_endian",
+        input: Image(BIG_ENDIAN),
+        kept: Compacted(Image(BIG_ENDIAN_ANSWER)),
+        census: Some(NIL_ALONE_CENSUS),
+        ..ACCEPTED
+    },
+    WorkedImage {
+        name: "dead_array",
+        input: Image(DEAD_ARRAY),
+        kept: Compacted(Image(NIL_ALONE)),
+        census: Some(NIL_ALONE_CENSUS),
+        ..ACCEPTED
+    },
+    WorkedImage {
+        name: "dead_bad_context",
+        input: Image(DEAD_BAD_CONTEXT),
+        kept: Compacted(Image(NIL_ALONE)),
+        ..ACCEPTED
+    },
+    WorkedImage {
+        name: "dead_bad_method",
+        input: Image(DEAD_BAD_METHOD),
+        kept: Compacted(Image(NIL_ALONE)),
+        ..ACCEPTED
+    },
+    WorkedImage {
+        name: "dead_bad_pointer",
+        input: Image(DEAD_BAD_POINTER),
+        kept: Compacted(Image(NIL_ALONE)),
+        ..ACCEPTED
+    },
+    WorkedImage {
+        name: "dead_cycle",
+        input: Image(DEAD_CYCLE),
+        kept: Compacted(Image(DEAD_CYCLE_ANSWER)),
+        census: Some(DEAD_CYCLE_CENSUS),
+        ..ACCEPTED
+    },
+    WorkedImage {
+        name: "dead_without_class",
+        input: Image(DEAD_WITHOUT_CLASS),
+        kept: Compacted(Image(NIL_ALONE)),
+        ..ACCEPTED
+    },
+    WorkedImage {
+        name: "free_chunk",
+        input: Image(FREE_CHUNK),
+        kept: Compacted(Image(NIL_ALONE)),
+        ..ACCEPTED
+    },
+    WorkedImage {
+        name: "highest_base",
+        input: Image(HIGHEST_BASE),
+        kept: Compacted(Image(HIGHEST_BASE_ANSWER)),
+        ..ACCEPTED
+    },
+    WorkedImage {
+        name: "integers",
+        input: Image(INTEGERS),
+        kept: Compacted(Image(INTEGERS)),
+        ..ACCEPTED
+    },
+    WorkedImage {
+        name: "largest_short_object",
+        input: Image(LARGEST_SHORT_OBJECT),
+        kept: Compacted(Image(LARGEST_SHORT_OBJECT)),
+        ..ACCEPTED
+    },
+    WorkedImage {
+        name: "special_array_alone",
+        input: Image(SPECIAL_ARRAY_ALONE),
+        kept: Compacted(Image(SPECIAL_ARRAY_ALONE)),
+        cleared: Some(Rejected("fault 21: nil not found")),
+        ..WEAK
+    },
+    WorkedImage {
+        name: "three_word_header",
+        input: Image(THREE_WORD_HEADER),
+        kept: Compacted(Image(THREE_WORD_HEADER_ANSWER)),
+        ..ACCEPTED
+    },
+];
+
+/// The worked images of this module.
+pub(crate) fn images() -> &'static [WorkedImage] {
+    IMAGES
+}

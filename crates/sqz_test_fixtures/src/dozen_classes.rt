@@ -2,6 +2,9 @@
 
 use super::chunks::Chunk::Words;
 use super::images::{EMPTY, TestImage};
+use super::worked::Contents::Image;
+use super::worked::Outcome::Compacted;
+use super::worked::{ACCEPTED, WorkedImage};
 
 /// The hash of the last object that Squeak made, and the size of its screen, which is 640 by 480.
 const LAST_HASH_AND_SCREEN: [u32; 11] = [0xABC, 0x0280_01E0, 0, 0, 0, 0, 0, 0, 0, 0, 0];
@@ -120,3 +123,48 @@ pub const DOZEN_CLASSES_ANSWER: TestImage = TestImage {
     others: LAST_HASH_AND_SCREEN,
     ..EMPTY
 };
+
+/// The class histogram of `DOZEN_CLASSES`.
+pub const DOZEN_CLASSES_CENSUS: &str = concat!(
+    "        14          448 0000110c Metaclass\n",
+    "         9          368 000012cc Array\n",
+    "        22          316 000013ec Symbol\n",
+    "         5           60 0000143c Association\n",
+    "         1           44 00001538 MethodContext\n",
+    "         1           36 0000104c Object class\n",
+    "         1           36 0000109c Behavior class\n",
+    "         1           36 000010ec Class class\n",
+    "         1           36 00001140 Metaclass class\n",
+    "         1           36 00001210 UndefinedObject class\n",
+    "         1           36 00001260 False class\n",
+    "         1           36 000012ac True class\n",
+    "         1           36 000012fc Array class\n",
+    "         1           36 000013cc String class\n",
+    "         1           36 0000141c Symbol class\n",
+    "         1           36 00001470 Association class\n",
+    "         1           36 000014c0 Point class\n",
+    "         1           36 00001518 CompiledMethod class\n",
+    "         1           36 00001570 MethodContext class\n",
+    "         3           32 0000139c String\n",
+    "         2           24 00001490 Point\n",
+    "         1           24 000014e0 CompiledMethod\n",
+    "         1            8 0000101c Object\n",
+    "         1            8 000011d8 UndefinedObject\n",
+    "         1            8 00001230 False\n",
+    "         1            8 00001280 True\n",
+    "        75         1852 total\n",
+);
+
+/// The worked images among these.
+const IMAGES: &[WorkedImage] = &[WorkedImage {
+    name: "dozen_classes",
+    input: Image(DOZEN_CLASSES),
+    kept: Compacted(Image(DOZEN_CLASSES_ANSWER)),
+    census: Some(DOZEN_CLASSES_CENSUS),
+    ..ACCEPTED
+}];
+
+/// The worked images of this module.
+pub(crate) fn images() -> &'static [WorkedImage] {
+    IMAGES
+}

@@ -6,6 +6,9 @@ use super::chunks::Chunk::{Array, Words};
 use super::chunks::NIL;
 use super::images::{EMPTY, TestImage};
 use super::with_classes::CLASS_EDGE;
+use super::worked::Contents::Image;
+use super::worked::Outcome::Rejected;
+use super::worked::{UNREADABLE, WorkedImage};
 
 /// A size of 0 in a base header.
 pub const ZERO_SIZE: TestImage = TestImage {
@@ -150,3 +153,132 @@ pub const ODD_SPECIAL: TestImage = TestImage {
     special: 0x1005,
     ..NIL_ALONE
 };
+
+/// The worked images among these.
+const IMAGES: &[WorkedImage] = &[
+    WorkedImage {
+        name: "class_word_at_special",
+        input: Image(CLASS_WORD_AT_SPECIAL),
+        kept: Rejected("fault 10: special objects array not found"),
+        ..UNREADABLE
+    },
+    WorkedImage {
+        name: "first_unreadable_chunk",
+        input: Image(FIRST_UNREADABLE_CHUNK),
+        kept: Rejected("fault 7: size 0 at word 4"),
+        ..UNREADABLE
+    },
+    WorkedImage {
+        name: "free_chunk_at_special",
+        input: Image(FREE_CHUNK_AT_SPECIAL),
+        kept: Rejected("fault 10: special objects array not found"),
+        ..UNREADABLE
+    },
+    WorkedImage {
+        name: "free_overrun",
+        input: Image(FREE_OVERRUN),
+        kept: Rejected("fault 9: chunk runs past the end at word 1"),
+        ..UNREADABLE
+    },
+    WorkedImage {
+        name: "free_zero_size",
+        input: Image(FREE_ZERO_SIZE),
+        kept: Rejected("fault 7: size 0 at word 1"),
+        ..UNREADABLE
+    },
+    WorkedImage {
+        name: "header_overrun",
+        input: Image(HEADER_OVERRUN),
+        kept: Rejected("fault 9: chunk runs past the end at word 1"),
+        ..UNREADABLE
+    },
+    WorkedImage {
+        name: "lone_class_word",
+        input: Image(LONE_CLASS_WORD),
+        kept: Rejected("fault 9: chunk runs past the end at word 1"),
+        ..UNREADABLE
+    },
+    WorkedImage {
+        name: "lone_size_word",
+        input: Image(LONE_SIZE_WORD),
+        kept: Rejected("fault 9: chunk runs past the end at word 1"),
+        ..UNREADABLE
+    },
+    WorkedImage {
+        name: "mixed_before_size",
+        input: Image(MIXED_BEFORE_SIZE),
+        kept: Rejected("fault 8: header words disagree at word 1"),
+        ..UNREADABLE
+    },
+    WorkedImage {
+        name: "mixed_class_header",
+        input: Image(MIXED_CLASS_HEADER),
+        kept: Rejected("fault 8: header words disagree at word 1"),
+        ..UNREADABLE
+    },
+    WorkedImage {
+        name: "mixed_header",
+        input: Image(MIXED_HEADER),
+        kept: Rejected("fault 8: header words disagree at word 1"),
+        ..UNREADABLE
+    },
+    WorkedImage {
+        name: "mixed_second_header",
+        input: Image(MIXED_SECOND_HEADER),
+        kept: Rejected("fault 8: header words disagree at word 1"),
+        ..UNREADABLE
+    },
+    WorkedImage {
+        name: "no_data",
+        input: Image(EMPTY),
+        kept: Rejected("fault 10: special objects array not found"),
+        ..UNREADABLE
+    },
+    WorkedImage {
+        name: "no_object_at_special",
+        input: Image(NO_OBJECT_AT_SPECIAL),
+        kept: Rejected("fault 10: special objects array not found"),
+        ..UNREADABLE
+    },
+    WorkedImage {
+        name: "overrun",
+        input: Image(OVERRUN),
+        kept: Rejected("fault 9: chunk runs past the end at word 1"),
+        ..UNREADABLE
+    },
+    WorkedImage {
+        name: "overrun_of_three",
+        input: Image(OVERRUN_OF_THREE),
+        kept: Rejected("fault 9: chunk runs past the end at word 1"),
+        ..UNREADABLE
+    },
+    WorkedImage {
+        name: "overrun_of_two",
+        input: Image(OVERRUN_OF_TWO),
+        kept: Rejected("fault 9: chunk runs past the end at word 1"),
+        ..UNREADABLE
+    },
+    WorkedImage {
+        name: "zero_size",
+        input: Image(ZERO_SIZE),
+        kept: Rejected("fault 7: size 0 at word 1"),
+        ..UNREADABLE
+    },
+    WorkedImage {
+        name: "zero_size_of_three",
+        input: Image(ZERO_SIZE_OF_THREE),
+        kept: Rejected("fault 7: size 0 at word 1"),
+        ..UNREADABLE
+    },
+    WorkedImage {
+        name: "zero_size_of_two",
+        input: Image(ZERO_SIZE_OF_TWO),
+        kept: Rejected("fault 7: size 0 at word 1"),
+        ..UNREADABLE
+    },
+];
+
+/// The worked images of this module.
+pub(crate) fn images() -> &'static [WorkedImage] {
+    IMAGES
+}

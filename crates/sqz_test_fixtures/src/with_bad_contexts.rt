@@ -3,7 +3,10 @@
 use super::chunks::Chunk::{Array, Classed, Short};
 use super::chunks::NIL;
 use super::images::{Change, EMPTY, TestImage};
-use super::with_formats::CONTEXT_STACK;
+use super::with_contexts::CONTEXT_STACK;
+use super::worked::Contents::Image;
+use super::worked::Outcome::Rejected;
+use super::worked::{DEFECT, WorkedImage};
 
 /// A context without a stack pointer.
 pub const SHORT_CONTEXT: TestImage = TestImage {
@@ -184,3 +187,54 @@ pub const NOT_THROUGH_NEGATIVE_STACK: TestImage = TestImage {
     special: 0x1028,
     ..EMPTY
 };
+
+/// The worked images among these.
+const IMAGES: &[WorkedImage] = &[
+    WorkedImage {
+        name: "bad_context_with_class_word",
+        input: Image(BAD_CONTEXT_WITH_CLASS_WORD),
+        kept: Rejected("fault 13: bad context 00001008"),
+        ..DEFECT
+    },
+    WorkedImage {
+        name: "context_of_five_fields",
+        input: Image(CONTEXT_OF_FIVE_FIELDS),
+        kept: Rejected("fault 13: bad context 00001004"),
+        ..DEFECT
+    },
+    WorkedImage {
+        name: "negative_stack",
+        input: Image(NEGATIVE_STACK),
+        kept: Rejected("fault 13: bad context 0000101c"),
+        ..DEFECT
+    },
+    WorkedImage {
+        name: "odd_stack_pointer",
+        input: Image(ODD_STACK_POINTER),
+        kept: Rejected("fault 14: bad pointer in object 00001004, field 2"),
+        ..DEFECT
+    },
+    WorkedImage {
+        name: "short_context",
+        input: Image(SHORT_CONTEXT),
+        kept: Rejected("fault 13: bad context 00001004"),
+        ..DEFECT
+    },
+    WorkedImage {
+        name: "stack_past_end",
+        input: Image(STACK_PAST_END),
+        kept: Rejected("fault 13: bad context 0000101c"),
+        ..DEFECT
+    },
+    WorkedImage {
+        name: "stack_to_end",
+        input: Image(STACK_TO_END),
+        kept: Rejected("fault 14: bad pointer in object 0000101c, field 8"),
+        ..DEFECT
+    },
+];
+
+/// The worked images of this module.
+pub(crate) fn images() -> &'static [WorkedImage] {
+    IMAGES
+}

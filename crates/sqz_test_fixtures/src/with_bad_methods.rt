@@ -3,6 +3,9 @@
 use super::chunks::Chunk::{Array, Classed, Short, Words};
 use super::chunks::NIL;
 use super::images::{Change, EMPTY, TestImage};
+use super::worked::Contents::Image;
+use super::worked::Outcome::Rejected;
+use super::worked::{DEFECT, WEAK, WorkedImage};
 
 /// A method whose field 0 is no integer.
 pub const METHOD_HEADER: TestImage = TestImage {
@@ -164,3 +167,49 @@ pub const NOT_THROUGH_METHOD_HEADER: TestImage = TestImage {
     special: 0x1014,
     ..EMPTY
 };
+
+/// The worked images among these.
+const IMAGES: &[WorkedImage] = &[
+    WorkedImage {
+        name: "all_ones",
+        input: Image(ALL_ONES),
+        kept: Rejected("fault 12: bad method 00001000"),
+        cleared: Some(Rejected("fault 21: nil not found")),
+        ..WEAK
+    },
+    WorkedImage {
+        name: "bad_literal",
+        input: Image(BAD_LITERAL),
+        kept: Rejected("fault 14: bad pointer in object 00001004, field 1"),
+        ..DEFECT
+    },
+    WorkedImage {
+        name: "method_header",
+        input: Image(METHOD_HEADER),
+        kept: Rejected("fault 12: bad method 00001004"),
+        ..DEFECT
+    },
+    WorkedImage {
+        name: "method_without_class",
+        input: Image(METHOD_WITHOUT_CLASS),
+        kept: Rejected("fault 11: no class for object 00001004"),
+        ..DEFECT
+    },
+    WorkedImage {
+        name: "method_without_fields",
+        input: Image(METHOD_WITHOUT_FIELDS),
+        kept: Rejected("fault 12: bad method 00001004"),
+        ..DEFECT
+    },
+    WorkedImage {
+        name: "too_many_literals",
+        input: Image(TOO_MANY_LITERALS),
+        kept: Rejected("fault 12: bad method 00001004"),
+        ..DEFECT
+    },
+];
+
+/// The worked images of this module.
+pub(crate) fn images() -> &'static [WorkedImage] {
+    IMAGES
+}

@@ -3,9 +3,12 @@
 use super::accepted::NIL_ALONE;
 use super::chunks::Chunk::{Array, Fixed, Free, Instance, Long, Short, Weak};
 use super::chunks::NIL;
-use super::cleared::WEAK_FIELDS_CLEARED;
 use super::images::{Change, EMPTY, TestImage};
 use super::with_classes::CLASS_EDGE;
+use super::with_weak_objects::WEAK_FIELDS_CLEARED;
+use super::worked::Contents::Image;
+use super::worked::Outcome::Rejected;
+use super::worked::{DEFECT, WEAK, WorkedImage};
 
 /// A header of one word with compact index 0.
 pub const NO_CLASS: TestImage = TestImage {
@@ -224,3 +227,103 @@ pub const WEAK_SLOT_NAMES_NOTHING: TestImage = TestImage {
     }),
     ..WEAK_FIELDS_CLEARED
 };
+
+/// The worked images among these.
+const IMAGES: &[WorkedImage] = &[
+    WorkedImage {
+        name: "bad_class_word",
+        input: Image(BAD_CLASS_WORD),
+        kept: Rejected("fault 14: bad pointer in object 0000101c, class"),
+        ..DEFECT
+    },
+    WorkedImage {
+        name: "class_word_before_field",
+        input: Image(CLASS_WORD_BEFORE_FIELD),
+        kept: Rejected("fault 14: bad pointer in object 00001008, class"),
+        ..DEFECT
+    },
+    WorkedImage {
+        name: "field_names_class_word",
+        input: Image(FIELD_NAMES_CLASS_WORD),
+        kept: Rejected("fault 14: bad pointer in object 00001024, field 1"),
+        ..DEFECT
+    },
+    WorkedImage {
+        name: "field_names_field",
+        input: Image(FIELD_NAMES_FIELD),
+        kept: Rejected("fault 14: bad pointer in object 00001004, field 0"),
+        cleared: Some(Rejected("fault 21: nil not found")),
+        ..WEAK
+    },
+    WorkedImage {
+        name: "field_names_free_chunk",
+        input: Image(FIELD_NAMES_FREE_CHUNK),
+        kept: Rejected("fault 14: bad pointer in object 00001010, field 0"),
+        cleared: Some(Rejected("fault 21: nil not found")),
+        ..WEAK
+    },
+    WorkedImage {
+        name: "lower_is_named",
+        input: Image(LOWER_IS_NAMED),
+        kept: Rejected("fault 11: no class for object 00001004"),
+        cleared: Some(Rejected("fault 21: nil not found")),
+        ..WEAK
+    },
+    WorkedImage {
+        name: "lower_of_two",
+        input: Image(LOWER_OF_TWO),
+        kept: Rejected("fault 14: bad pointer in object 00001004, field 0"),
+        cleared: Some(Rejected("fault 21: nil not found")),
+        ..WEAK
+    },
+    WorkedImage {
+        name: "no_class",
+        input: Image(NO_CLASS),
+        kept: Rejected("fault 11: no class for object 0000100c"),
+        ..DEFECT
+    },
+    WorkedImage {
+        name: "odd_field",
+        input: Image(ODD_FIELD),
+        kept: Rejected("fault 14: bad pointer in object 00001004, field 0"),
+        cleared: Some(Rejected("fault 21: nil not found")),
+        ..WEAK
+    },
+    WorkedImage {
+        name: "weak_bad_before_field",
+        input: Image(WEAK_BAD_BEFORE_FIELD),
+        kept: Rejected("fault 14: bad pointer in object 00001018, field 0"),
+        cleared: Some(Rejected("fault 20: bad weak object 00001018")),
+        ..WEAK
+    },
+    WorkedImage {
+        name: "weak_no_nil_before_no_class",
+        input: Image(WEAK_NO_NIL_BEFORE_NO_CLASS),
+        kept: Rejected("fault 11: no class for object 00001000"),
+        cleared: Some(Rejected("fault 21: nil not found")),
+        ..WEAK
+    },
+    WorkedImage {
+        name: "weak_odd_slot",
+        input: Image(WEAK_ODD_SLOT),
+        kept: Rejected("fault 14: bad pointer in object 00001018, field 0"),
+        ..WEAK
+    },
+    WorkedImage {
+        name: "weak_slot_names_nothing",
+        input: Image(WEAK_SLOT_NAMES_NOTHING),
+        kept: Rejected("fault 14: bad pointer in object 00001018, field 0"),
+        ..WEAK
+    },
+    WorkedImage {
+        name: "weak_without_class",
+        input: Image(WEAK_WITHOUT_CLASS),
+        kept: Rejected("fault 11: no class for object 00001004"),
+        ..WEAK
+    },
+];
+
+/// The worked images of this module.
+pub(crate) fn images() -> &'static [WorkedImage] {
+    IMAGES
+}

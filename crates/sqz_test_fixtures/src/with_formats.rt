@@ -1,8 +1,11 @@
-//! Accepted images that show which fields of each format are traced.
+//! Images that show which fields of each format are traced, and what they are compacted to.
 
-use super::chunks::Chunk::{Array, Classed, Each, Fixed, Short};
-use super::chunks::{LEAF, NIL, ODD};
+use super::chunks::Chunk::{Array, Each, Fixed, Short};
+use super::chunks::{LEAF, NIL};
 use super::images::{EMPTY, TestImage};
+use super::worked::Contents::Image;
+use super::worked::Outcome::{Compacted, Rejected};
+use super::worked::{ACCEPTED, WEAK, WorkedImage};
 
 /// The literals of a method are traced, and the words after them are kept as they are.
 pub const METHOD_LITERALS: TestImage = TestImage {
@@ -21,77 +24,19 @@ pub const METHOD_LITERALS: TestImage = TestImage {
     ..EMPTY
 };
 
-/// The fields of a context: six fixed ones, with a stack pointer that says that the stack holds one
-/// field, that one, and three above.
-const STACK_OF_ONE: &[u32] = &[0x1000, 1, 3, 0x1000, 0x1000, 0x1000, 0x100C, 0x1014, 2, ODD];
-
-/// The fields of a context up to the top of its stack, whose pointer is data word 10, are traced,
-/// and those above are kept as they are.
-pub const CONTEXT_STACK: TestImage = TestImage {
+/// What `METHOD_LITERALS` is compacted to.
+pub const METHOD_LITERALS_ANSWER: TestImage = TestImage {
     chunks: &[
         NIL,
-        LEAF,
-        LEAF,
         LEAF,
         Short {
-            compact: 13,
-            format: 3,
-            fields: STACK_OF_ONE,
+            compact: 5,
+            format: 12,
+            fields: &[0x801, 0x1004, 0x1000, 0x100C],
         },
-        Array(&[0x1000, 0x101C]),
+        Array(&[0x1000, 0x100C]),
     ],
-    special: 0x1048,
-    ..EMPTY
-};
-
-/// The fields of a context whose stack holds one, and one above.
-const STACK_BELOW_ODD: &[u32] = &[0x1000, 1, 3, 0x1000, 0x1000, 0x1000, 0x1010, 0x1002];
-
-/// A context with a class word and the other compact index is traced as one without a class word.
-pub const CONTEXT_WITH_CLASS_WORD: TestImage = TestImage {
-    chunks: &[
-        NIL,
-        Array(&[1, 1]),
-        LEAF,
-        Classed {
-            class: 0x1010,
-            compact: 14,
-            format: 3,
-            fields: STACK_BELOW_ODD,
-        },
-        Array(&[0x1000, 0x101C]),
-    ],
-    special: 0x1040,
-    ..EMPTY
-};
-
-/// If the stack pointer is no integer, the stack is empty.
-pub const CONTEXT_WITHOUT_STACK_POINTER: TestImage = TestImage {
-    chunks: &[
-        NIL,
-        Short {
-            compact: 13,
-            format: 3,
-            fields: &[0x1000, 1, 0x1000, 0x1000, 0x1000, 0x1000, 0x1002],
-        },
-        Array(&[0x1000, 0x1004]),
-    ],
-    special: 0x1024,
-    ..EMPTY
-};
-
-/// Format 3 with other compact indexes, and another format with that of a context, make no
-/// contexts.
-pub const LIKE_CONTEXTS: TestImage = TestImage {
-    chunks: &[
-        NIL,
-        Each {
-            kinds: &[(4, 3), (12, 3), (15, 3), (13, 2)],
-            fields: &[1, 1, 0xFFFF_FFFF],
-        },
-        Array(&[0x1000, 0x1004, 0x1014, 0x1024, 0x1034]),
-    ],
-    special: 0x1044,
+    special: 0x1020,
     ..EMPTY
 };
 
@@ -127,6 +72,37 @@ pub const TRACED_FORMATS: TestImage = TestImage {
     ..EMPTY
 };
 
+/// What `TRACED_FORMATS` is compacted to if weak slots are kept.
+pub const TRACED_FORMATS_ANSWER: TestImage = TestImage {
+    chunks: &[
+        NIL,
+        Short {
+            compact: 1,
+            format: 0,
+            fields: &[0x100C],
+        },
+        Fixed(&[0x1014]),
+        Short {
+            compact: 1,
+            format: 2,
+            fields: &[0x101C],
+        },
+        Short {
+            compact: 1,
+            format: 3,
+            fields: &[0x1024],
+        },
+        Short {
+            compact: 1,
+            format: 4,
+            fields: &[0x1000],
+        },
+        Array(&[0x1004]),
+    ],
+    special: 0x102C,
+    ..EMPTY
+};
+
 /// No field of the formats 5 to 11 is traced.
 pub const UNTRACED_FORMATS: TestImage = TestImage {
     chunks: &[
@@ -144,6 +120,22 @@ pub const UNTRACED_FORMATS: TestImage = TestImage {
     ..EMPTY
 };
 
+/// What `UNTRACED_FORMATS` is compacted to.
+pub const UNTRACED_FORMATS_ANSWER: TestImage = TestImage {
+    chunks: &[
+        NIL,
+        Each {
+            kinds: &[(1, 5), (1, 6), (1, 7), (1, 8), (1, 9), (1, 10), (1, 11)],
+            fields: &[0x1010],
+        },
+        Array(&[
+            0x1000, 0x1004, 0x100C, 0x1014, 0x101C, 0x1024, 0x102C, 0x1034,
+        ]),
+    ],
+    special: 0x103C,
+    ..EMPTY
+};
+
 /// A method of literals to its end.
 pub const LITERALS_ALONE: TestImage = TestImage {
     chunks: &[
@@ -158,6 +150,22 @@ pub const LITERALS_ALONE: TestImage = TestImage {
         Array(&[0x1000, 0x1014]),
     ],
     special: 0x1024,
+    ..EMPTY
+};
+
+/// What `LITERALS_ALONE` is compacted to.
+pub const LITERALS_ALONE_ANSWER: TestImage = TestImage {
+    chunks: &[
+        NIL,
+        LEAF,
+        Short {
+            compact: 5,
+            format: 12,
+            fields: &[0x801, 0x1004, 0x1000],
+        },
+        Array(&[0x1000, 0x100C]),
+    ],
+    special: 0x101C,
     ..EMPTY
 };
 
@@ -209,3 +217,31 @@ pub const METHODS_WITHOUT_LITERALS: TestImage = TestImage {
     special: 0x1034,
     ..EMPTY
 };
+
+/// The worked images among these.
+const IMAGES: &[WorkedImage] = &[
+    WorkedImage {
+        name: "method_literals",
+        input: Image(METHOD_LITERALS),
+        kept: Compacted(Image(METHOD_LITERALS_ANSWER)),
+        ..ACCEPTED
+    },
+    WorkedImage {
+        name: "traced_formats",
+        input: Image(TRACED_FORMATS),
+        kept: Compacted(Image(TRACED_FORMATS_ANSWER)),
+        cleared: Some(Rejected("fault 20: bad weak object 00001030")),
+        ..WEAK
+    },
+    WorkedImage {
+        name: "untraced_formats",
+        input: Image(UNTRACED_FORMATS),
+        kept: Compacted(Image(UNTRACED_FORMATS_ANSWER)),
+        ..ACCEPTED
+    },
+];
+
+/// The worked images of this module.
+pub(crate) fn images() -> &'static [WorkedImage] {
+    IMAGES
+}

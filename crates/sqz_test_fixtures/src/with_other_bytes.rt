@@ -1,16 +1,20 @@
 //! Files with bytes before or after an image, and files that end before the image does.
 
-use super::accepted::{BIG_ENDIAN, DEAD_ARRAY, NIL_ALONE};
-use super::answers::BIG_ENDIAN_ANSWER;
-use super::cleared::{WEAK_ARRAY_CLEARED, WEAK_FIELDS_CLEARED};
-use super::files::Before::{Filler, Image, Rising};
-use super::files::{PLAIN, TestFile};
+use super::accepted::{BIG_ENDIAN, BIG_ENDIAN_ANSWER, DEAD_ARRAY, NIL_ALONE, NIL_ALONE_CENSUS};
+use super::files::Before::{Filler, Rising};
+use super::files::{Before, PLAIN, TestFile};
 use super::images::EMPTY;
 use super::unreadable::FIRST_UNREADABLE_CHUNK;
 use super::with_bad_headers::{OTHER_HEADER_SIZE, OTHER_VERSION, UNEVEN_BASE};
-use super::with_classes::BIG_ENDIAN_CLASS_NAMES;
+use super::with_classes::{BIG_ENDIAN_CLASS_NAMES, BIG_ENDIAN_CLASS_NAMES_CENSUS};
 use super::with_defects::ODD_FIELD;
-use super::with_weak_objects::{WEAK_ARRAY, WEAK_FIELDS};
+use super::with_weak_objects::{
+    WEAK_ARRAY, WEAK_ARRAY_CENSUS, WEAK_ARRAY_CLEARED, WEAK_ARRAY_CLEARED_CENSUS, WEAK_FIELDS,
+    WEAK_FIELDS_CLEARED,
+};
+use super::worked::Contents::{File, Image};
+use super::worked::Outcome::{Compacted, Rejected};
+use super::worked::{ACCEPTED, UNREADABLE, WEAK, WorkedImage};
 
 /// Bytes after the data are left out.
 pub const BYTES_AFTER_DATA: TestFile = TestFile {
@@ -72,21 +76,21 @@ pub const BIG_ENDIAN_BEHIND_512_BYTES_ANSWER: TestFile = TestFile {
 
 /// An image at the front counts before one after 512 bytes.
 pub const VERSION_AT_BOTH: TestFile = TestFile {
-    before: Image(DEAD_ARRAY),
+    before: Before::Image(DEAD_ARRAY),
     image: BIG_ENDIAN,
     ..PLAIN
 };
 
 /// An image at the front counts before a smaller one after 512 bytes.
 pub const NIL_AFTER_ARRAY: TestFile = TestFile {
-    before: Image(DEAD_ARRAY),
+    before: Before::Image(DEAD_ARRAY),
     image: BIG_ENDIAN_ANSWER,
     ..PLAIN
 };
 
 /// A version at the front counts even if the header after it is bad.
 pub const BROKEN_HEADER_BEFORE_512_BYTES: TestFile = TestFile {
-    before: Image(OTHER_HEADER_SIZE),
+    before: Before::Image(OTHER_HEADER_SIZE),
     image: DEAD_ARRAY,
     ..PLAIN
 };
@@ -235,3 +239,150 @@ pub const CUT_IN_DATA_BEHIND_512_BYTES: TestFile = TestFile {
     length: Some(599),
     ..PLAIN
 };
+
+/// The worked images among these.
+const IMAGES: &[WorkedImage] = &[
+    WorkedImage {
+        name: "behind_511_bytes",
+        input: File(BEHIND_511_BYTES),
+        kept: Rejected("fault 2: version is not 6502"),
+        ..UNREADABLE
+    },
+    WorkedImage {
+        name: "behind_512_bytes",
+        input: File(BEHIND_512_BYTES),
+        kept: Compacted(File(BEHIND_512_BYTES_ANSWER)),
+        census: Some(NIL_ALONE_CENSUS),
+        ..ACCEPTED
+    },
+    WorkedImage {
+        name: "behind_513_bytes",
+        input: File(BEHIND_513_BYTES),
+        kept: Rejected("fault 2: version is not 6502"),
+        ..UNREADABLE
+    },
+    WorkedImage {
+        name: "big_endian_behind_512_bytes",
+        input: File(BIG_ENDIAN_BEHIND_512_BYTES),
+        kept: Compacted(File(BIG_ENDIAN_BEHIND_512_BYTES_ANSWER)),
+        census: Some(BIG_ENDIAN_CLASS_NAMES_CENSUS),
+        ..ACCEPTED
+    },
+    WorkedImage {
+        name: "big_endian_cut_in_data",
+        input: File(BIG_ENDIAN_CUT_IN_DATA),
+        kept: Rejected("fault 6: data are truncated"),
+        ..UNREADABLE
+    },
+    WorkedImage {
+        name: "broken_header_before_512_bytes",
+        input: File(BROKEN_HEADER_BEFORE_512_BYTES),
+        kept: Rejected("fault 3: header size is not 64"),
+        ..UNREADABLE
+    },
+    WorkedImage {
+        name: "bytes_after_data",
+        input: File(BYTES_AFTER_DATA),
+        kept: Compacted(Image(NIL_ALONE)),
+        ..ACCEPTED
+    },
+    WorkedImage {
+        name: "cut_in_data",
+        input: File(CUT_IN_DATA),
+        kept: Rejected("fault 6: data are truncated"),
+        ..UNREADABLE
+    },
+    WorkedImage {
+        name: "cut_in_data_behind_512_bytes",
+        input: File(CUT_IN_DATA_BEHIND_512_BYTES),
+        kept: Rejected("fault 6: data are truncated"),
+        ..UNREADABLE
+    },
+    WorkedImage {
+        name: "cut_in_header",
+        input: File(CUT_IN_HEADER),
+        kept: Rejected("fault 1: image is shorter than its header"),
+        ..UNREADABLE
+    },
+    WorkedImage {
+        name: "cut_in_header_behind_512_bytes",
+        input: File(CUT_IN_HEADER_BEHIND_512_BYTES),
+        kept: Rejected("fault 1: image is shorter than its header"),
+        ..UNREADABLE
+    },
+    WorkedImage {
+        name: "cut_in_version_behind_512_bytes",
+        input: File(CUT_IN_VERSION_BEHIND_512_BYTES),
+        kept: Rejected("fault 2: version is not 6502"),
+        ..UNREADABLE
+    },
+    WorkedImage {
+        name: "empty",
+        input: File(NO_BYTES),
+        kept: Rejected("fault 1: image is shorter than its header"),
+        ..UNREADABLE
+    },
+    WorkedImage {
+        name: "first_unreadable_chunk_behind_512_bytes",
+        input: File(FIRST_UNREADABLE_CHUNK_BEHIND_512_BYTES),
+        kept: Rejected("fault 7: size 0 at word 4"),
+        ..UNREADABLE
+    },
+    WorkedImage {
+        name: "header_alone_behind_512_bytes",
+        input: File(HEADER_ALONE_BEHIND_512_BYTES),
+        kept: Rejected("fault 6: data are truncated"),
+        ..UNREADABLE
+    },
+    WorkedImage {
+        name: "odd_field_behind_512_bytes",
+        input: File(ODD_FIELD_BEHIND_512_BYTES),
+        kept: Rejected("fault 14: bad pointer in object 00001004, field 0"),
+        cleared: Some(Rejected("fault 21: nil not found")),
+        ..WEAK
+    },
+    WorkedImage {
+        name: "other_version_behind_512_bytes",
+        input: File(OTHER_VERSION_BEHIND_512_BYTES),
+        kept: Rejected("fault 2: version is not 6502"),
+        ..UNREADABLE
+    },
+    WorkedImage {
+        name: "short_of_another_version",
+        input: File(SHORT_OF_ANOTHER_VERSION),
+        kept: Rejected("fault 1: image is shorter than its header"),
+        ..UNREADABLE
+    },
+    WorkedImage {
+        name: "uneven_base_of_truncated_data",
+        input: File(UNEVEN_BASE_OF_TRUNCATED_DATA),
+        kept: Rejected("fault 5: base address is not valid"),
+        ..UNREADABLE
+    },
+    WorkedImage {
+        name: "version_alone_behind_512_bytes",
+        input: File(VERSION_ALONE_BEHIND_512_BYTES),
+        kept: Rejected("fault 1: image is shorter than its header"),
+        ..UNREADABLE
+    },
+    WorkedImage {
+        name: "version_at_both",
+        input: File(VERSION_AT_BOTH),
+        kept: Compacted(Image(NIL_ALONE)),
+        ..ACCEPTED
+    },
+    WorkedImage {
+        name: "weak_array_behind_512_bytes",
+        input: File(WEAK_ARRAY_BEHIND_512_BYTES),
+        kept: Compacted(File(WEAK_ARRAY_BEHIND_512_BYTES)),
+        cleared: Some(Compacted(File(WEAK_ARRAY_BEHIND_512_BYTES_CLEARED))),
+        census: Some(WEAK_ARRAY_CENSUS),
+        cleared_census: Some(WEAK_ARRAY_CLEARED_CENSUS),
+        ..WEAK
+    },
+];
+
+/// The worked images of this module.
+pub(crate) fn images() -> &'static [WorkedImage] {
+    IMAGES
+}

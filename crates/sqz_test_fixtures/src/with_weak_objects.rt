@@ -1,9 +1,11 @@
-//! Images with weak objects that are accepted, at least if weak slots are kept.
+//! Images with weak objects, and what is left if weak slots are cleared.
 
-use super::chunks::Chunk::{Array, Fixed, Long, LongArray, Short, Weak};
+use super::chunks::Chunk::{Array, Fixed, Long, Short, Weak};
 use super::chunks::{LEAF, NIL};
-use super::cleared::WEAK_FIELDS_CLEARED;
-use super::images::{Change, EMPTY, TestImage};
+use super::images::{EMPTY, TestImage};
+use super::worked::Contents::Image;
+use super::worked::Outcome::Compacted;
+use super::worked::{WEAK, WorkedImage};
 use sqz_object::Order;
 
 /// A weak object whose only slot points to an object to which nothing else points. Its class, whose
@@ -23,10 +25,31 @@ pub const WEAK_FIELDS: TestImage = TestImage {
     ..EMPTY
 };
 
+/// What is left of `WEAK_FIELDS`. Data word 7 is the weak slot.
+pub const WEAK_FIELDS_CLEARED: TestImage = TestImage {
+    chunks: &[
+        NIL,
+        Fixed(&[1, 1, 0x405]),
+        Weak {
+            class: 0x1004,
+            fields: &[0x1000],
+        },
+        Array(&[0x1000, 0x1018]),
+    ],
+    special: 0x1020,
+    ..EMPTY
+};
+
 /// `WEAK_FIELDS` in a big-endian file.
 pub const WEAK_SLOT_BIG_ENDIAN: TestImage = TestImage {
     order: Order::Big,
     ..WEAK_FIELDS
+};
+
+/// What is left of `WEAK_SLOT_BIG_ENDIAN`.
+pub const WEAK_SLOT_BIG_ENDIAN_CLEARED: TestImage = TestImage {
+    order: Order::Big,
+    ..WEAK_FIELDS_CLEARED
 };
 
 /// A weak slot whose object is reachable all the same.
@@ -46,6 +69,22 @@ pub const WEAK_SLOT_OF_LIVE_OBJECT: TestImage = TestImage {
     ..EMPTY
 };
 
+/// What `WEAK_SLOT_OF_LIVE_OBJECT` is compacted to, if weak slots are kept too.
+pub const WEAK_SLOT_OF_LIVE_OBJECT_ANSWER: TestImage = TestImage {
+    chunks: &[
+        NIL,
+        Fixed(&[1, 1, 0x405]),
+        LEAF,
+        Weak {
+            class: 0x1004,
+            fields: &[0x1014],
+        },
+        Array(&[0x1000, 0x1020, 0x1014]),
+    ],
+    special: 0x1028,
+    ..EMPTY
+};
+
 /// A fixed field keeps what it points to, and the weak slot after it does not.
 pub const WEAK_FIXED_FIELD: TestImage = TestImage {
     chunks: &[
@@ -60,6 +99,22 @@ pub const WEAK_FIXED_FIELD: TestImage = TestImage {
         Array(&[0x1000, 0x1028]),
     ],
     special: 0x1034,
+    ..EMPTY
+};
+
+/// What is left of `WEAK_FIXED_FIELD`.
+pub const WEAK_FIXED_FIELD_CLEARED: TestImage = TestImage {
+    chunks: &[
+        NIL,
+        Fixed(&[1, 1, 0x409]),
+        LEAF,
+        Weak {
+            class: 0x1004,
+            fields: &[0x1014, 0x1000],
+        },
+        Array(&[0x1000, 0x1020]),
+    ],
+    special: 0x102C,
     ..EMPTY
 };
 
@@ -83,150 +138,22 @@ pub const WEAK_SIXTY_FOUR_FIXED: TestImage = TestImage {
     ..EMPTY
 };
 
-/// A weak object whose class is found by a compact index.
-pub const WEAK_COMPACT_CLASS: TestImage = TestImage {
+/// What is left of `WEAK_SIXTY_FOUR_FIXED`.
+pub const WEAK_SIXTY_FOUR_FIXED_CLEARED: TestImage = TestImage {
     chunks: &[
         NIL,
-        Fixed(&[1, 1, 0x405]),
+        Fixed(&[1, 1, 0x2_0005]),
         LEAF,
-        Short {
-            compact: 1,
-            format: 4,
-            fields: &[0x1014],
-        },
-        Array(&[0x1004]),
-        LongArray {
-            first: &[0x1000, 0x101C],
-            last: 0x1024,
-        },
-    ],
-    special: 0x102C,
-    ..EMPTY
-};
-
-/// The class of a weak object is that object.
-pub const WEAK_OWN_CLASS: TestImage = TestImage {
-    chunks: &[
-        NIL,
-        LEAF,
-        Weak {
-            class: 0x1010,
-            fields: &[1, 0x1004, 0x409],
-        },
-        Array(&[0x1000, 0x1010]),
-    ],
-    special: 0x1020,
-    ..EMPTY
-};
-
-/// The class of a weak object is weak itself.
-pub const WEAK_WEAK_CLASS: TestImage = TestImage {
-    chunks: &[
-        NIL,
-        Fixed(&[1, 1, 0x405]),
-        LEAF,
-        Weak {
+        Long {
             class: 0x1004,
-            fields: &[1, 0x1014, 0x405],
-        },
-        Weak {
-            class: 0x1020,
-            fields: &[0x1014],
-        },
-        Array(&[0x1000, 0x1034]),
-    ],
-    special: 0x103C,
-    ..EMPTY
-};
-
-/// A weak special objects array whose class word leads to its class.
-pub const WEAK_SPECIAL_WITH_CLASS_WORD: TestImage = TestImage {
-    chunks: &[
-        NIL,
-        Fixed(&[1, 1, 0x409]),
-        Weak {
-            class: 0x1004,
-            fields: &[0x1000, 1],
-        },
-    ],
-    special: 0x1018,
-    ..EMPTY
-};
-
-/// A weak special objects array whose class would be found by its own fields.
-pub const WEAK_SPECIAL: TestImage = TestImage {
-    chunks: &[
-        NIL,
-        Short {
-            compact: 3,
+            compact: 0,
             format: 4,
-            fields: &[0x1000],
+            first: &[1; 63],
+            others: &[0x1014, 0x1000],
         },
+        Array(&[0x1000, 0x1024]),
     ],
-    special: 0x1004,
-    ..EMPTY
-};
-
-/// The class of a weak object has a pointer in the field that states the number of fixed fields.
-pub const WEAK_BAD_CLASS: TestImage = TestImage {
-    changed: Some(Change {
-        index: 4,
-        word: 0x1000,
-    }),
-    ..WEAK_FIELDS
-};
-
-/// The class of a weak object has no field that states the number of fixed fields.
-pub const WEAK_SMALL_CLASS: TestImage = TestImage {
-    chunks: &[
-        NIL,
-        Fixed(&[1, 1]),
-        Weak {
-            class: 0x1004,
-            fields: &[0x1000],
-        },
-        Array(&[0x1000, 0x1014]),
-    ],
-    special: 0x101C,
-    ..EMPTY
-};
-
-/// The class of a weak object states one fixed field less than none.
-pub const WEAK_NEGATIVE_FIXED: TestImage = TestImage {
-    changed: Some(Change { index: 4, word: 1 }),
-    ..WEAK_FIELDS_CLEARED
-};
-
-/// The class of a weak object states more fixed fields than the object has fields.
-pub const WEAK_TOO_MANY_FIXED: TestImage = TestImage {
-    changed: Some(Change {
-        index: 4,
-        word: 0x40D,
-    }),
-    ..WEAK_FIELDS_CLEARED
-};
-
-/// An array of compact classes that is weak and has no class word leads to no class.
-pub const WEAK_COMPACT_CLASSES: TestImage = TestImage {
-    chunks: &[
-        NIL,
-        Fixed(&[1, 1, 0x405]),
-        Short {
-            compact: 1,
-            format: 4,
-            fields: &[0x1000],
-        },
-        Short {
-            compact: 3,
-            format: 4,
-            fields: &[0x1004],
-        },
-        LongArray {
-            first: &[0x1000, 0x1014],
-            last: 0x101C,
-        },
-    ],
-    special: 0x1024,
+    special: 0x112C,
     ..EMPTY
 };
 
@@ -255,3 +182,98 @@ pub const WEAK_ARRAY: TestImage = TestImage {
     special: 0x1054,
     ..EMPTY
 };
+
+/// What is left of `WEAK_ARRAY`.
+pub const WEAK_ARRAY_CLEARED: TestImage = TestImage {
+    chunks: &[
+        NIL,
+        Fixed(&[1, 1, 0x405, 1, 1, 1, 0x1024]),
+        Short {
+            compact: 2,
+            format: 11,
+            fields: &[0x6B61_6557, 0x6172_7241, 0x79],
+        },
+        Short {
+            compact: 1,
+            format: 0,
+            fields: &[3],
+        },
+        Weak {
+            class: 0x1004,
+            fields: &[0x1000, 0x1034],
+        },
+        Array(&[0x1000, 0x1040, 0x1034]),
+    ],
+    special: 0x104C,
+    ..EMPTY
+};
+
+/// The class histogram of `WEAK_ARRAY_CLEARED`.
+pub const WEAK_ARRAY_CLEARED_CENSUS: &str = concat!(
+    "         3           44 -------- compact 1\n",
+    "         1           16 00001004 WeakArray\n",
+    "         1           16 -------- compact 2\n",
+    "         1           16 -------- compact 3\n",
+    "         6           92 total\n",
+);
+
+/// The class histogram of `WEAK_ARRAY`.
+pub const WEAK_ARRAY_CENSUS: &str = concat!(
+    "         4           52 -------- compact 1\n",
+    "         1           16 00001004 WeakArray\n",
+    "         1           16 -------- compact 2\n",
+    "         1           16 -------- compact 3\n",
+    "         7          100 total\n",
+);
+
+/// The worked images among these.
+const IMAGES: &[WorkedImage] = &[
+    WorkedImage {
+        name: "weak_array",
+        input: Image(WEAK_ARRAY),
+        kept: Compacted(Image(WEAK_ARRAY)),
+        cleared: Some(Compacted(Image(WEAK_ARRAY_CLEARED))),
+        census: Some(WEAK_ARRAY_CENSUS),
+        cleared_census: Some(WEAK_ARRAY_CLEARED_CENSUS),
+        ..WEAK
+    },
+    WorkedImage {
+        name: "weak_fields",
+        input: Image(WEAK_FIELDS),
+        kept: Compacted(Image(WEAK_FIELDS)),
+        cleared: Some(Compacted(Image(WEAK_FIELDS_CLEARED))),
+        ..WEAK
+    },
+    WorkedImage {
+        name: "weak_fixed_field",
+        input: Image(WEAK_FIXED_FIELD),
+        kept: Compacted(Image(WEAK_FIXED_FIELD)),
+        cleared: Some(Compacted(Image(WEAK_FIXED_FIELD_CLEARED))),
+        ..WEAK
+    },
+    WorkedImage {
+        name: "weak_sixty_four_fixed",
+        input: Image(WEAK_SIXTY_FOUR_FIXED),
+        kept: Compacted(Image(WEAK_SIXTY_FOUR_FIXED)),
+        cleared: Some(Compacted(Image(WEAK_SIXTY_FOUR_FIXED_CLEARED))),
+        ..WEAK
+    },
+    WorkedImage {
+        name: "weak_slot_big_endian",
+        input: Image(WEAK_SLOT_BIG_ENDIAN),
+        kept: Compacted(Image(WEAK_SLOT_BIG_ENDIAN)),
+        cleared: Some(Compacted(Image(WEAK_SLOT_BIG_ENDIAN_CLEARED))),
+        ..WEAK
+    },
+    WorkedImage {
+        name: "weak_slot_of_live_object",
+        input: Image(WEAK_SLOT_OF_LIVE_OBJECT),
+        kept: Compacted(Image(WEAK_SLOT_OF_LIVE_OBJECT_ANSWER)),
+        ..WEAK
+    },
+];
+
+/// The worked images of this module.
+pub(crate) fn images() -> &'static [WorkedImage] {
+    IMAGES
+}

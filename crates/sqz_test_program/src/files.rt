@@ -2,9 +2,8 @@
 
 use super::images::{compacted_image, whole_image};
 use super::programs::{assert_ended, assert_printed, run_program};
-use sqz_test_fixtures::censuses::NIL_ALONE_CENSUS;
-use sqz_test_fixtures::cleared::WEAK_FIELDS_CLEARED;
-use sqz_test_fixtures::with_weak_objects::WEAK_FIELDS;
+use sqz_test_fixtures::accepted::NIL_ALONE_CENSUS;
+use sqz_test_fixtures::with_weak_objects::{WEAK_FIELDS, WEAK_FIELDS_CLEARED};
 use sqz_test_fixtures::{TestImage, file_of};
 use std::fs::File;
 use std::io::{Read, Write};

@@ -8,7 +8,7 @@ use sqz_test_fixtures::unreadable::{MIXED_CLASS_HEADER, NO_OBJECT_AT_SPECIAL, OV
 use sqz_test_fixtures::with_bad_contexts::SHORT_CONTEXT;
 use sqz_test_fixtures::with_bad_methods::METHOD_HEADER;
 use sqz_test_fixtures::with_defects::{NO_CLASS, ODD_FIELD};
-use sqz_test_fixtures::with_weak_objects::WEAK_BAD_CLASS;
+use sqz_test_fixtures::with_weak_classes::WEAK_BAD_CLASS;
 use sqz_test_fixtures::{TestImage, file_of};
 use std::process::Abort;
 use std::sync::Wait;

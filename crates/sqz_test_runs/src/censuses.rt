@@ -1,11 +1,11 @@
 //! Censuses of small images.
 
 use super::runs::{Outcome, assert_bytes, run_by_two};
-use sqz_test_fixtures::accepted::DEAD_ARRAY;
-use sqz_test_fixtures::censuses::{
-    BIG_ENDIAN_CLASS_NAMES_CENSUS, CLASS_NAMES_CENSUS, METACLASS_CENSUS, NIL_ALONE_CENSUS,
+use sqz_test_fixtures::accepted::{DEAD_ARRAY, NIL_ALONE_CENSUS};
+use sqz_test_fixtures::with_classes::{
+    BIG_ENDIAN_CLASS_NAMES, BIG_ENDIAN_CLASS_NAMES_CENSUS, CLASS_NAMES, CLASS_NAMES_CENSUS,
+    METACLASS, METACLASS_CENSUS,
 };
-use sqz_test_fixtures::with_classes::{BIG_ENDIAN_CLASS_NAMES, CLASS_NAMES, METACLASS};
 use sqz_test_fixtures::{Change, TestImage, file_of};
 use sqz_trace::Weak;
 use std::process::Abort;

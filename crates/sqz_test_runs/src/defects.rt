@@ -11,12 +11,12 @@ use sqz_test_fixtures::with_bad_methods::{
     ALL_ONES, BAD_LITERAL, METHOD_HEADER, METHOD_WITHOUT_CLASS, METHOD_WITHOUT_FIELDS,
     ODD_METHOD_HEADER, TOO_MANY_LITERALS,
 };
+use sqz_test_fixtures::with_contexts::CONTEXT_STACK;
 use sqz_test_fixtures::with_defects::{
     BAD_CLASS_WORD, BAD_CLASS_WORD_OF_THREE, CLASS_WORD_BEFORE_FIELD, FIELD_NAMES_CLASS_WORD,
     FIELD_NAMES_FREE_CHUNK, LOWER_IS_NAMED, LOWER_OF_TWO, NO_CLASS, NO_CLASS_BEFORE_FIELD,
     TWO_ODD_FIELDS,
 };
-use sqz_test_fixtures::with_formats::CONTEXT_STACK;
 use sqz_test_fixtures::{TestImage, with_word};
 use sqz_trace::Weak;
 use std::process::Abort;

@@ -1,8 +1,7 @@
 //! Runs by workers one of whom is held: they write the same as runs in which none is.
 
 use super::runs::{Outcome, SOUND, assert_bytes_by, plan_by, run_over, run_past};
-use sqz_test_fixtures::accepted::DEAD_CYCLE;
-use sqz_test_fixtures::answers::DEAD_CYCLE_ANSWER;
+use sqz_test_fixtures::accepted::{DEAD_CYCLE, DEAD_CYCLE_ANSWER};
 use sqz_test_fixtures::file_of;
 use sqz_tool::Plan;
 use sqz_trace::Weak;

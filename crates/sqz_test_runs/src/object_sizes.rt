@@ -1,8 +1,9 @@
 //! The largest object that a short header can state, and an object one word larger.
 
 use super::compacted::assert_left;
-use sqz_test_fixtures::accepted::{LARGEST_SHORT_OBJECT, THREE_WORD_HEADER};
-use sqz_test_fixtures::answers::THREE_WORD_HEADER_ANSWER;
+use sqz_test_fixtures::accepted::{
+    LARGEST_SHORT_OBJECT, THREE_WORD_HEADER, THREE_WORD_HEADER_ANSWER,
+};
 use std::test::Fail;
 
 /// A header word of its own states the size, and the object moves with its three header words.

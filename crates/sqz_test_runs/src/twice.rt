@@ -125,7 +125,7 @@ fn assert_worked_under_both<R: Threads + Wait + Sync + Abort + AllocGlobal>(
 #[test]
 fn second_run_changes_nothing(rt: HostRuntime) -> Result<(), Fail> {
     for table in &worked_tables() {
-        for worked in table.images {
+        for worked in *table {
             assert_worked_under_both(&rt, worked)?;
         }
     }

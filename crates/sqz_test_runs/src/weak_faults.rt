@@ -8,7 +8,7 @@ use sqz_test_fixtures::with_defects::{
     WEAK_BAD_BEFORE_FIELD, WEAK_NO_NIL_BEFORE_NO_CLASS, WEAK_ODD_SLOT, WEAK_SLOT_NAMES_NOTHING,
     WEAK_WITHOUT_CLASS,
 };
-use sqz_test_fixtures::with_weak_objects::{
+use sqz_test_fixtures::with_weak_classes::{
     WEAK_BAD_CLASS, WEAK_COMPACT_CLASSES, WEAK_NEGATIVE_FIXED, WEAK_SMALL_CLASS, WEAK_SPECIAL,
     WEAK_TOO_MANY_FIXED,
 };

@@ -6,7 +6,7 @@ use super::sliding::{assert_pieces, assert_sizes, slid, slid_by};
 use sqz_image::Image;
 use sqz_regions::Cut;
 use sqz_slide::Pieces;
-use sqz_test_fixtures::answers::DEAD_CYCLE_ANSWER;
+use sqz_test_fixtures::accepted::DEAD_CYCLE_ANSWER;
 use sqz_trace::Weak;
 use sqz_workers::Phase;
 use std::process::Abort;

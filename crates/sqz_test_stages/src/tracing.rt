@@ -10,7 +10,8 @@ use sqz_test_fixtures::accepted::SPECIAL_ARRAY_ALONE;
 use sqz_test_fixtures::image_of;
 use sqz_test_fixtures::with_classes::CLASS_EDGE;
 use sqz_test_fixtures::with_defects::LOWER_OF_TWO;
-use sqz_test_fixtures::with_weak_objects::{WEAK_FIXED_FIELD, WEAK_SPECIAL, WEAK_TOO_MANY_FIXED};
+use sqz_test_fixtures::with_weak_classes::{WEAK_SPECIAL, WEAK_TOO_MANY_FIXED};
+use sqz_test_fixtures::with_weak_objects::WEAK_FIXED_FIELD;
 use sqz_trace::{
     Marks, Weak, defect, finish, first_defect, first_shades, lacks_nil, mark_plain, strong, target,
     traced,
