@@ -2,18 +2,20 @@
 
 use super::images::{CHAIN, CYCLE_WITH_TWO_ENTRIES, DIAMOND, ROOT_IN_CYCLE};
 use sqz_dominators::{PlacedTree, dominator_candidate, is_dominator_tree};
-use sqz_fixtures::accepted::{DEAD_CYCLE, SPECIAL_ARRAY_ALONE};
-use sqz_fixtures::with_classes::CLASS_EDGE;
-use sqz_fixtures::{TestImage, image_of};
 use sqz_image::Heap;
 use sqz_object::ObjectIndex;
+use sqz_test_fixtures::accepted::{DEAD_CYCLE, SPECIAL_ARRAY_ALONE};
+use sqz_test_fixtures::with_classes::CLASS_EDGE;
+use sqz_test_fixtures::{TestImage, image_of};
 use sqz_trace::Weak;
 use std::process::Abort;
 use std::test::Fail;
 
 /// The objects of the diamond: what leads to both sides, the sides, and what they lead to.
 const TOP: ObjectIndex = 1;
+
 const SIDES: [ObjectIndex; 2] = [2, 3];
+
 const BOTTOM: ObjectIndex = 4;
 /// The special objects array of the diamond.
 const ROOT: ObjectIndex = 5;

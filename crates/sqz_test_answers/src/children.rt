@@ -1,8 +1,8 @@
 //! What objects retain, and the children of each object in the dominator tree.
 
 use super::images::DIAMOND;
-use sqz_object::ObjectIndex;
 use sqz_dominators::{Child, Retained, children_of, dominators_of};
+use sqz_object::ObjectIndex;
 use sqz_test_fixtures::accepted::DEAD_CYCLE;
 use sqz_test_fixtures::{TestImage, image_of};
 use sqz_trace::Weak;

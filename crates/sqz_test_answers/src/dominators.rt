@@ -1,8 +1,8 @@
 //! What dominates an object.
 
 use super::images::{CHAIN, CYCLE_WITH_TWO_ENTRIES, DIAMOND, ROOT_IN_CYCLE};
-use sqz_object::ObjectIndex;
 use sqz_dominators::dominators_of;
+use sqz_object::ObjectIndex;
 use sqz_test_fixtures::accepted::{DEAD_CYCLE, SPECIAL_ARRAY_ALONE};
 use sqz_test_fixtures::with_classes::CLASS_EDGE;
 use sqz_test_fixtures::with_weak_objects::WEAK_FIELDS;
