@@ -1,4 +1,6 @@
-"""Compares the worked images in images/ with what `sqz_dev_write_images` writes from its constants."""
+"""Compares the worked images in images/ with what `sqz_dev_write_images` writes from its constants.
+
+Some images are kept as files: they are too large to be read as constants."""
 
 from tests.harness.outcomes import SUCCESS
 from tests.harness.program_checks import ProgramTest
@@ -7,6 +9,8 @@ from tests.harness.worked_images import IMAGES, bytes_at
 
 WRITE_IMAGES = program_path("sqz_dev_write_images")
 FOLDERS = ("accepted", "unreadable", "defects", "weak")
+# The files that are not written.
+KEPT = {f"dozen_classes{ending}" for ending in (".image", ".out.image", ".census")}
 
 
 def names_in(folder):
@@ -14,7 +18,8 @@ def names_in(folder):
 
 
 class WrittenImagesTest(ProgramTest):
-    """The program writes each file of images/, byte for byte, and no other."""
+    """The program writes each file of images/ but those that are kept, byte for byte, and no
+    other."""
 
     @classmethod
     def setUpClass(cls):
@@ -31,4 +36,6 @@ class WrittenImagesTest(ProgramTest):
     def check_folder(self, written, committed):
         for name in sorted(names_in(written) | names_in(committed)):
             with self.subTest(folder=committed.name, file=name):
-                self.assertEqual(bytes_at(written / name), bytes_at(committed / name))
+                found = bytes_at((committed if name in KEPT else written) / name)
+                self.assertEqual(found, bytes_at(committed / name))
+                self.assertEqual(name in KEPT, name not in names_in(written))

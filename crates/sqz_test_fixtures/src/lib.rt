@@ -3,7 +3,6 @@
 
 pub mod accepted;
 mod chunks;
-pub mod dozen_classes;
 mod files;
 mod images;
 mod tables;

@@ -2,16 +2,15 @@
 
 use super::worked::WorkedImage;
 use super::{
-    accepted, dozen_classes, unreadable, with_bad_contexts, with_bad_headers, with_bad_methods,
-    with_classes, with_contexts, with_defects, with_formats, with_other_bytes, with_weak_classes,
+    accepted, unreadable, with_bad_contexts, with_bad_headers, with_bad_methods, with_classes,
+    with_contexts, with_defects, with_formats, with_other_bytes, with_weak_classes,
     with_weak_objects,
 };
 
 /// All worked images, those of each module in a table of their own.
-pub fn worked_tables() -> [&'static [WorkedImage]; 13] {
+pub fn worked_tables() -> [&'static [WorkedImage]; 12] {
     [
         accepted::images(),
-        dozen_classes::images(),
         unreadable::images(),
         with_bad_contexts::images(),
         with_bad_headers::images(),
