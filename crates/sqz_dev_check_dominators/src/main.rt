@@ -5,7 +5,8 @@
 //! first difference.
 //!
 //! `sqz_dev_check_dominators --retained ADDRESS FILE` prints what one object retains, and how the
-//! dominator tree was found, without the brute force.
+//! dominator tree was found, without the brute force. With `--candidate` in its place a candidate is
+//! made at once.
 #![tactic(auto)]
 
 mod brute_force;
@@ -66,14 +67,16 @@ fn check_files<R: Files + Print>(rt: &R, alloc: Global, paths: &[String]) -> Res
     Ok(true)
 }
 
-/// Prints what the object at an address of the image in a file retains, and how the tree was found.
-/// Returns whether there is such an object.
-fn print_retained<R: Files + Print>(
+/// Prints what the object at an address of the image in a file retains, and how the tree was found:
+/// a candidate is made if so many passes do not settle the tree. Returns whether there is such an
+/// object.
+fn print_retained<R: Files + Print + AllocGlobal>(
     rt: &R,
-    alloc: Global,
+    passes: u32,
     address: &str,
     path: &str,
 ) -> Result<bool> {
+    let alloc = rt.alloc();
     let Some(image) = image_in(rt, alloc, path)? else {
         return Ok(false);
     };
@@ -84,7 +87,7 @@ fn print_retained<R: Files + Print>(
     let Some(object) = heap.find(address) else {
         return Ok(false);
     };
-    let found = dominators_within(alloc, heap, Weak::Keep, MOST_PASSES)?;
+    let found = dominators_within(alloc, heap, Weak::Keep, passes)?;
     let retained = found.dominators.retained(object);
     let Retained { objects, bytes } = retained;
     println!(rt; "{objects} objects, {bytes} bytes, {:?}", found.way)?;
@@ -95,13 +98,17 @@ fn main(rt: HostRuntime) -> Result<ExitCode> {
     let words: Vec<String> = env::args(&rt)?.collect(rt.alloc())?;
     let done = match words.get(1..).unwrap_or(&[]) {
         [option, address, path] if option.as_str() == "--retained" => {
-            print_retained(&rt, rt.alloc(), address.as_str(), path.as_str())?
+            print_retained(&rt, MOST_PASSES, address.as_str(), path.as_str())?
+        }
+        [option, address, path] if option.as_str() == "--candidate" => {
+            print_retained(&rt, 0, address.as_str(), path.as_str())?
         }
         [first, ..] if !first.starts_with("--") => {
             check_files(&rt, rt.alloc(), words.get(1..).unwrap_or(&[]))?
         }
         _ => {
-            eprintln!(rt; "Usage: sqz_dev_check_dominators FILE..., or --retained ADDRESS FILE")?;
+            eprintln!(rt; "Usage: sqz_dev_check_dominators FILE...")?;
+            eprintln!(rt; "or --retained ADDRESS FILE, or --candidate ADDRESS FILE")?;
             return Ok(ExitCode::from(BAD_ARGUMENTS));
         }
     };
