@@ -4,10 +4,10 @@ ghost use Rattle.std.specs.Prelude.{IfErr, ◌≡◌};
 ghost use Rattle.sqz_image.specs.declared.fault.Fault.TheVariants.{OutOfMemory};
 
 use crate::change::{Change, changes_of};
+use sqz_dominators::dominators_of;
 use sqz_image::Fault;
 use sqz_inspect::Inspector;
 use sqz_names::{Role, Variable};
-use sqz_dominators::dominators_of;
 use std::alloc::AllocError;
 use std::cmp::Reverse;
 use std::collections::BTreeMap;

@@ -1,6 +1,6 @@
 -- The elements of a list that are not marked, in order. With the marks of the reachable objects:
 -- the garbage.
-use Rattle.std.specs.Prelude.{◌≡◌, ◌*◌, ◌<◌, ℕ, Bool, true, false, not, List, [], ◌∷◌, length, sum_by}
+use Rattle.std.specs.Prelude.{◌≡◌, ◌*◌, ◌<◌, ℕ, Bool, true, false, not, List, [], ◌∷◌, length}
 use Rattle.sqz_image.specs.Objects.{Memory, Object, objects, words_in}
 use Rattle.sqz_trace.specs.Graph.{is_marked}
 

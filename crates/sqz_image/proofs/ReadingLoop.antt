@@ -1,7 +1,7 @@
 -- A loop of reads: what it has read so far, and how it ends.
 -- Serves `read_whole::read_all`.
-use Rattle.std.proofs.Common.{◌≡◌, Bool, ℕ, ◌+◌, ◌<◌, arith, List, ◌++◌, take, Ok, Err, Result, sym, ap, ◌∙◌, refl, inl, inr}
-use Rattle.std.proofs.Common.{◌≤◌, ◌⊎◌, true}
+use Rattle.std.proofs.Common.{◌≡◌, Bool, ℕ, ◌+◌, ◌<◌, arith, List, ◌++◌, take, Ok, Err, Result, ap, ◌∙◌, refl, inl, inr}
+use Rattle.std.proofs.Common.{◌⊎◌, true}
 use Rattle.std.specs.Io.KnownBytes.{Consumes}
 use Rattle.std.proofs.KnownBytes.{Consumes-trans, Consumes-kept}
 use Rattle.sqz_image.specs.declared.device.DeviceFault.{DeviceFault}
@@ -25,7 +25,7 @@ module _ (gives_all : Bool) (old now new : SourceState) (file piece : List ℕ) 
   stops : (cause : (new.failed ≡ true) ⊎ (turns + 1 ≡ turn_limit)) → new.reads ≡ one_more now.reads → turns < turn_limit
       → StopsWithin turn_limit new.failed old.reads new.reads
   stops cause counted some =
-      record { turns = turns + 1; within = omega arith; counted = counted_more counted; cause = cause; }
+      record { turns = turns + 1; within = omega arith; counted = counted_more counted; cause = cause }
 
   -- a read failed
   pub ReadStops-failed : (fault : DeviceFault) → IsRead gives_all now new piece (Err fault) → turns < turn_limit → ReadStops old new ReadFailed
@@ -35,11 +35,10 @@ module _ (gives_all : Bool) (old now new : SourceState) (file piece : List ℕ) 
   -- the last turn was taken
   pub ReadStops-limit : (result : Result ℕ DeviceFault)
       → IsRead gives_all now new piece result → turns + 1 ≡ turn_limit → ReadStops old new ReadFailed
-  ReadStops-limit (Ok count) read all =
-      (
-        (file ++ take count piece, Consumes-trans old.left now.left new.left file (take count piece) so_far.bytes read.3),
-        inr (refl, stops (inr all) read.5 (omega arith)),
-      )
+  ReadStops-limit (Ok count) read all = (
+    (file ++ take count piece, Consumes-trans old.left now.left new.left file (take count piece) so_far.bytes read.3),
+    inr (refl, stops (inr all) read.5 (omega arith)),
+  )
   ReadStops-limit (Err fault) read all = ReadStops-failed fault read (omega arith)
 
   -- there is no memory for what was read

@@ -8,7 +8,7 @@ use Rattle.std.proofs.KnownBytes.{Appends-nil, Appends-trans}
 use Rattle.sqz_image.specs.declared.device.DeviceFault.{DeviceFault}
 use Rattle.sqz_image.specs.declared.fault.Fault.{Fault}
 use Rattle.sqz_image.specs.declared.fault.Fault.TheVariants.{WriteFailed}
-use Rattle.sqz_image.specs.Devices.{SinkState, IsWrite, IsFlush, turn_limit, count_after, StopsWithin, Sends, SendStops, WriteStops}
+use Rattle.sqz_image.specs.Devices.{SinkState, IsWrite, IsFlush, turn_limit, count_after, Sends, SendStops, WriteStops}
 use Rattle.sqz_image.proofs.Turns.{count_after-count_after}
 
 -- ---- one write

@@ -11,11 +11,11 @@ use crate::slot_rows::{SlotRow, slot_at, slot_count, slot_line, slot_rows};
 use crate::slots::SlotNames;
 use crate::texts::{counted, digits, digits_if};
 use serde::Serialize;
+use sqz_dominators::dominators_of;
 use sqz_facts::{ObjectFacts, object_facts, slot_facts};
 use sqz_image::{Fault, Sink};
 use sqz_names::{all_bytes, escaped};
 use sqz_object::ObjectIndex;
-use sqz_dominators::dominators_of;
 use std::alloc::AllocError;
 
 /// The maximum number of bytes of a byte object in the text form, unless all are requested.

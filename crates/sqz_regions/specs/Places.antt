@@ -1,7 +1,7 @@
 -- The new address (place) of an object in the compacted memory: after the marked objects below it.
-use Rattle.std.specs.Prelude.{ℕ, ◌+◌, ◌*◌, ◌==◌, Bool, if◌then◌else◌, List, take, length, sum_by, Option, Some, None}
+use Rattle.std.specs.Prelude.{ℕ, ◌+◌, ◌*◌, ◌==◌, Bool, if◌then◌else◌, List, take, Option, Some, None}
 use Rattle.sqz_object.specs.Chunk.{before}
-use Rattle.sqz_image.specs.Objects.{Memory, Object, objects, chunk_words, words_in}
+use Rattle.sqz_image.specs.Objects.{Memory, objects, chunk_words, words_in}
 use Rattle.sqz_trace.specs.Live.{marked, live}
 
 -- the total length in words of the marked objects below an index

@@ -35,4 +35,5 @@ macro_rules! again {
     };
 }
 
-pub(crate) use {again, own};
+pub(crate) use again;
+pub(crate) use own;

@@ -4,9 +4,9 @@ use crate::labels::labels_below;
 use crate::level::{Below, Level};
 use crate::options::Limits;
 use crate::tree::Tree;
+use sqz_dominators::Retained;
 use sqz_inspect::Inspector;
 use sqz_object::ObjectIndex;
-use sqz_dominators::Retained;
 use std::alloc::AllocError;
 
 /// A row of a tree.

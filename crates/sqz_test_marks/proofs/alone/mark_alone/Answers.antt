@@ -1,4 +1,4 @@
-use Rattle.std.proofs.Common.{◌∙◌, sym, ap, subst, ℕ}
+use Rattle.std.proofs.Common.{◌∙◌, sym, ap, subst}
 use Rattle.sqz_image.specs.Objects.{Memory, object_count}
 use Rattle.sqz_regions.specs.Regions.{Regioning}
 use Rattle.sqz_test_marks.specs.Passes.{AreSeen}
