@@ -4,10 +4,12 @@
 from a candidate, which the check must accept. The images are those of images/, `COUNT` random ones
 and `GRAPHS` images of small graphs that `SQZ_SEED` chooses."""
 
+import collections
 import random
 import unittest
 
 from tests.harness.outcomes import Outcome
+from tests.harness.preload import PreloadTest
 from tests.harness.program_checks import ProgramTest
 from tests.harness.programs import build, program_path
 from tests.harness.worked_images import readable_paths, unreadable_paths
@@ -85,6 +87,28 @@ class DominatorsTest(ProgramTest):
                 outcome = self.run_here(CHECK_DOMINATORS, "--retained", f"{FIRST:x}", "in")
                 line = f"1 objects, 8 bytes, {way}\n"
                 self.assert_ends(outcome, Outcome(0, stdout=line.encode()))
+
+
+class AllocationsTest(PreloadTest):
+    """Running out of memory while a candidate is made or checked ends the run. It does without the
+    memory that `collect` reserves for the words of the command line."""
+
+    @classmethod
+    def setUpClass(cls):
+        super().setUpClass()
+        build("sqz_dev_check_dominators")
+
+    def test_candidate(self):
+        self.write("in", graph_file(list_with_both_ends(SHORT)))
+        args = (CHECK_DOMINATORS, "--candidate", f"{FIRST:x}", "in")
+        whole = self.run_here(*args)
+        self.assert_ends(whole, Outcome(0, stdout=b"1 objects, 8 bytes, Certified\n"))
+        ends = collections.Counter(
+            "whole" if outcome == whole else outcome.status
+            for outcome in self.failing(self.fail_allocations, *args)
+        )
+        self.assertGreaterEqual(ends.pop(1), 50)
+        self.assertEqual(ends, {"whole": 1})
 
 
 class RandomImagesTest(unittest.TestCase):
