@@ -17,47 +17,62 @@ const MOST_CLASSES: u32 = 100;
 
 impl Names<'_> {
     /// Returns the names of the instance variables of a class, those of its superclasses first, as
-    /// the indexes of byte objects: one for each fixed field. Empty if they are not known.
-    pub fn instance_variables(&self, class: ObjectIndex) -> Result<Vec<ObjectIndex>, AllocError> {
-        let names = self.names_up_from(class)?;
-        let fixed = fixed_fields(self.heap, class);
-        match (names, fixed) {
-            (Some(names), Some(fixed)) if names.len() == fixed as usize => Ok(names),
-            _ => Ok(Vec::new(self.alloc)),
+    /// the indexes of byte objects: one for each fixed field, at most 254. None if they are not
+    /// known.
+    pub fn instance_variables(
+        &self,
+        class: ObjectIndex,
+    ) -> Result<Option<Vec<ObjectIndex>>, AllocError> {
+        let Some(fixed) = fixed_fields(self.heap, class) else {
+            return Ok(None);
+        };
+        let Some(arrays) = self.name_arrays(class, fixed)? else {
+            return Ok(None);
+        };
+        let mut names = Vec::new(self.alloc);
+        for array in arrays.iter().rev() {
+            if !self.push_names(*array, &mut names)? {
+                return Ok(None);
+            }
         }
+        Ok((names.len() == fixed as usize).then_some(names))
     }
 
-    /// Returns the names of the instance variables of a class, those of its superclasses first.
-    /// None if one of them is no byte object.
-    fn names_up_from(&self, class: ObjectIndex) -> Result<Option<Vec<ObjectIndex>>, AllocError> {
-        let mut chain = Vec::new(self.alloc);
+    /// Returns the arrays of the names that a class and its superclasses add, those of the class
+    /// first. None as soon as they have more than `most` elements.
+    fn name_arrays(
+        &self,
+        class: ObjectIndex,
+        most: u32,
+    ) -> Result<Option<Vec<ObjectIndex>>, AllocError> {
+        let mut arrays = Vec::new(self.alloc);
+        let mut count = 0u32;
         let mut next = Some(class);
         for _ in 0..MOST_CLASSES {
             let Some(class) = next else {
                 break;
             };
-            chain.push(class)?;
-            next = field_target(self.heap, class, SUPERCLASS);
-        }
-        let mut names = Vec::new(self.alloc);
-        for class in chain.iter().rev() {
-            if !self.push_own_names(*class, &mut names)? {
+            if let Some(array) = field_target(self.heap, class, VARIABLES) {
+                count = count.saturating_add(self.heap.fields(array));
+                arrays.push(array)?;
+            }
+            if count > most {
                 return Ok(None);
             }
+            next = field_target(self.heap, class, SUPERCLASS);
         }
-        Ok(Some(names))
+        Ok(Some(arrays))
     }
 
-    /// Appends the names of the instance variables that a class adds, and returns whether each of
-    /// them is a byte object.
-    fn push_own_names(
+    /// Appends the elements of an array, and returns whether each of them is a byte object.
+    fn push_names(
         &self,
-        class: ObjectIndex,
+        array: ObjectIndex,
         names: &mut Vec<ObjectIndex>,
     ) -> Result<bool, AllocError> {
-        let Some(array) = field_target(self.heap, class, VARIABLES) else {
-            return Ok(true);
-        };
+        if array >= self.heap.len() {
+            return Ok(false);
+        }
         for field in 0..self.heap.fields(array) {
             match field_target(self.heap, array, field) {
                 Some(name) if has_bytes(&self.heap.object(name)) => names.push(name)?,

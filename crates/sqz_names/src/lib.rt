@@ -4,6 +4,7 @@
 #![tactic(auto)]
 
 mod bytes;
+mod class_names;
 mod escape;
 mod fields;
 mod instance_variables;
@@ -11,10 +12,12 @@ mod labels;
 mod lookup;
 mod methods;
 mod names;
+mod object_set;
 mod role;
 mod variables;
 
 pub use bytes::{all_bytes, has_bytes};
+pub use class_names::{class_at, name_of_class, name_of_class_of};
 pub use escape::escaped;
 pub use fields::{field_target, fixed_fields};
 pub use methods::MethodName;

@@ -1,12 +1,13 @@
 //! What a name stands for.
 
-ghost use Rattle.std.specs.Prelude.{◌≡◌, ◌<◌, All, IfErr, IfOk, IsTrue};
+ghost use Rattle.std.specs.Prelude.{◌≡◌, ◌<◌, All, IfErr, IfOk};
 ghost use Rattle.sqz_image.specs.Objects.{object_count};
 ghost use Rattle.sqz_image.specs.declared.fault.Fault.TheVariants.{OutOfMemory};
 
-use crate::bytes::all_bytes;
-use crate::methods::MethodName;
+use crate::bytes::spells;
+use crate::methods::{MethodName, MethodsFound};
 use crate::names::Names;
+use crate::object_set::ObjectSet;
 use crate::variables::VariableName;
 use sqz_image::Fault;
 use sqz_object::ObjectIndex;
@@ -35,32 +36,28 @@ impl Names<'_> {
             All (λ method. method < object_count self.now.heap.now) found.items) }
         ensures refused { IfErr result (λ fault. fault ≡ OutOfMemory) }
     {
-        let mut found = Vec::new(self.alloc);
+        let (alloc, heap) = (self.alloc, self.heap);
+        let mut named = ObjectSet::empty(alloc, heap)?;
         let Some((class, selector)) = name.split_once(">>") else {
-            return Ok(found);
+            return Ok(Vec::new(alloc));
         };
-        for method in &self.methods {
-            let is_last = found.last() == Some(&method.method);
-            if !is_last && self.is_named(method, class, selector)? {
-                found.push(method.method)?;
+        let mut methods = MethodsFound::none(alloc, heap)?;
+        for class in &self.classes_named(class)? {
+            methods.add(*class)?;
+        }
+        // each selector is compared once
+        let mut compared = ObjectSet::empty(alloc, heap)?;
+        let mut equal = ObjectSet::empty(alloc, heap)?;
+        for method in &methods.names {
+            let is_new = compared.insert(method.selector);
+            if is_new && spells(heap, method.selector, selector.as_bytes()) {
+                equal.insert(method.selector);
+            }
+            if equal.contains(method.selector) {
+                named.insert(method.method);
             }
         }
-        Ok(found)
-    }
-
-    /// Returns whether a method is the one of this class under this selector.
-    fn is_named(&self, method: &MethodName, class: &str, selector: &str) -> Result<bool, Fault>
-        ensures inside { IfOk result (λ is_named.
-            IsTrue is_named → method.now.method < object_count self.now.heap.now) }
-        ensures refused { IfErr result (λ fault. fault ≡ OutOfMemory) }
-    {
-        if method.method >= self.heap.len() || method.selector >= self.heap.len() {
-            return Ok(false);
-        }
-        let chunk = self.heap.object(method.selector);
-        let bytes = all_bytes(self.alloc, self.heap.order(), &chunk)?;
-        let is_selector = bytes.is_some_and(|bytes| bytes.as_slice() == selector.as_bytes());
-        Ok(is_selector && self.name_of_class(method.class)?.as_str() == class)
+        Ok(named.objects(alloc, heap)?)
     }
 
     /// Returns the first name of a method.

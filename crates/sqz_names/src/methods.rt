@@ -1,10 +1,14 @@
 //! The methods that classes have.
 
+ghost use Rattle.std.specs.Prelude.{◌<◌};
+ghost use Rattle.sqz_image.specs.Objects.{object_count};
+
 use crate::bytes::has_bytes;
 use crate::fields::field_target;
+use crate::object_set::ObjectSet;
 use sqz_image::Heap;
 use sqz_object::{Layout, ObjectIndex};
-use std::alloc::AllocError;
+use std::alloc::{AllocError, Global};
 
 /// The field of a class that points to its method dictionary.
 const METHOD_DICTIONARY: u32 = 1;
@@ -27,15 +31,48 @@ pub struct MethodName {
     pub selector: ObjectIndex,
 }
 
-/// Appends the methods of a class, in the order of its method dictionary.
-pub(crate) fn push_methods(
+/// The methods of some classes. The methods of a dictionary occur once, as those of the first class
+/// that was added with it.
+#[derive(Drop)]
+pub(crate) struct MethodsFound<'a> {
+    heap: &'a Heap,
+    /// The method dictionaries whose methods were found.
+    dictionaries: ObjectSet,
+    pub(crate) names: Vec<MethodName>,
+}
+
+impl<'a> MethodsFound<'a> {
+    /// Returns the methods of no class.
+    pub(crate) fn none(alloc: Global, heap: &'a Heap) -> Result<Self, AllocError> {
+        Ok(MethodsFound {
+            heap,
+            dictionaries: ObjectSet::empty(alloc, heap)?,
+            names: Vec::new(alloc),
+        })
+    }
+
+    /// Adds the methods of a class, in the order of its method dictionary, unless those of the
+    /// dictionary were added before.
+    pub(crate) fn add(&mut self, class: ObjectIndex) -> Result<(), AllocError> {
+        let Some(dictionary) = field_target(self.heap, class, METHOD_DICTIONARY) else {
+            return Ok(());
+        };
+        if !self.dictionaries.insert(dictionary) {
+            return Ok(());
+        }
+        push_methods(self.heap, class, dictionary, &mut self.names)
+    }
+}
+
+/// Appends the methods of a dictionary of a class, in its order.
+fn push_methods(
     heap: &Heap,
     class: ObjectIndex,
+    dictionary: ObjectIndex,
     found: &mut Vec<MethodName>,
-) -> Result<(), AllocError> {
-    let Some(dictionary) = field_target(heap, class, METHOD_DICTIONARY) else {
-        return Ok(());
-    };
+) -> Result<(), AllocError>
+    requires { dictionary < object_count heap.now }
+{
     let Some(array) = field_target(heap, dictionary, METHODS) else {
         return Ok(());
     };

@@ -1,12 +1,16 @@
 //! Global variables and class variables.
 
+ghost use Rattle.std.specs.Prelude.{◌<◌};
+ghost use Rattle.sqz_image.specs.Objects.{object_count};
+
 use crate::bytes::has_bytes;
 use crate::fields::field_target;
 use crate::names::Names;
+use crate::object_set::ObjectSet;
 use crate::role::Role;
 use sqz_image::Heap;
 use sqz_object::ObjectIndex;
-use std::alloc::AllocError;
+use std::alloc::{AllocError, Global};
 
 /// The field of the special objects array that points to the dictionary of global variables.
 pub(crate) const GLOBALS: u32 = 8;
@@ -77,18 +81,52 @@ pub(crate) fn dictionary_of(heap: &Heap, class: Option<ObjectIndex>) -> Option<O
     }
 }
 
-/// Appends the global variables, or the class variables of `class`, in the order of their
-/// dictionary.
-pub(crate) fn push_variables(
+/// Global variables, and the class variables of some classes. The associations of an array occur
+/// once, as those of the first dictionary that was added with it.
+#[derive(Drop)]
+pub(crate) struct VariablesFound<'a> {
+    heap: &'a Heap,
+    /// The arrays whose associations were found.
+    arrays: ObjectSet,
+    pub(crate) names: Vec<VariableName>,
+}
+
+impl<'a> VariablesFound<'a> {
+    /// Returns no variables.
+    pub(crate) fn none(alloc: Global, heap: &'a Heap) -> Result<Self, AllocError> {
+        Ok(VariablesFound {
+            heap,
+            arrays: ObjectSet::empty(alloc, heap)?,
+            names: Vec::new(alloc),
+        })
+    }
+
+    /// Adds the global variables, or the class variables of `class`, in the order of their
+    /// dictionary, unless those of its array were added before.
+    pub(crate) fn add(&mut self, class: Option<ObjectIndex>) -> Result<(), AllocError> {
+        let heap = self.heap;
+        let dictionary = dictionary_of(heap, class);
+        let array = dictionary.and_then(|dictionary| field_target(heap, dictionary, ASSOCIATIONS));
+        let Some(array) = array.filter(|array| *array < heap.len()) else {
+            return Ok(());
+        };
+        if !self.arrays.insert(array) {
+            return Ok(());
+        }
+        push_variables(heap, class, array, &mut self.names)
+    }
+}
+
+/// Appends the variables of `class`, or the global ones, whose associations an array has, in its
+/// order.
+fn push_variables(
     heap: &Heap,
     class: Option<ObjectIndex>,
+    array: ObjectIndex,
     found: &mut Vec<VariableName>,
-) -> Result<(), AllocError> {
-    let dictionary = dictionary_of(heap, class);
-    let array = dictionary.and_then(|dictionary| field_target(heap, dictionary, ASSOCIATIONS));
-    let Some(array) = array.filter(|array| *array < heap.len()) else {
-        return Ok(());
-    };
+) -> Result<(), AllocError>
+    requires { array < object_count heap.now }
+{
     for field in 0..heap.fields(array) {
         let association = field_target(heap, array, field);
         let key = association.and_then(|association| field_target(heap, association, KEY));
