@@ -3,7 +3,7 @@
 ghost use Rattle.std.specs.Prelude.{IfErr};
 ghost use Rattle.sqz_inspect.specs.Failures.{IsPrintFault};
 
-use crate::inspector::Inspector;
+use crate::live_image::LiveImage;
 use crate::out::Out;
 use crate::texts::digits_if;
 use serde::Serialize;
@@ -26,46 +26,40 @@ struct GroupRow {
 /// with `WriteFailed` or `OutOfMemory`.
 pub fn print_census<C: Sink>(
     rt: &(impl Threads + Sync),
-    inspector: &Inspector<'_>,
+    live: &LiveImage<'_>,
     out: &mut Out<'_, C>,
 ) -> Result<(), Fault>
     ensures refused { IfErr result IsPrintFault }
 {
-    let totals = histogram(
-        rt,
-        inspector.alloc,
-        inspector.heap,
-        inspector.weak,
-        &inspector.marks,
-    )?;
-    print_totals(inspector, &totals, out)
+    let totals = histogram(rt, live.alloc, live.heap, live.weak, &live.marks)?;
+    print_totals(live, &totals, out)
 }
 
 /// Prints a class histogram of the objects that are not live, as `print_census` does.
 pub fn print_dead_census<C: Sink>(
     rt: &(impl Threads + Sync),
-    inspector: &Inspector<'_>,
+    live: &LiveImage<'_>,
     out: &mut Out<'_, C>,
 ) -> Result<(), Fault>
     ensures refused { IfErr result IsPrintFault }
 {
-    let heap = inspector.heap;
-    let dead = complement(inspector.alloc, heap, &inspector.marks)?;
-    let totals = histogram(rt, inspector.alloc, heap, inspector.weak, &dead)?;
-    print_totals(inspector, &totals, out)
+    let heap = live.heap;
+    let dead = complement(live.alloc, heap, &live.marks)?;
+    let totals = histogram(rt, live.alloc, heap, live.weak, &dead)?;
+    print_totals(live, &totals, out)
 }
 
 /// Prints the rows of a class histogram, and their sums.
 fn print_totals<C: Sink>(
-    inspector: &Inspector<'_>,
+    live: &LiveImage<'_>,
     totals: &[GroupTotal],
     out: &mut Out<'_, C>,
 ) -> Result<(), Fault>
     ensures { IfErr result IsPrintFault }
 {
     for total in totals.iter().take(out.shown(totals.len())) {
-        let row = group_row(inspector, *total)?;
-        print_row(inspector, &row, out)?;
+        let row = group_row(live, *total)?;
+        print_row(live, &row, out)?;
     }
     out.rest(totals.len(), "row")?;
     let mut sums = GroupRow {
@@ -78,19 +72,14 @@ fn print_totals<C: Sink>(
         sums.objects = sums.objects.saturating_add(u64::from(total.count));
         sums.bytes = sums.bytes.saturating_add(total.bytes);
     }
-    print_row(inspector, &sums, out)
+    print_row(live, &sums, out)
 }
 
 /// Returns a row as JSON.
-fn group_row(inspector: &Inspector<'_>, total: GroupTotal) -> Result<GroupRow, AllocError> {
-    let alloc = inspector.alloc;
+fn group_row(live: &LiveImage<'_>, total: GroupTotal) -> Result<GroupRow, AllocError> {
+    let alloc = live.alloc;
     let (class, address) = match total.group {
-        Group::Class(class) => {
-            (
-                inspector.names.name_of_class(class)?,
-                Some(inspector.address(class)),
-            )
-        }
+        Group::Class(class) => { (live.name_of_class(class)?, Some(live.address(class))) }
         Group::Compact(index) => (format!(in alloc; "compact {index}")?, None),
     };
     Ok(GroupRow {
@@ -103,7 +92,7 @@ fn group_row(inspector: &Inspector<'_>, total: GroupTotal) -> Result<GroupRow, A
 
 /// Prints a row.
 fn print_row<C: Sink>(
-    inspector: &Inspector<'_>,
+    live: &LiveImage<'_>,
     row: &GroupRow,
     out: &mut Out<'_, C>,
 ) -> Result<(), Fault>
@@ -112,19 +101,19 @@ fn print_row<C: Sink>(
     if out.is_json() {
         return out.json(row);
     }
-    let line = row_line(inspector, row)?;
+    let line = row_line(live, row)?;
     out.line(line.as_str())
 }
 
 /// Returns the line of a row, in the columns that `sqzcompact --census` prints.
-fn row_line(inspector: &Inspector<'_>, row: &GroupRow) -> Result<String, AllocError> {
+fn row_line(live: &LiveImage<'_>, row: &GroupRow) -> Result<String, AllocError> {
     let (objects, bytes) = (row.objects, row.bytes);
     let Some(class) = &row.class else {
-        return format!(in inspector.alloc; "{objects:>10} {bytes:>12} total");
+        return format!(in live.alloc; "{objects:>10} {bytes:>12} total");
     };
     let address = row
         .address
         .as_ref()
         .map_or("--------", |address| address.as_str());
-    format!(in inspector.alloc; "{objects:>10} {bytes:>12} {address} {class}")
+    format!(in live.alloc; "{objects:>10} {bytes:>12} {address} {class}")
 }

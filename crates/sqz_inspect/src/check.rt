@@ -6,7 +6,7 @@ ghost use Rattle.sqz_facts.specs.Faults.{first_fault};
 ghost use Rattle.sqz_inspect.specs.Failures.{IsPrintFault};
 
 use crate::faults::{FaultReport, FaultRow};
-use crate::inspector::Inspector;
+use crate::live_image::LiveImage;
 use crate::out::Out;
 use crate::texts::counted;
 use crate::unreadable::Unreadable;
@@ -33,22 +33,22 @@ struct CheckRow<'a> {
 /// Fails only with `WriteFailed` or `OutOfMemory`.
 pub fn print_check<C: Sink>(
     rt: &(impl Threads + Sync),
-    inspector: &Inspector<'_>,
+    live: &LiveImage<'_>,
     path: &str,
     all: bool,
     out: &mut Out<'_, C>,
 ) -> Result<bool, Fault>
     ensures refused { IfErr result IsPrintFault }
     ensures sound { IfOk result (λ sound. IsTrue sound ↔ (first_fault
-        inspector.now.heap.now inspector.now.weak inspector.now.marks ≡ None)) }
+        live.now.heap.now live.now.weak live.now.marks ≡ None)) }
 {
-    let first = first_fault(rt, inspector.heap, inspector.weak, &inspector.marks);
+    let first = first_fault(rt, live.heap, live.weak, &live.marks);
     let faults = if all {
-        all_faults(inspector)?
+        all_faults(live)?
     } else {
-        listed(inspector.alloc, first)?
+        listed(live.alloc, first)?
     };
-    print_found(inspector, path, &faults, out)?;
+    print_found(live, path, &faults, out)?;
     Ok(first.is_none())
 }
 
@@ -113,15 +113,15 @@ fn print_unread<C: Sink>(
 }
 
 /// Returns all faults of an image.
-fn all_faults(inspector: &Inspector<'_>) -> Result<Vec<Fault>, Fault>
+fn all_faults(live: &LiveImage<'_>) -> Result<Vec<Fault>, Fault>
     ensures { IfErr result (λ fault. fault ≡ OutOfMemory) }
 {
-    let (alloc, heap, weak) = (inspector.alloc, inspector.heap, inspector.weak);
+    let (alloc, heap, weak) = (live.alloc, live.heap, live.weak);
     let mut faults = Vec::new(alloc);
     if lacks_nil(heap, weak) {
         faults.push(Fault::NoNil)?;
     }
-    faults.extend_from_slice(&defects_of(alloc, heap, weak, &inspector.marks)?)?;
+    faults.extend_from_slice(&defects_of(alloc, heap, weak, &live.marks)?)?;
     Ok(faults)
 }
 
@@ -138,18 +138,18 @@ fn listed(alloc: Global, first: Option<Fault>) -> Result<Vec<Fault>, Fault>
 
 /// Prints these faults of an image, or that it is sound if there are none.
 fn print_found<C: Sink>(
-    inspector: &Inspector<'_>,
+    live: &LiveImage<'_>,
     path: &str,
     faults: &[Fault],
     out: &mut Out<'_, C>,
 ) -> Result<(), Fault>
     ensures { IfErr result IsPrintFault }
 {
-    let alloc = inspector.alloc;
-    let facts = file_facts(inspector.image, &inspector.marks);
+    let alloc = live.alloc;
+    let facts = file_facts(live.image, &live.marks);
     let mut reports = Vec::new(alloc);
     for fault in faults {
-        reports.push(FaultReport::in_image(inspector, *fault)?)?;
+        reports.push(FaultReport::in_image(live, *fault)?)?;
     }
     if out.is_json() {
         let row = CheckRow {

@@ -1,6 +1,6 @@
 //! A fault, and where it is.
 
-use crate::inspector::Inspector;
+use crate::live_image::LiveImage;
 use crate::opening::HEADER_SIZE;
 use crate::texts::{digits, digits_if};
 use serde::Serialize;
@@ -42,10 +42,10 @@ impl FaultReport {
     }
 
     /// Returns a fault of an object of an image.
-    pub(crate) fn in_image(inspector: &Inspector<'_>, fault: Fault) -> Result<Self, AllocError> {
-        let mut report = FaultReport::plain(inspector.alloc, fault);
+    pub(crate) fn in_image(live: &LiveImage<'_>, fault: Fault) -> Result<Self, AllocError> {
+        let mut report = FaultReport::plain(live.alloc, fault);
         report.address = address_of(&fault);
-        let heap = inspector.heap;
+        let heap = live.heap;
         let Some(object) = report.address.and_then(|address| heap.find(address)) else {
             return Ok(report);
         };
@@ -53,10 +53,10 @@ impl FaultReport {
             Fault::BadPointer { slot, .. } => Some(slot),
             _ => None,
         };
-        let before = inspector.image.prefix().len() as u64 + HEADER_SIZE as u64;
+        let before = live.image.prefix().len() as u64 + HEADER_SIZE as u64;
         report.byte = Some(before + 4 * u64::from(word_of(heap, object, slot)));
         if let Some(slot) = slot {
-            report.detail = pointer_detail(inspector, object, slot)?;
+            report.detail = pointer_detail(live, object, slot)?;
         }
         Ok(report)
     }
@@ -109,11 +109,11 @@ fn word_of(heap: &Heap, object: ObjectIndex, slot: Option<Slot>) -> WordIndex {
 
 /// Returns what a bad slot holds, and the object whose address is one bit away.
 fn pointer_detail(
-    inspector: &Inspector<'_>,
+    live: &LiveImage<'_>,
     object: ObjectIndex,
     slot: Slot,
 ) -> Result<String, AllocError> {
-    let (alloc, heap) = (inspector.alloc, inspector.heap);
+    let (alloc, heap) = (live.alloc, live.heap);
     if object >= heap.len() {
         return Ok(String::new(alloc));
     }
@@ -122,8 +122,8 @@ fn pointer_detail(
     };
     let mut detail = format!(in alloc; ": word {:08x}", held.word)?;
     if let Some(near) = one_bit_from(heap, held.word) {
-        let address = digits(alloc, inspector.address(near))?;
-        let class = inspector.names.name_of_class_of(near)?;
+        let address = digits(alloc, live.address(near))?;
+        let class = live.name_of_class_of(near)?;
         let near = format!(in alloc; ", one bit from {address} {class}")?;
         detail.push_str(near.as_str())?;
     }

@@ -5,7 +5,7 @@ ghost use Rattle.sqz_image.specs.declared.fault.Fault.TheVariants.{OutOfMemory};
 ghost use Rattle.sqz_inspect.specs.Failures.{IsPrintFault};
 
 use crate::faults::{FaultReport, FaultRow};
-use crate::inspector::Inspector;
+use crate::live_image::LiveImage;
 use crate::opening::Header;
 use crate::out::Out;
 use crate::texts::{counted, digits, digits_if};
@@ -43,17 +43,17 @@ struct InfoRow<'a> {
 /// `OutOfMemory`.
 pub fn print_info<C: Sink>(
     rt: &(impl Threads + Sync),
-    inspector: &Inspector<'_>,
+    live: &LiveImage<'_>,
     path: &str,
     out: &mut Out<'_, C>,
 ) -> Result<(), Fault>
     ensures refused { IfErr result IsPrintFault }
 {
-    let alloc = inspector.alloc;
-    let facts = file_facts(inspector.image, &inspector.marks);
-    let fault = first_fault(rt, inspector.heap, inspector.weak, &inspector.marks);
+    let alloc = live.alloc;
+    let facts = file_facts(live.image, &live.marks);
+    let fault = first_fault(rt, live.heap, live.weak, &live.marks);
     let report = match fault {
-        Some(fault) => Some(FaultReport::in_image(inspector, fault)?),
+        Some(fault) => Some(FaultReport::in_image(live, fault)?),
         None => None,
     };
     if out.is_json() {

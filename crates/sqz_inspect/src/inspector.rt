@@ -5,10 +5,11 @@ ghost use Rattle.sqz_image.specs.Objects.{object_count, chunk_words, address_of}
 ghost use Rattle.sqz_image.specs.declared.fault.Fault.TheVariants.{OutOfMemory};
 ghost use Rattle.sqz_trace.specs.Reachability.{IsReachability};
 
+use crate::live_image::LiveImage;
 use sqz_image::{Fault, Heap, Image};
 use sqz_names::Names;
 use sqz_object::ObjectIndex;
-use sqz_trace::{Marks, Weak, mark_plain};
+use sqz_trace::{Marks, Weak};
 use std::alloc::Global;
 
 /// An image with the marks of its live objects and the names of what it holds.
@@ -28,14 +29,19 @@ pub struct Inspector<'a> {
 }
 
 impl<'a> Inspector<'a> {
-    /// Returns an inspector of an image under a policy on weak slots. Fails only if out of memory.
-    pub fn of(alloc: Global, image: &'a Image, weak: Weak) -> Result<Self, Fault>
+    /// Returns an inspector of an image, with all its names. Fails only if out of memory.
+    pub fn of(live: LiveImage<'a>) -> Result<Self, Fault>
         ensures same { IfOk result (λ inspector.
-            (inspector.image.now ≡ image.now) × (inspector.weak ≡ weak)) }
+            (inspector.image.now ≡ live.entry.image.now) × (inspector.weak ≡ live.entry.weak)) }
         ensures refused { IfErr result (λ fault. fault ≡ OutOfMemory) }
     {
-        let heap = image.heap();
-        let marks = mark_plain(alloc, heap, weak)?;
+        let LiveImage {
+            alloc,
+            image,
+            heap,
+            weak,
+            marks,
+        } = live;
         let names = Names::of(alloc, heap, weak, &marks)?;
         Ok(Inspector {
             alloc,

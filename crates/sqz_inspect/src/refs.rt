@@ -1,7 +1,6 @@
 //! What points to an object.
 
-ghost use Rattle.std.specs.Prelude.{IfErr, ◌<◌};
-ghost use Rattle.sqz_image.specs.Objects.{object_count};
+ghost use Rattle.std.specs.Prelude.{IfErr};
 ghost use Rattle.sqz_inspect.specs.Failures.{IsPrintFault};
 
 use crate::inspector::Inspector;
@@ -41,8 +40,9 @@ pub fn print_refs<C: Sink>(
         let head = head_line(inspector, object, referrers.len())?;
         out.line(head.as_str())?;
     }
+    let mut names = SlotNames::none(alloc);
     for referrer in referrers.iter().take(out.shown(referrers.len())) {
-        print_reference(inspector, *referrer, out)?;
+        print_reference(inspector, &mut names, *referrer, out)?;
     }
     out.rest(referrers.len(), "reference")
 }
@@ -59,9 +59,10 @@ fn head_line(
     format!(in inspector.alloc; "{label} {address:08x}, {count}")
 }
 
-/// Prints a reference.
+/// Prints a reference. `names` are the names of the slots of any object.
 fn print_reference<C: Sink>(
     inspector: &Inspector<'_>,
+    names: &mut SlotNames,
     referrer: Referrer,
     out: &mut Out<'_, C>,
 ) -> Result<(), Fault>
@@ -71,23 +72,22 @@ fn print_reference<C: Sink>(
     if object >= inspector.heap.len() {
         return Ok(());
     }
+    names.set_object(inspector, object)?;
     if out.is_json() {
-        let row = reference_row(inspector, object, slot)?;
+        let row = reference_row(inspector, names, object, slot)?;
         return out.json(&row);
     }
-    let line = reference_line(inspector, object, slot)?;
+    let line = reference_line(inspector, names, object, slot)?;
     out.line(line.as_str())
 }
 
-/// Returns a reference as JSON.
+/// Returns a reference as JSON. `names` are those of the object that holds it.
 fn reference_row(
     inspector: &Inspector<'_>,
+    names: &SlotNames,
     object: ObjectIndex,
     slot: Slot,
-) -> Result<ReferenceRow, AllocError>
-    requires { object < object_count inspector.now.heap.now }
-{
-    let names = SlotNames::of(inspector, object)?;
+) -> Result<ReferenceRow, AllocError> {
     Ok(ReferenceRow {
         address: digits(inspector.alloc, inspector.address(object))?,
         class: inspector.names.name_of_class_of(object)?,
@@ -98,15 +98,13 @@ fn reference_row(
     })
 }
 
-/// Returns the line of a reference.
+/// Returns the line of a reference. `names` are those of the object that holds it.
 fn reference_line(
     inspector: &Inspector<'_>,
+    names: &SlotNames,
     object: ObjectIndex,
     slot: Slot,
-) -> Result<String, AllocError>
-    requires { object < object_count inspector.now.heap.now }
-{
-    let names = SlotNames::of(inspector, object)?;
+) -> Result<String, AllocError> {
     let text = names.text(inspector, slot)?;
     let address = inspector.address(object);
     let label = inspector.names.short_label(object)?;

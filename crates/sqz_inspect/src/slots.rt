@@ -9,7 +9,7 @@ use sqz_facts::object_facts;
 use sqz_image::Slot;
 use sqz_names::fixed_fields;
 use sqz_object::{Layout, ObjectIndex};
-use std::alloc::AllocError;
+use std::alloc::{AllocError, Global};
 
 /// The format of objects that have indexed fields alone.
 const INDEXED: u32 = 2;
@@ -38,36 +38,61 @@ pub(crate) fn slot_name(slot: Slot) -> SlotName {
 /// The names of the slots of an object.
 #[derive(Drop)]
 pub(crate) struct SlotNames {
-    /// The names of the instance variables, as byte objects.
+    /// The class whose instance variables were found last.
+    class: Option<ObjectIndex>,
+    /// The names of these instance variables, as byte objects.
     variables: Vec<ObjectIndex>,
+    /// Whether the fields of the object are these instance variables.
+    has_variables: bool,
     /// The first indexed field, if the object has such fields.
     first_indexed: Option<u32>,
 }
 
 impl SlotNames {
+    /// Returns names of slots, none of which is that of an instance variable.
+    pub(crate) fn none(alloc: Global) -> Self {
+        SlotNames {
+            class: None,
+            variables: Vec::new(alloc),
+            has_variables: false,
+            first_indexed: None,
+        }
+    }
+
     /// Returns the names of the slots of an object.
     pub(crate) fn of(inspector: &Inspector<'_>, object: ObjectIndex) -> Result<Self, AllocError>
+        requires { object < object_count inspector.now.heap.now }
+    {
+        let mut names = SlotNames::none(inspector.alloc);
+        names.set_object(inspector, object)?;
+        Ok(names)
+    }
+
+    /// Makes these the names of the slots of another object. The names of its instance variables
+    /// are found again only if it has another class. All objects have to be of one image.
+    pub(crate) fn set_object(
+        &mut self,
+        inspector: &Inspector<'_>,
+        object: ObjectIndex,
+    ) -> Result<(), AllocError>
         requires { object < object_count inspector.now.heap.now }
     {
         let heap = inspector.heap;
         let layout = heap.object(object).layout();
         let facts = object_facts(heap, inspector.weak, object);
-        let has_variables = !matches!(layout, Layout::Bytes { .. } | Layout::Method);
-        let variables = match facts.class {
-            Some(class) if has_variables => inspector.names.instance_variables(class)?,
-            _ => Vec::new(inspector.alloc),
-        };
-        let first_indexed = match facts.format {
+        self.has_variables = !matches!(layout, Layout::Bytes { .. } | Layout::Method);
+        self.first_indexed = match facts.format {
             INDEXED => Some(0),
             FIXED_AND_INDEXED | FIXED_AND_WEAK => {
                 facts.class.and_then(|class| fixed_fields(heap, class))
             }
             _ => None,
         };
-        Ok(SlotNames {
-            variables,
-            first_indexed,
-        })
+        if self.has_variables && self.class != facts.class {
+            self.variables = variables_of(inspector, facts.class)?;
+            self.class = facts.class;
+        }
+        Ok(())
     }
 
     /// Returns the name of the instance variable that a slot is.
@@ -80,8 +105,8 @@ impl SlotNames {
             return Ok(None);
         };
         match self.variables.get(index as usize) {
-            Some(variable) => Ok(Some(inspector.names.text(*variable)?)),
-            None => Ok(None),
+            Some(variable) if self.has_variables => Ok(Some(inspector.names.text(*variable)?)),
+            _ => Ok(None),
         }
     }
 
@@ -103,4 +128,17 @@ impl SlotNames {
             None => format!(in alloc; "field {index}"),
         }
     }
+}
+
+/// Returns the names of the instance variables of a class, as byte objects; none if they are not
+/// known.
+fn variables_of(
+    inspector: &Inspector<'_>,
+    class: Option<ObjectIndex>,
+) -> Result<Vec<ObjectIndex>, AllocError> {
+    let names = match class {
+        Some(class) => inspector.names.instance_variables(class)?,
+        None => None,
+    };
+    Ok(names.unwrap_or(Vec::new(inspector.alloc)))
 }

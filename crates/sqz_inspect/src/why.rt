@@ -51,6 +51,16 @@ struct Found {
     dominators: Dominators,
 }
 
+/// A step of a path that is a row of the text form.
+#[derive(Clone, Copy)]
+struct VisibleStep {
+    /// The object before the step.
+    owner: ObjectIndex,
+    step: Step,
+    /// Whether the owner is the association of a variable that has no row of its own.
+    is_variable: bool,
+}
+
 /// Prints a shortest path from the special objects array to an object, and what the objects on it
 /// retain. The text form takes the steps to a global or a class variable as one, unless `raw`.
 /// Fails only with `WriteFailed` or `OutOfMemory`.
@@ -117,23 +127,27 @@ fn step_rows(inspector: &Inspector<'_>, found: &Found) -> Result<Vec<StepRow>, F
     ensures { IfErr result (λ fault. fault ≡ OutOfMemory) }
 {
     let mut rows = Vec::new(inspector.alloc);
+    let mut names = SlotNames::none(inspector.alloc);
     let mut owner = inspector.heap.special();
-    rows.push(step_row(inspector, found, owner, None)?)?;
+    rows.push(step_row(inspector, found, owner)?)?;
     for step in &found.steps {
-        rows.push(step_row(inspector, found, step.object, Some((owner, step.slot)))?)?;
+        let mut row = step_row(inspector, found, step.object)?;
+        row.slot = Some(slot_name(step.slot));
+        row.weak = is_weak_slot(inspector.heap, owner, step.slot);
+        row.name = name_of_slot(inspector, &mut names, owner, step.slot)?;
+        rows.push(row)?;
         owner = step.object;
     }
     Ok(rows)
 }
 
-/// Returns an object of a path as JSON, with the slot that leads to it and its owner.
+/// Returns an object of a path as JSON, as if no slot led to it.
 fn step_row(
     inspector: &Inspector<'_>,
     found: &Found,
     object: ObjectIndex,
-    led_by: Option<(ObjectIndex, Slot)>,
 ) -> Result<StepRow, AllocError> {
-    let mut row = StepRow {
+    Ok(StepRow {
         address: digits(inspector.alloc, inspector.address(object))?,
         class: inspector.names.name_of_class_of(object)?,
         label: inspector.names.label(object)?,
@@ -141,25 +155,22 @@ fn step_row(
         name: None,
         weak: false,
         retained: found.dominators.retained(object).bytes,
-    };
-    if let Some((owner, slot)) = led_by {
-        row.slot = Some(slot_name(slot));
-        row.weak = is_weak_slot(inspector.heap, owner, slot);
-        row.name = name_of_slot(inspector, owner, slot)?;
-    }
-    Ok(row)
+    })
 }
 
-/// Returns the name of the instance variable that a slot of an object is.
+/// Returns the name of the instance variable that a slot of an object is. `names` are the names of
+/// the slots of any object.
 fn name_of_slot(
     inspector: &Inspector<'_>,
+    names: &mut SlotNames,
     owner: ObjectIndex,
     slot: Slot,
 ) -> Result<Option<String>, AllocError> {
     if owner >= inspector.heap.len() {
         return Ok(None);
     }
-    SlotNames::of(inspector, owner)?.name(inspector, slot)
+    names.set_object(inspector, owner)?;
+    names.name(inspector, slot)
 }
 
 /// Returns the first line of the text form.
@@ -202,7 +213,7 @@ fn is_held_weakly(inspector: &Inspector<'_>, object: ObjectIndex) -> Result<bool
     Ok(!strongly.has(object))
 }
 
-/// Prints the steps of a path.
+/// Prints the steps of a path, of a long one the first and the last ones.
 fn print_path<C: Sink>(
     inspector: &Inspector<'_>,
     found: &Found,
@@ -211,60 +222,88 @@ fn print_path<C: Sink>(
 ) -> Result<(), Fault>
     ensures { IfErr result IsPrintFault }
 {
-    let lines = step_lines(inspector, found, raw)?;
-    let count = lines.len();
-    let cut = out.is_cut() && count > 2 * HALF;
+    let alloc = inspector.alloc;
+    let steps = visible_steps(inspector, found, raw)?;
+    let cut = if out.is_cut() {
+        steps.len().saturating_sub(2 * HALF)
+    } else {
+        0
+    };
+    let lines = step_lines(inspector, found, &steps, cut)?;
     for (index, line) in lines.iter().enumerate() {
-        if cut && index == HALF {
-            let hidden = counted(inspector.alloc, count.saturating_sub(2 * HALF), "more row")?;
-            let line = format!(in inspector.alloc; "  ... {hidden}; --all prints all")?;
+        if cut > 0 && index == HALF {
+            let rows = counted(alloc, cut, "more row")?;
+            let line = format!(in alloc; "  ... {rows}; --all prints all")?;
             out.line(line.as_str())?;
         }
-        if !cut || index < HALF || count.saturating_sub(index) <= HALF {
-            out.line(line.as_str())?;
-        }
+        out.line(line.as_str())?;
     }
-    let steps = counted(inspector.alloc, found.steps.len(), "step")?;
-    let hint = if count < found.steps.len() {
+    let count = counted(alloc, found.steps.len(), "step")?;
+    let hint = if steps.len() < found.steps.len() {
         "; --raw prints each"
     } else {
         ""
     };
-    let last = format!(in inspector.alloc; "{steps}{hint}")?;
+    let last = format!(in alloc; "{count}{hint}")?;
     out.line(last.as_str())
 }
 
-/// Returns the lines of the steps of a path.
-fn step_lines(inspector: &Inspector<'_>, found: &Found, raw: bool) -> Result<Vec<String>, Fault>
-    ensures { IfErr result (λ fault. fault ≡ OutOfMemory) }
-{
+/// Returns the steps of a path that are rows.
+fn visible_steps(
+    inspector: &Inspector<'_>,
+    found: &Found,
+    raw: bool,
+) -> Result<Vec<VisibleStep>, AllocError> {
     let hidden = hidden_steps(inspector, &found.steps)?;
-    let mut rows = Vec::new(inspector.alloc);
+    let mut visible = Vec::new(inspector.alloc);
     let mut owner = inspector.heap.special();
-    let mut follows_hidden = false;
+    let mut is_variable = false;
     for (index, step) in found.steps.iter().enumerate() {
         let is_hidden = !raw && hidden.get(index) == Some(&true);
         if !is_hidden {
-            let name = step_name(inspector, owner, step.slot, follows_hidden)?;
-            let rest = step_text(inspector, found, owner, *step)?;
+            visible.push(VisibleStep {
+                owner,
+                step: *step,
+                is_variable,
+            })?;
+        }
+        is_variable = is_hidden;
+        owner = step.object;
+    }
+    Ok(visible)
+}
+
+/// Returns the lines of steps, but for this many in the middle.
+fn step_lines(
+    inspector: &Inspector<'_>,
+    found: &Found,
+    steps: &[VisibleStep],
+    cut: usize,
+) -> Result<Vec<String>, Fault>
+    ensures { IfErr result (λ fault. fault ≡ OutOfMemory) }
+{
+    let mut names = SlotNames::none(inspector.alloc);
+    let mut rows = Vec::new(inspector.alloc);
+    for (index, visible) in steps.iter().enumerate() {
+        if cut == 0 || index < HALF || steps.len().saturating_sub(index) <= HALF {
+            let name = step_name(inspector, &mut names, *visible)?;
+            let rest = step_text(inspector, found, *visible)?;
             rows.push(TextRow { name, rest })?;
         }
-        follows_hidden = is_hidden;
-        owner = step.object;
     }
     aligned(inspector.alloc, &rows)
 }
 
 /// Returns what leads to an object: a slot of its owner, or the variable whose association the
-/// owner is.
+/// owner is. `names` are the names of the slots of any object.
 fn step_name(
     inspector: &Inspector<'_>,
-    owner: ObjectIndex,
-    slot: Slot,
-    is_variable: bool,
+    names: &mut SlotNames,
+    visible: VisibleStep,
 ) -> Result<String, AllocError> {
     let alloc = inspector.alloc;
-    if is_variable {
+    let owner = visible.owner;
+    if visible.is_variable {
         if let Role::ClassVariable { key, .. } = inspector.names.role(owner)? {
             let key = inspector.names.text(key)?;
             return format!(in alloc; "class variable {key}");
@@ -274,16 +313,17 @@ fn step_name(
     if owner >= inspector.heap.len() {
         return Ok(String::new(alloc));
     }
-    SlotNames::of(inspector, owner)?.text(inspector, slot)
+    names.set_object(inspector, owner)?;
+    names.text(inspector, visible.step.slot)
 }
 
 /// Returns the object that a step leads to as text, with what it retains.
 fn step_text(
     inspector: &Inspector<'_>,
     found: &Found,
-    owner: ObjectIndex,
-    step: Step,
+    visible: VisibleStep,
 ) -> Result<String, AllocError> {
+    let VisibleStep { owner, step, .. } = visible;
     let address = inspector.address(step.object);
     let label = inspector.names.short_label(step.object)?;
     let retained = found.dominators.retained(step.object).bytes;

@@ -10,7 +10,7 @@ use crate::loading::{Loaded, load};
 use sqz_cli::{BAD_IMAGE, DONE};
 use sqz_image::Sink;
 use sqz_inspect::{
-    Found, Inspector, Out, find_class, find_object, print_census, print_dead_census, print_info,
+    Found, Inspector, LiveImage, Out, find_class, find_object, print_census, print_dead_census, print_info,
     print_info_unreadable, print_list, print_refs, print_show, print_why,
 };
 use sqz_top::print_top;
@@ -52,8 +52,8 @@ fn answer_about_one<T: Files + Threads + Sync, C: Sink>(
     };
     match load(rt, alloc, path)? {
         Loaded::Image(image) => {
-            let inspector = Inspector::of(alloc, &image, arguments.weak)?;
-            answer_about_image(rt, &inspector, arguments, path, out)?;
+            let live = LiveImage::of(alloc, &image, arguments.weak)?;
+            answer_about_image(rt, live, arguments, path, out)?;
             Ok(DONE)
         }
         Loaded::Unreadable(unreadable) if arguments.question == Question::Info => {
@@ -64,28 +64,36 @@ fn answer_about_one<T: Files + Threads + Sync, C: Sink>(
     }
 }
 
-/// Prints the answer to a question about an image.
+/// Prints the answer to a question about an image. Names are found only if it needs them.
 fn answer_about_image<T: Threads + Sync, C: Sink>(
     rt: &T,
-    inspector: &Inspector<'_>,
+    live: LiveImage<'_>,
     arguments: &Arguments<'_>,
     path: &str,
     out: &mut Out<'_, C>,
 ) -> Result<(), Failure> {
     match arguments.question {
-        Question::Check | Question::Diff | Question::Info => {
-            print_info(rt, inspector, path, out)?;
-        }
-        Question::Census if arguments.dead => print_dead_census(rt, inspector, out)?,
-        Question::Census => print_census(rt, inspector, out)?,
+        Question::Check | Question::Diff | Question::Info => print_info(rt, &live, path, out)?,
+        Question::Census if arguments.dead => print_dead_census(rt, &live, out)?,
+        Question::Census => print_census(rt, &live, out)?,
+        _ => answer_by_names(&Inspector::of(live)?, arguments, out)?,
+    }
+    Ok(())
+}
+
+/// Prints the answer to a question about the names or the objects of an image.
+fn answer_by_names<C: Sink>(
+    inspector: &Inspector<'_>,
+    arguments: &Arguments<'_>,
+    out: &mut Out<'_, C>,
+) -> Result<(), Failure> {
+    match arguments.question {
         Question::List => match find_class(inspector, arguments.subject.as_str())? {
             Found::One(group) => print_list(inspector, group, out)?,
             Found::Nothing(message) => return Err(Failure::NotThere(message)),
         },
         Question::Top => print_top(inspector, arguments.top, out)?,
-        Question::Show | Question::Why | Question::Refs => {
-            answer_about_object(inspector, arguments, out)?;
-        }
+        _ => answer_about_object(inspector, arguments, out)?,
     }
     Ok(())
 }

@@ -7,7 +7,7 @@ use crate::arguments::Arguments;
 use crate::loading::{Loaded, load};
 use sqz_cli::{BAD_IMAGE, DEVICE_FAILED, DONE};
 use sqz_image::{Fault, Sink};
-use sqz_inspect::{Inspector, Out, print_check, print_check_missing, print_check_unreadable};
+use sqz_inspect::{LiveImage, Out, print_check, print_check_missing, print_check_unreadable};
 use std::alloc::Global;
 use std::rt::Files;
 use std::thread::Threads;
@@ -43,8 +43,8 @@ fn check_one<T: Files + Threads + Sync, C: Sink>(
 {
     match load(rt, alloc, path) {
         Ok(Loaded::Image(image)) => {
-            let inspector = Inspector::of(alloc, &image, arguments.weak)?;
-            check_image(rt, &inspector, path, arguments.all, out)
+            let live = LiveImage::of(alloc, &image, arguments.weak)?;
+            check_image(rt, &live, path, arguments.all, out)
         }
         Ok(Loaded::Unreadable(unreadable)) => {
             print_check_unreadable(alloc, &unreadable, path, out)?;
@@ -61,15 +61,15 @@ fn check_one<T: Files + Threads + Sync, C: Sink>(
 /// Prints whether an image is sound, and returns the exit.
 fn check_image<T: Threads + Sync, C: Sink>(
     rt: &T,
-    inspector: &Inspector<'_>,
+    live: &LiveImage<'_>,
     path: &str,
     all: bool,
     out: &mut Out<'_, C>,
 ) -> Result<u8, Fault>
     ensures exit { IfOk result (λ exit. exit ≤ BAD_IMAGE) }
     ensures sound { IfOk result (λ exit. (exit ≡ DONE) ↔ (first_fault
-        inspector.now.heap.now inspector.now.weak inspector.now.marks ≡ None)) }
+        live.now.heap.now live.now.weak live.now.marks ≡ None)) }
 {
-    let is_sound = print_check(rt, inspector, path, all, out)?;
+    let is_sound = print_check(rt, live, path, all, out)?;
     Ok(if is_sound { DONE } else { BAD_IMAGE })
 }

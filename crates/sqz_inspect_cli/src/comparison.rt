@@ -8,7 +8,7 @@ use crate::loading::{Loaded, load};
 use sqz_cli::{BAD_IMAGE, DONE};
 use sqz_diff::print_diff;
 use sqz_image::{Fault, Image, Sink};
-use sqz_inspect::{Inspector, Out};
+use sqz_inspect::{Inspector, LiveImage, Out};
 use std::alloc::Global;
 use std::rt::Files;
 use std::thread::Threads;
@@ -28,8 +28,8 @@ pub(crate) fn compare<T: Files + Threads + Sync, C: Sink>(
         return Err(Failure::BadWords(message));
     };
     let (old, new) = (image_at(rt, alloc, old)?, image_at(rt, alloc, new)?);
-    let old = Inspector::of(alloc, &old, arguments.weak)?;
-    let new = Inspector::of(alloc, &new, arguments.weak)?;
+    let old = Inspector::of(LiveImage::of(alloc, &old, arguments.weak)?)?;
+    let new = Inspector::of(LiveImage::of(alloc, &new, arguments.weak)?)?;
     let is_alike = print_diff(rt, &old, &new, out)?;
     Ok(if is_alike { DONE } else { BAD_IMAGE })
 }
