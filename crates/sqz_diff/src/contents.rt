@@ -3,8 +3,9 @@
 use crate::bytecodes::MethodParts;
 use crate::literals::Literal;
 use crate::numbers::Numbers;
+use sqz_image::Heap;
 use sqz_inspect::Inspector;
-use sqz_object::ObjectIndex;
+use sqz_object::{ObjectIndex, Value, value_of};
 use std::alloc::AllocError;
 use std::collections::BTreeMap;
 
@@ -15,8 +16,10 @@ const DEPTH: u32 = 3;
 #[derive(Drop)]
 pub(crate) struct Contents<'a> {
     inspector: &'a Inspector<'a>,
-    /// The number of each word that was compared by its elements down to a depth.
-    known: BTreeMap<(u32, u32), usize>,
+    /// The number of each method.
+    methods: BTreeMap<ObjectIndex, usize>,
+    /// The number of each object that was compared by its elements down to a depth.
+    known: BTreeMap<(ObjectIndex, u32), usize>,
 }
 
 impl<'a> Contents<'a> {
@@ -24,6 +27,7 @@ impl<'a> Contents<'a> {
     pub(crate) fn new(inspector: &'a Inspector<'a>) -> Self {
         Contents {
             inspector,
+            methods: BTreeMap::new(inspector.alloc),
             known: BTreeMap::new(inspector.alloc),
         }
     }
@@ -35,35 +39,45 @@ impl<'a> Contents<'a> {
         numbers: &mut Numbers,
         method: ObjectIndex,
     ) -> Result<usize, AllocError> {
+        if let Some(number) = self.methods.get(&method) {
+            return Ok(*number);
+        }
         let (alloc, heap) = (self.inspector.alloc, self.inspector.heap);
         let mut description = Vec::new(alloc);
         if method < heap.len() {
             let parts = MethodParts::of(alloc, heap.order(), &heap.object(method))?;
             description.extend_from_slice(&parts.literals.len().to_le_bytes())?;
             for literal in parts.literals.iter() {
-                let number = self.number_of(numbers, literal, DEPTH)?;
-                description.extend_from_slice(&number.to_le_bytes())?;
+                match object_in(heap, literal) {
+                    Some(object) => {
+                        let number = self.number_of(numbers, object, DEPTH)?;
+                        push_number(&mut description, number)?;
+                    }
+                    None => push_word(&mut description, literal)?,
+                }
             }
             if let Some(header) = parts.header {
                 description.extend_from_slice(&header.to_le_bytes())?;
             }
             description.extend_from_slice(&parts.bytecodes)?;
         }
-        numbers.number_of(description)
+        let number = numbers.number_of(description)?;
+        self.methods.insert(method, number)?;
+        Ok(number)
     }
 
-    /// Returns the number of a literal: the same for equal literals, if the elements of arrays are
+    /// Returns the number of an object: the same for equal literals, if the elements of arrays are
     /// compared down to a depth, and arrays below it by their classes alone.
     fn number_of(
         &mut self,
         numbers: &mut Numbers,
-        word: u32,
+        object: ObjectIndex,
         depth: u32,
     ) -> Result<usize, AllocError> {
-        if let Some(number) = self.known.get(&(word, depth)) {
+        if let Some(number) = self.known.get(&(object, depth)) {
             return Ok(*number);
         }
-        let mut literal = Literal::of(self.inspector, word)?;
+        let mut literal = Literal::of(self.inspector, object)?;
         if depth == 0 {
             literal = literal.without_elements();
         }
@@ -72,12 +86,44 @@ impl<'a> Contents<'a> {
             && depth > 0
         {
             for element in elements.iter() {
-                let number = self.number_of(numbers, element, depth - 1)?;
-                description.extend_from_slice(&number.to_le_bytes())?;
+                match object_in(self.inspector.heap, element) {
+                    Some(object) => {
+                        let number = self.number_of(numbers, object, depth - 1)?;
+                        push_number(&mut description, number)?;
+                    }
+                    None => push_word(&mut description, element)?,
+                }
             }
         }
         let number = numbers.number_of(description)?;
-        self.known.insert((word, depth), number)?;
+        self.known.insert((object, depth), number)?;
         Ok(number)
     }
+}
+
+/// Returns the object that a word points to. None for a SmallInteger, and if there is none.
+fn object_in(heap: &Heap, word: u32) -> Option<ObjectIndex> {
+    match value_of(word) {
+        Value::Pointer(address) => heap.find(address),
+        Value::Int(_) | Value::Odd(_) => None,
+    }
+}
+
+/// Appends the number of an object to a description.
+fn push_number(description: &mut Vec<u8>, number: usize) -> Result<(), AllocError> {
+    description.push(b'o')?;
+    description.extend_from_slice(&number.to_le_bytes())?;
+    Ok(())
+}
+
+/// Appends a word that points to no object to a description: a SmallInteger, or that it is none.
+fn push_word(description: &mut Vec<u8>, word: u32) -> Result<(), AllocError> {
+    match value_of(word) {
+        Value::Int(_) => {
+            description.push(b'i')?;
+            description.extend_from_slice(&word.to_le_bytes())?;
+        }
+        Value::Odd(_) | Value::Pointer(_) => description.push(b'?')?,
+    }
+    Ok(())
 }

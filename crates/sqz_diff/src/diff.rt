@@ -24,7 +24,7 @@ pub fn print_diff<C: Sink>(
 {
     let differences = Differences::between(rt, old, new)?;
     if out.is_json() {
-        print_json(&differences, out)?;
+        print_json(old.alloc, &differences, out)?;
     } else {
         print_text(old.alloc, &differences, out)?;
     }

@@ -8,6 +8,7 @@ use crate::size::Size;
 use serde::Serialize;
 use sqz_image::{Fault, Sink};
 use sqz_inspect::Out;
+use std::alloc::Global;
 
 /// The sizes of the live objects or of those of a class as JSON. The live objects have no name.
 #[derive(Drop, Serialize)]
@@ -29,6 +30,7 @@ struct BytesRow<'a> {
 
 /// Prints differences as lines of JSON. Fails only with `WriteFailed` or `OutOfMemory`.
 pub(crate) fn print_json<C: Sink>(
+    alloc: Global,
     differences: &Differences,
     out: &mut Out<'_, C>,
 ) -> Result<(), Fault>
@@ -56,10 +58,12 @@ pub(crate) fn print_json<C: Sink>(
             new: change.new.map(|held| held.bytes),
         })?;
     }
-    for change in &differences.methods.changes {
+    let methods = &differences.methods;
+    for change in &methods.changes {
+        let name = methods.name(alloc, *change)?;
         out.json(&BytesRow {
             kind: "method",
-            name: change.name.as_str(),
+            name: name.as_str(),
             old: change.old.map(|method| method.bytes),
             new: change.new.map(|method| method.bytes),
         })?;

@@ -10,6 +10,7 @@ mod diff;
 mod differences;
 mod json;
 mod literals;
+mod method_names;
 mod methods;
 mod numbers;
 mod size;

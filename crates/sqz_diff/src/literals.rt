@@ -2,7 +2,7 @@
 
 use sqz_inspect::Inspector;
 use sqz_names::{Role, all_bytes};
-use sqz_object::{Layout, ObjectIndex, Value, Words, base_of, value_of};
+use sqz_object::{Layout, ObjectIndex, Words, base_of};
 use std::alloc::{AllocError, Global};
 
 /// The format of objects that have indexed fields alone.
@@ -11,8 +11,6 @@ const INDEXED: u32 = 2;
 /// What a literal of a method, or an element of an array in one, is compared by.
 #[derive(Drop)]
 pub(crate) enum Literal<'a> {
-    /// The word of a SmallInteger.
-    Integer(u32),
     /// The label of an object that has a name.
     Named(String),
     Bytes { class: String, bytes: Vec<u8> },
@@ -21,21 +19,14 @@ pub(crate) enum Literal<'a> {
     Array { class: String, elements: Words<'a> },
     /// Any other object.
     Other { class: String },
-    /// A word that is no SmallInteger and points to no object.
-    Bad,
 }
 
 impl<'a> Literal<'a> {
-    /// Returns what a word is compared by.
-    pub(crate) fn of(inspector: &'a Inspector<'a>, word: u32) -> Result<Self, AllocError> {
-        let address = match value_of(word) {
-            Value::Int(_) => return Ok(Literal::Integer(word)),
-            Value::Odd(_) => return Ok(Literal::Bad),
-            Value::Pointer(address) => address,
-        };
-        let Some(object) = inspector.heap.find(address) else {
-            return Ok(Literal::Bad);
-        };
+    /// Returns what an object is compared by.
+    pub(crate) fn of(
+        inspector: &'a Inspector<'a>,
+        object: ObjectIndex,
+    ) -> Result<Self, AllocError> {
         match inspector.names.role(object)? {
             Role::String | Role::Symbol | Role::Other => Literal::of_object(inspector, object),
             _ => Ok(Literal::Named(inspector.names.label(object)?)),
@@ -46,7 +37,7 @@ impl<'a> Literal<'a> {
     fn of_object(inspector: &'a Inspector<'a>, object: ObjectIndex) -> Result<Self, AllocError> {
         let class = inspector.names.name_of_class_of(object)?;
         if object >= inspector.heap.len() {
-            return Ok(Literal::Bad);
+            return Ok(Literal::Other { class });
         }
         let chunk = inspector.heap.object(object);
         if let Some(bytes) = all_bytes(inspector.alloc, inspector.heap.order(), &chunk)? {
@@ -77,7 +68,6 @@ impl<'a> Literal<'a> {
     /// of arrays.
     pub(crate) fn description(&self, alloc: Global) -> Result<Vec<u8>, AllocError> {
         match self {
-            Literal::Integer(word) => described(alloc, b'i', "", &word.to_le_bytes()),
             Literal::Named(label) => described(alloc, b'n', label.as_str(), &[]),
             Literal::Bytes { class, bytes } => described(alloc, b'b', class.as_str(), bytes),
             Literal::Words { class, words } => {
@@ -89,7 +79,6 @@ impl<'a> Literal<'a> {
             }
             Literal::Array { class, .. } => described(alloc, b'a', class.as_str(), &[]),
             Literal::Other { class } => described(alloc, b'o', class.as_str(), &[]),
-            Literal::Bad => described(alloc, b'?', "", &[]),
         }
     }
 }

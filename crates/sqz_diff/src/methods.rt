@@ -1,13 +1,12 @@
 //! The methods that came, went or changed.
 
-use crate::change::{Change, changes_of};
 use crate::contents::Contents;
+use crate::method_names::{ImageNames, MethodKey, NameParts, OrderedNames};
 use crate::numbers::Numbers;
 use sqz_inspect::Inspector;
-use sqz_names::{MethodName, all_bytes, escaped};
+use sqz_names::MethodName;
 use sqz_object::ObjectIndex;
-use std::alloc::AllocError;
-use std::collections::BTreeMap;
+use std::alloc::{AllocError, Global};
 
 /// A method of a class under a selector.
 #[derive(Clone, Copy, Debug, PartialEq, Eq)]
@@ -18,13 +17,38 @@ pub(crate) struct Method {
     pub(crate) contents: usize,
 }
 
+/// A method with its name.
+#[derive(Clone, Copy)]
+struct NamedMethod {
+    key: MethodKey,
+    method: Method,
+}
+
+/// A method that came, went or changed.
+#[derive(Clone, Copy)]
+pub(crate) struct MethodChange {
+    key: MethodKey,
+    /// None if only the new image has it.
+    pub(crate) old: Option<Method>,
+    /// None if only the old image has it.
+    pub(crate) new: Option<Method>,
+}
+
 /// The methods that differ, and the number of all methods.
 #[derive(Drop)]
 pub(crate) struct MethodChanges {
+    names: OrderedNames,
     /// The methods that came, went or changed, by name.
-    pub(crate) changes: Vec<Change<Method>>,
+    pub(crate) changes: Vec<MethodChange>,
     /// The number of methods that one of the images has, or both.
     pub(crate) count: usize,
+}
+
+impl MethodChanges {
+    /// Returns the name of a method: its class and its selector, cut after 80 characters.
+    pub(crate) fn name(&self, alloc: Global, change: MethodChange) -> Result<String, AllocError> {
+        self.names.text(alloc, change.key)
+    }
 }
 
 /// Returns the methods that came, went or changed. Several with one name are compared by their
@@ -33,79 +57,89 @@ pub(crate) fn method_changes(
     old: &Inspector<'_>,
     new: &Inspector<'_>,
 ) -> Result<MethodChanges, AllocError> {
-    let alloc = old.alloc;
-    let mut numbers = Numbers::new(alloc);
-    let old_methods = methods_in(old, &mut numbers)?;
-    let new_methods = methods_in(new, &mut numbers)?;
-    let mut changes = Vec::new(alloc);
-    let mut count = 0usize;
-    for namesakes in &changes_of(alloc, old_methods, new_methods)? {
-        count = count.saturating_add(push_changed(namesakes, &mut changes)?);
-    }
-    Ok(MethodChanges { changes, count })
-}
-
-/// Appends the methods with one name that came, went or changed, and returns how many methods have
-/// this name in one of the images or in both.
-fn push_changed(
-    namesakes: &Change<Vec<Method>>,
-    changes: &mut Vec<Change<Method>>,
-) -> Result<usize, AllocError> {
-    let (old, new) = (methods_of(&namesakes.old), methods_of(&namesakes.new));
-    let count = old.len().max(new.len());
-    for place in 0..count {
-        let (old, new) = (old.get(place).copied(), new.get(place).copied());
-        if old.map(|method| method.contents) != new.map(|method| method.contents) {
-            let name = namesakes.name.clone()?;
-            changes.push(Change { name, old, new })?;
+    let mut numbers = Numbers::new(old.alloc);
+    let mut parts = NameParts::new(old.alloc);
+    let mut old_methods = methods_in(old, &mut numbers, &mut parts)?;
+    let mut new_methods = methods_in(new, &mut numbers, &mut parts)?;
+    let names = parts.in_order()?;
+    put_in_order(&names, &mut old_methods)?;
+    put_in_order(&names, &mut new_methods)?;
+    let mut changes = Vec::new(old.alloc);
+    let mut count = old_methods.len();
+    for it in &old_methods {
+        let (old, new) = (Some(it.method), method_named(&new_methods, it.key));
+        if new.map(|method| method.contents) != Some(it.method.contents) {
+            let key = it.key;
+            changes.push(MethodChange { key, old, new })?;
         }
     }
-    Ok(count)
-}
-
-/// Returns the methods of a list, if there is one.
-fn methods_of(methods: &Option<Vec<Method>>) -> &[Method] {
-    match methods {
-        Some(methods) => methods.as_slice(),
-        None => &[],
+    for it in &new_methods {
+        if method_named(&old_methods, it.key).is_none() {
+            let (key, new) = (it.key, Some(it.method));
+            changes.push(MethodChange {
+                key,
+                old: None,
+                new,
+            })?;
+            count = count.saturating_add(1);
+        }
     }
+    changes.sort_unstable_by_key(|change: &MethodChange| -> MethodKey { change.key });
+    Ok(MethodChanges {
+        names,
+        changes,
+        count,
+    })
 }
 
-/// Returns the live methods of live classes by name. Those with one name are in the order of their
-/// classes.
+/// Returns the method with a name among methods in the order of their names.
+fn method_named(methods: &[NamedMethod], key: MethodKey) -> Option<Method> {
+    let place = methods.partition_point(|it: &NamedMethod| it.key < key);
+    let found = methods.get(place)?;
+    (found.key == key).then_some(found.method)
+}
+
+/// Puts methods in the order of their names, and gives those with one name their places.
+fn put_in_order(names: &OrderedNames, methods: &mut Vec<NamedMethod>) -> Result<(), AllocError> {
+    for it in methods.iter_mut() {
+        it.key = names.placed(it.key);
+    }
+    methods.sort_by_key(|it: &NamedMethod| -> MethodKey { it.key })?;
+    let mut first = None;
+    let mut namesake = 0usize;
+    for it in methods.iter_mut() {
+        namesake = if first == Some(it.key) {
+            namesake.saturating_add(1)
+        } else {
+            0
+        };
+        first = Some(it.key);
+        it.key.namesake = namesake;
+    }
+    Ok(())
+}
+
+/// Returns the live methods of live classes, in the order of their classes.
 fn methods_in(
     inspector: &Inspector<'_>,
     numbers: &mut Numbers,
-) -> Result<BTreeMap<String, Vec<Method>>, AllocError> {
-    let mut names = Vec::from_slice(inspector.alloc, inspector.names.methods())?;
-    names.sort_by_key(|name: &MethodName| -> (ObjectIndex, ObjectIndex) {
-        (name.class, name.method)
-    })?;
+    parts: &mut NameParts,
+) -> Result<Vec<NamedMethod>, AllocError> {
+    let mut names = inspector.names.methods_of_marked(&inspector.marks)?;
+    names.retain(|name: &MethodName| -> bool { inspector.marks.has(name.method) });
+    names.sort_unstable_by_key(|name: &MethodName| -> (ObjectIndex, ObjectIndex, ObjectIndex) {
+        (name.class, name.method, name.selector)
+    });
     let mut contents = Contents::new(inspector);
-    let mut methods = BTreeMap::new(inspector.alloc);
+    let mut keys = ImageNames::new(inspector);
+    let mut methods = Vec::with_capacity(inspector.alloc, names.len())?;
     for name in &names {
-        if inspector.marks.has(name.class) && inspector.marks.has(name.method) {
-            let method = Method {
-                bytes: inspector.bytes(name.method),
-                contents: contents.number_of_method(numbers, name.method)?,
-            };
-            let text = text_of(inspector, name)?;
-            let nothing = Vec::new(inspector.alloc);
-            methods.entry(text)?.or_insert(nothing).push(method)?;
-        }
+        let method = Method {
+            bytes: inspector.bytes(name.method),
+            contents: contents.number_of_method(numbers, name.method)?,
+        };
+        let key = keys.key(parts, name)?;
+        methods.push(NamedMethod { key, method })?;
     }
     Ok(methods)
-}
-
-/// Returns the name of a method: its class and its whole selector.
-fn text_of(inspector: &Inspector<'_>, name: &MethodName) -> Result<String, AllocError> {
-    let (alloc, heap) = (inspector.alloc, inspector.heap);
-    let class = inspector.names.name_of_class(name.class)?;
-    let selector = if name.selector < heap.len() {
-        all_bytes(alloc, heap.order(), &heap.object(name.selector))?
-    } else {
-        None
-    };
-    let selector = escaped(alloc, &selector.unwrap_or(Vec::new(alloc)))?;
-    format!(in alloc; "{class}>>{selector}")
 }

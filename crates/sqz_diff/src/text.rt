@@ -5,7 +5,7 @@ ghost use Rattle.sqz_inspect.specs.Failures.{IsPrintFault};
 
 use crate::change::Change;
 use crate::differences::Differences;
-use crate::methods::{Method, MethodChanges};
+use crate::methods::{MethodChange, MethodChanges};
 use crate::size::{NOTHING, Size};
 use crate::variables::{Held, bytes_of};
 use sqz_image::{Fault, Sink};
@@ -113,7 +113,7 @@ fn print_methods<C: Sink>(
     out.line(head.as_str())?;
     let count = methods.changes.len();
     for change in methods.changes.iter().take(out.shown(count)) {
-        let (what, name) = (verb_of(change), change.name.as_str());
+        let (what, name) = (verb_of(*change), methods.name(alloc, *change)?);
         let line = format!(in alloc; "  {what:<7}  {name}")?;
         out.line(line.as_str())?;
     }
@@ -135,7 +135,7 @@ fn methods_line(alloc: Global, methods: &MethodChanges) -> Result<String, AllocE
 }
 
 /// Returns what happened to a method.
-fn verb_of(change: &Change<Method>) -> &'static str {
+fn verb_of(change: MethodChange) -> &'static str {
     match (change.old, change.new) {
         (None, _) => "added",
         (_, None) => "removed",
