@@ -13,7 +13,7 @@ from tests.harness.preload import PreloadTest
 from tests.harness.program_checks import ProgramTest
 from tests.harness.programs import build, program_path
 from tests.harness.worked_images import readable_paths, unreadable_paths
-from tests.making.graph_shapes import SHAPES, graph_file, list_with_both_ends
+from tests.making.graph_shapes import SHAPES, graph_file, list_with_both_ends, list_with_owner
 from tests.making.random_images import random_files
 from tests.making.seed import SEED
 from tests.reference.file_format import BASE
@@ -79,14 +79,20 @@ class DominatorsTest(ProgramTest):
                 outcome = self.run_here(CHECK_DOMINATORS, *map(str, range(GRAPHS_AT_ONCE)))
                 self.assert_ends(outcome, Outcome(0, stdout="".join(lines).encode()))
 
-    def test_doubly_linked_lists(self):
+    def check_list(self, shape, retained):
         """Passes settle a short list. For a long one a candidate is made in time."""
-        for count, way in ((SHORT, "Settled"), (LONG, "Certified")):
-            with self.subTest(count=count):
-                self.write("in", graph_file(list_with_both_ends(count)))
-                outcome = self.run_here(CHECK_DOMINATORS, "--retained", f"{FIRST:x}", "in")
-                line = f"1 objects, 8 bytes, {way}\n"
-                self.assert_ends(outcome, Outcome(0, stdout=line.encode()))
+        way = "Settled" if len(shape.successors) == SHORT else "Certified"
+        self.write("in", graph_file(shape))
+        outcome = self.run_here(CHECK_DOMINATORS, "--retained", f"{FIRST:x}", "in")
+        self.assert_ends(outcome, Outcome(0, stdout=f"{retained}, {way}\n".encode()))
+
+    def test_lists(self):
+        for count in (SHORT, LONG):
+            with self.subTest(count=count, ends="both"):
+                self.check_list(list_with_both_ends(count), "1 objects, 8 bytes")
+            with self.subTest(count=count, owner=True):
+                retained = f"{count} objects, {12 * count - 4} bytes"
+                self.check_list(list_with_owner(count), retained)
 
 
 class AllocationsTest(PreloadTest):

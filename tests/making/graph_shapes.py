@@ -66,6 +66,13 @@ def list_with_both_ends(count):
     return Shape(successors, [0, count - 1])
 
 
+def list_with_owner(count):
+    """A list whose nodes all point to node 2 too. It makes a tree that is as deep as the list is
+    long, and each of these edges leads up all of it."""
+    successors = [[number + 1, 2] for number in range(count - 1)] + [[2]]
+    return Shape(successors, [0])
+
+
 def doubly_linked_list(generator):
     """A doubly linked list with both ends or two nodes as roots."""
     shape = list_with_both_ends(generator.randint(2, LARGEST))
