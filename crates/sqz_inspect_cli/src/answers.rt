@@ -10,8 +10,8 @@ use crate::loading::{Loaded, load};
 use sqz_cli::{BAD_IMAGE, DONE};
 use sqz_image::Sink;
 use sqz_inspect::{
-    Found, Inspector, LiveImage, Out, find_class, find_object, print_census, print_dead_census, print_info,
-    print_info_unreadable, print_list, print_refs, print_show, print_why,
+    Found, Inspector, LiveImage, Out, find_class, find_object, print_census, print_dead_census,
+    print_info, print_info_unreadable, print_list, print_refs, print_show, print_why,
 };
 use sqz_top::print_top;
 use std::alloc::Global;
