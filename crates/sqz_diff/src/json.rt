@@ -4,6 +4,7 @@ ghost use Rattle.std.specs.Prelude.{IfErr};
 ghost use Rattle.sqz_inspect.specs.Failures.{IsPrintFault};
 
 use crate::differences::Differences;
+use crate::methods::MethodChanges;
 use crate::size::Size;
 use serde::Serialize;
 use sqz_image::{Fault, Sink};
@@ -58,7 +59,17 @@ pub(crate) fn print_json<C: Sink>(
             new: change.new.map(|held| held.bytes),
         })?;
     }
-    let methods = &differences.methods;
+    print_methods(alloc, &differences.methods, out)
+}
+
+/// Prints the methods that came, went or changed as lines of JSON.
+fn print_methods<C: Sink>(
+    alloc: Global,
+    methods: &MethodChanges,
+    out: &mut Out<'_, C>,
+) -> Result<(), Fault>
+    ensures { IfErr result IsPrintFault }
+{
     for change in &methods.changes {
         let name = methods.name(alloc, *change)?;
         out.json(&BytesRow {
