@@ -13,6 +13,8 @@ from tests.reference.tree import Tree
 
 # The maximum number of rows of each kind in the text, unless all are requested.
 SHOWN = 20
+# The maximum number of characters of the name of a method that is printed.
+LONGEST = 80
 # The elements of an array in a literal are compared down to this depth.
 DEPTH = 3
 # A last byte of at least this says that the last four bytes of a method are a source pointer.
@@ -109,12 +111,15 @@ class Side:
 
     @functools.cached_property
     def methods(self):
-        """The live methods of live classes, by name and by their number among those of the name."""
+        """The live methods of live classes, by name and by their number among those of the name.
+
+        A name has two parts: the class with `>>`, and the selector."""
         found, counts = {}, collections.Counter()
-        for a_class in filter(self.answers.is_live, self.names.classes):
-            for selector, number in sorted(self.names.methods_of(a_class), key=lambda it: it[1]):
+        classes = filter(self.answers.is_live, self.names.classes)
+        for a_class, its in self.names.owned_methods(classes):
+            for selector, number in sorted(its, key=lambda it: it[1]):
                 if self.answers.is_live(number):
-                    name = f"{self.names.name(a_class)}>>{escaped(selector)}"
+                    name = f"{self.names.name(a_class)}>>", escaped(selector)
                     size = self.answers.reach.sizes[number]
                     found[name, counts[name]] = Method(size, self.contents(number))
                     counts[name] += 1
@@ -163,6 +168,11 @@ def changes_of(old, new):
         yield Change(name, old.get(name), new.get(name))
 
 
+def cut(name):
+    """The name of a method as it is printed."""
+    return name if len(name) <= LONGEST else name[:LONGEST] + ".."
+
+
 def largest_first(changes):
     return sorted(changes, key=lambda it: (-abs(it.grown), it.name))
 
@@ -187,7 +197,7 @@ class Changes:
         )
         self.method_count = len(methods)
         self.methods = [
-            it._replace(name=it.name[0])
+            it._replace(name=cut("".join(it.name[0])))
             for it in methods
             if not it.old or not it.new or it.old.contents != it.new.contents
         ]

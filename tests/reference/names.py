@@ -131,10 +131,19 @@ class Names:
     def methods(self):
         """The class, and the bytes of the selector, of each method in a class's dictionary."""
         found = {}
-        for a_class in self.classes:
-            for selector, method in self.methods_of(a_class):
+        for a_class, its in self.owned_methods(self.classes):
+            for selector, method in its:
                 found.setdefault(method, (a_class, selector))
         return found
+
+    def owned_methods(self, classes):
+        """Each class with what `methods_of` yields, unless a class before it has its dictionary."""
+        seen = set()
+        for a_class in classes:
+            dictionary = self.target(a_class, ClassField.METHODS)
+            if dictionary not in seen:
+                seen.add(dictionary)
+                yield a_class, self.methods_of(a_class)
 
     def methods_of(self, a_class):
         """The bytes of each selector in the dictionary of a class, with the method."""

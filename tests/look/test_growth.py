@@ -1,0 +1,162 @@
+"""Runs every command of `sqzlook` over images that are small, but large for a search that looks at
+shared parts again and again, and compares its answers about the smallest with a second
+implementation.
+
+At four times the size a command may take at most `SLOWER` times as long, and memory in proportion
+to the images. Growth with the square of the size would take 16 times as long."""
+
+import functools
+import resource
+import typing
+
+from tests.harness.diff_checks import DiffTest, pairs_of
+from tests.harness.look_checks import Asking
+from tests.harness.program_checks import ProgramTest
+from tests.harness.programs import SQZLOOK, Limits
+from tests.harness.top_checks import Asked, Shape, TopTest
+from tests.making.hostile_images import HOSTILE
+from tests.making.named_image import NamedImage, named_file
+from tests.reference.image import Image
+from tests.reference.tree import Tree
+
+# The size of the images that are compared with the second implementation, and of those that are
+# measured: the larger one of these is `TIMES` as large.
+TINY, SMALL, TIMES = 6, 1000, 4
+# At most how many times as long a command may take, and the seconds that count as the least.
+SLOWER, LEAST_SECONDS = 8, 0.2
+# A process may take `REST` bytes of memory, and `EACH` bytes for each byte of its images.
+REST, EACH = 32 << 20, 20
+# One arena, and not one for each thread: the address space is then what a run asks for.
+ENV = {"MALLOC_ARENA_MAX": "1", "MALLOC_MMAP_THRESHOLD_": "131072"}
+STACK = 256 << 10
+NAME, OTHER = "it.image", "other.image"
+
+
+class Run(typing.NamedTuple):
+    """The exit of a run, and the seconds of its threads together."""
+
+    status: int
+    seconds: float
+
+
+def lines_about(it):
+    """The words of each command about an image at `NAME`, in the forms that differ most."""
+    first, *others = it.objects
+    lines = [("check", "--all"), ("info",), ("census", "--dead"), ("top", "--min", "0")]
+    lines += [("top", *form) for form in (("--json",), ("--svg",), ("--folded", "--min", "0"))]
+    lines += [("show", "--json"), ("why", "--raw")]
+    lines = [(*line, NAME, *((first,) if line[0] in ("show", "why") else ())) for line in lines]
+    for form in ((), ("--all",), ("--json",)):
+        lines.append(("list", *form, NAME, it.a_class))
+        lines += [("refs", *form, NAME, first), ("why", *form, NAME, first)]
+    for form in ((), ("--json",)):
+        lines += [("diff", *form, OTHER, NAME), ("diff", *form, NAME, NAME)]
+    for word in others:
+        lines += [(command, NAME, word) for command in ("show", "why", "refs")]
+    return lines
+
+
+def seconds_of_children():
+    usage = resource.getrusage(resource.RUSAGE_CHILDREN)
+    return usage.ru_utime + usage.ru_stime
+
+
+class GrowthTest(ProgramTest):
+    """Time and memory of all commands."""
+
+    def runs(self, name, size):
+        """How each command about an image ends, if memory is limited, by its words."""
+        it = HOSTILE[name](size)
+        self.write(NAME, it.file)
+        self.write(OTHER, named_file())
+        limits = Limits(memory=REST + EACH * len(it.file), stack=STACK)
+        return [(line, self.run_once(line, limits)) for line in lines_about(it)]
+
+    def run_once(self, line, limits):
+        before = seconds_of_children()
+        with open(self.folder / "out", "wb") as out:
+            outcome = self.run_here(SQZLOOK, *line, stdout=out, env=ENV, limits=limits)
+        return Run(outcome.status, seconds_of_children() - before)
+
+    def check_growth(self, name):
+        small, large = (self.runs(name, size) for size in (SMALL, TIMES * SMALL))
+        for (_, before), (line, after) in zip(small, large):
+            with self.subTest(" ".join(word[:40] for word in line)):
+                self.assertLess(after.status, 2)  # 1 if the images differ
+                self.assertLess(after.seconds, SLOWER * max(LEAST_SECONDS, before.seconds))
+
+    def test_chain(self):
+        self.check_growth("chain")
+
+    def test_doubly_linked(self):
+        self.check_growth("doubly_linked")
+
+    def test_links_to_list(self):
+        self.check_growth("links_to_list")
+
+    def test_shared_methods(self):
+        self.check_growth("shared_methods")
+
+    def test_shared_pool(self):
+        self.check_growth("shared_pool")
+
+    def test_shared_array(self):
+        self.check_growth("shared_array")
+
+    def test_own_superclass(self):
+        self.check_growth("own_superclass")
+
+    def test_many_variables(self):
+        self.check_growth("many_variables")
+
+    def test_long_selector(self):
+        self.check_growth("long_selector")
+
+    def test_long_selectors(self):
+        self.check_growth("long_selectors")
+
+    def test_shared_literals(self):
+        self.check_growth("shared_literals")
+
+    def test_one_method(self):
+        self.check_growth("one_method")
+
+
+@functools.cache
+def tiny(name):
+    """The file of a smallest image."""
+    return HOSTILE[name](TINY).file
+
+
+class TinyImagesTest(TopTest, DiffTest):
+    """Answers about the smallest of these images."""
+
+    def write_all(self):
+        for name in HOSTILE:
+            self.write(name, tiny(name))
+        self.write(OTHER, named_file())
+
+    def test_commands(self):
+        self.write_all()
+        questions = []
+        for name in HOSTILE:
+            image = Image.read(tiny(name))[0]
+            asking, added = Asking(image, name), range(len(NamedImage().items), len(image.objects))
+            questions += asking.of_image()
+            questions += asking.of_groups(list(asking.answers.live_groups))
+            questions += asking.of_objects(show=added, why=added, refs=added)
+        self.check_questions(questions)
+
+    def test_top(self):
+        self.write_all()
+        trees = [
+            Asked(Tree(Asking(Image.read(tiny(name))[0], name).answers), name, ())
+            for name in HOSTILE
+        ]
+        self.check_trees(trees, [Shape(), Shape(100, "0")])
+
+    def test_diff(self):
+        self.write_all()
+        files = {OTHER: named_file(), **{name: tiny(name) for name in HOSTILE}}
+        chosen = [(OTHER, name) for name in HOSTILE] + [(name, OTHER) for name in HOSTILE]
+        self.check_pairs(pairs_of(files, [*chosen, *zip(HOSTILE, [*HOSTILE][1:])]))
