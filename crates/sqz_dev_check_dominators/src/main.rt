@@ -68,8 +68,8 @@ fn check_files<R: Files + Print>(rt: &R, alloc: Global, paths: &[String]) -> Res
 }
 
 /// Prints what the object at an address of the image in a file retains, and how the tree was found:
-/// a candidate is made if so many passes do not settle the tree. Returns whether there is such an
-/// object.
+/// a candidate is made if the tree is not settled after `passes` passes. Returns whether the image
+/// can be read and an object has this address.
 fn print_retained<R: Files + Print + AllocGlobal>(
     rt: &R,
     passes: u32,

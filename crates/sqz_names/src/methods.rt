@@ -31,8 +31,8 @@ pub struct MethodName {
     pub selector: ObjectIndex,
 }
 
-/// The methods of some classes. The methods of a dictionary occur once, as those of the first class
-/// that was added with it.
+/// The methods of some classes. The methods of a shared dictionary are listed once, for the first
+/// class that was added with it.
 #[derive(Drop)]
 pub(crate) struct MethodsFound<'a> {
     heap: &'a Heap,

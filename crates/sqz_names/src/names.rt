@@ -29,8 +29,8 @@ pub struct Names<'a> {
     pub heap: &'a Heap,
     pub(crate) weak: Weak,
     pub(crate) classes: ObjectSet,
-    /// By method, and those that come first in address order of their classes first. The methods
-    /// of a dictionary occur once, as those of the first class that has it.
+    /// Sorted by method, then by the address of the class. The methods of a shared dictionary are
+    /// listed once, for the first class that has it.
     pub(crate) methods: Vec<MethodName>,
     /// By association, and global variables first. The associations of an array occur once.
     pub(crate) variables: Vec<VariableName>,
@@ -66,8 +66,8 @@ impl<'a> Names<'a> {
         })
     }
 
-    /// Returns the methods of the marked classes, by the address of the class. The methods of a
-    /// dictionary that several of them have occur once, as those of the first one.
+    /// Returns the methods of the marked classes, sorted by the address of the class. The methods
+    /// of a shared dictionary are listed once, for the first class that has it.
     pub fn methods_of_marked(&self, marks: &Marks) -> Result<Vec<MethodName>, AllocError> {
         let mut methods = MethodsFound::none(self.alloc, self.heap)?;
         for class in 0..self.heap.len() {
