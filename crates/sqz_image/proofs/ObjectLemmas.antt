@@ -1,8 +1,8 @@
 -- The objects of chunks: where they lie, their order, and how they are found.
 -- Serves `FoundLemmas`, `HeapLemmas` and `IndexLemmas`; `EdgeLemmas` of `sqz_trace`;
--- `RegionLemmas` of `sqz_regions`; `MemberLemmas` of `sqz_paths`; `laws::core`, `CallLemmas` and
+-- `RegionLemmas` of `sqz_regions`; `MemberLemmas` of `sqz_facts`; `laws::core`, `CallLemmas` and
 -- `KeptLemmas` of `sqz_marks`; `CompactedLemmas`, `LengthLemmas`, `MovedShapeLemmas` and
--- `WordLemmas` of `sqz_slide`; `GroupLemmas` of `sqz_census`.
+-- `WordLemmas` of `sqz_slide`; `GroupLemmas` of `sqz_histogram`.
 use Rattle.std.proofs.Common.{◌≡◌, ◌≢◌, ℕ, zero, suc, ◌+◌, ◌*◌, ◌<◌, ◌≤◌, Bool, true, false, cond, eqb, List}
 use Rattle.std.proofs.Common.{[], ◌∷◌, ◌++◌, map, length, get_or, take, drop, Option, Some, None, refl, sym}
 use Rattle.std.proofs.Common.{ap, subst, ◌∙◌, arith, inl, inr}

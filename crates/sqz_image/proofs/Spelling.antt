@@ -1,6 +1,6 @@
 -- Words and the bytes that encode them.
 -- Serves `write_words::send_words`, `write_words::spell` and `write_words::write_words`;
--- `NameLemmas` of `sqz_census`.
+-- `BytesLemmas` of `sqz_histogram`.
 use Rattle.std.proofs.Common.{◌≡◌, ℕ, ◌+◌, ◌*◌, ◌<◌, ◌≤◌, List, [], ◌∷◌, ◌++◌, append-nil, length, take, drop}
 use Rattle.std.proofs.Common.{get_or, map, Vec, Global, sym, ap, ◌∙◌, refl, arith}
 use Rattle.std.specs.List.{concat}

@@ -1,5 +1,5 @@
 -- Each step on the mark table keeps its rule, and what it shows its pass is true.
--- Serves `table::read_shades`, `table::read_sums`, `CallLemmas` and `KeptLemmas`.
+-- Serves `closed::read_shades`, `closed::read_sums`, `CallLemmas` and `KeptLemmas`.
 use Rattle.std.proofs.Common.{◌≡◌, ◌≢◌, ℕ, zero, suc, ◌+◌, ◌-◌, ◌%◌, ◌^◌, ◌<◌, ◌≤◌, max, true, List, [], ◌∷◌, ◌++◌}
 use Rattle.std.proofs.Common.{length, map, set, get_or, refl, sym, ap, subst, ◌∙◌, arith}
 use mathlib.Core.Option.{some, none, some-injective, some-ne-none}

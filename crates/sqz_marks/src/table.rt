@@ -14,7 +14,7 @@ ghost use Rattle.sqz_trace.specs.declared.shades.Shade.TheVariants.{White, Black
 ghost use Rattle.sqz_trace.specs.Edges.{out_edges, edge_target, strong_target, HasEdge};
 ghost use Rattle.sqz_trace.specs.Shades.{marks_of};
 ghost use Rattle.sqz_regions.specs.Bases.{AreSums};
-ghost use Rattle.sqz_regions.specs.Places.{live_words};
+ghost use Rattle.sqz_trace.specs.Live.{live_words};
 ghost use Rattle.sqz_regions.specs.Regions.{region_at, region_count};
 ghost use Rattle.sqz_marks.specs.declared.claim.Claim.TheVariants.{Won};
 ghost use Rattle.sqz_marks.specs.Core.{times, HasWon, HasSeen, HasBlackened, first_view, looked};

@@ -1,6 +1,6 @@
 -- Lists filled by key and then sorted: more words come first, and the lower key comes first on a
 -- tie.
--- Serves `ShareLemmas` of `sqz_census` and `MemberLemmas` of `sqz_paths`.
+-- Serves `ShareLemmas` of `sqz_histogram` and `MemberLemmas` of `sqz_facts`.
 use Rattle.std.proofs.Common.{◌≡◌, ◌⊎◌, ℕ, ◌+◌, ◌<◌, Bool, false, eqb, List, [], ◌∷◌, ◌++◌, map, length, get_or}
 use Rattle.std.proofs.Common.{refl, sym, ap, subst, ◌∙◌, arith, inl, inr, true≢false}
 use Rattle.std.specs.List.Sorted.{IsPermutation, IsSortedBy, IsStrictlyIncreasing}

@@ -1,6 +1,6 @@
 -- The words that bytes encode, one by one, and the bytes that encode words.
 -- Serves `words::Words::of`; `header::header_words`, `ReadingLemmas` and `SavedLemmas` of
--- `sqz_image`; `NameLemmas` of `sqz_census`.
+-- `sqz_image`; `BytesLemmas` of `sqz_histogram`.
 use Rattle.std.proofs.Common.{◌≡◌, ℕ, zero, suc, ◌+◌, ◌*◌, ◌/◌, ◌^◌, ◌<◌, ◌≤◌, List, [], ◌∷◌, ◌++◌, length}
 use Rattle.std.proofs.Common.{map, take, drop, slice_index, refl, sym, ap, ◌∙◌, arith}
 use Rattle.std.proofs.lemmas.List.{append_assoc, length-append}

@@ -12,14 +12,14 @@ use Rattle.sqz_object.specs.declared.chunk.Chunk.{Chunk}
 use Rattle.sqz_object.specs.Reading.{description}
 use Rattle.sqz_image.specs.Objects.{Memory, object_count, chunk_words}
 use Rattle.sqz_trace.specs.Graph.{is_marked}
-use Rattle.sqz_regions.specs.Places.{live_words_below, place, no_place, place_of_entry}
+use Rattle.sqz_regions.specs.Places.{place, no_place, place_of_entry}
+use Rattle.sqz_trace.specs.Live.{live_words_below}
 use Rattle.sqz_regions.specs.Regions.{Cutting, Regioning, region_at, objects_before}
 use Rattle.sqz_regions.specs.Bases.{place_if_marked, ArePlacesOf}
 use Rattle.sqz_regions.specs.Entries.{entry_of, entries_between, HaveRoom, AreEntriesOf, range_begin, AreEntriesOfRange}
-use Rattle.sqz_regions.proofs.PlaceLemmas.{live_words_more_yes}
+use Rattle.sqz_trace.proofs.LiveWordLemmas.{live_words_more_yes, live_words_below-le-words}
 use Rattle.sqz_regions.proofs.RegionLemmas.{region_at-rises, objects_before-rises, objects_before-le}
 use Rattle.sqz_regions.proofs.RisingLemmas.{objects_before-first}
-use Rattle.sqz_regions.proofs.SumLemmas.{live_words_below-le-words}
 
 -- ---- values of a function at the numbers of a range
 

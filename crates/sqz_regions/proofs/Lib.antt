@@ -1,5 +1,3 @@
-pub mod MarkedLemmas
-pub mod PlaceLemmas
 pub mod CountLemmas
 pub mod CutLemmas
 pub mod RegionLemmas

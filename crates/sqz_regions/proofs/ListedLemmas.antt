@@ -12,8 +12,8 @@ use Rattle.sqz_image.specs.Objects.{Memory, objects, object_count, chunk_words}
 use Rattle.sqz_trace.specs.Graph.{is_marked}
 use Rattle.sqz_trace.specs.Live.{marked}
 use Rattle.sqz_regions.specs.Regions.{Cutting, region_of, region_at, live_words_in}
-use Rattle.sqz_regions.proofs.PlaceLemmas.{no_object, size}
-use Rattle.sqz_regions.proofs.SumLemmas.{sum_by-filter-cons, words_in-le-concat}
+use Rattle.sqz_trace.proofs.LiveWordLemmas.{no_object, size, words_in-le-concat}
+use Rattle.sqz_regions.proofs.SumLemmas.{sum_by-filter-cons}
 
 -- ---- sums over the indexes below a count
 

@@ -1,21 +1,18 @@
 -- The live words of the regions, one region after the other.
--- Serves `forward::range_places`, `sums::live_words`, `sums::live_words_between`, `EntryLemmas`
--- and `ListedLemmas`; `table::MarkTable::close` of `sqz_marks`; `TallyLemmas` of `sqz_census`;
--- `compaction::moved` and `FixedPointLemmas` of `sqz_tool`.
+-- Serves `forward::range_places`, `sums::live_words` and `ListedLemmas`; `table::MarkTable::close`
+-- of `sqz_marks`.
 use Rattle.std.proofs.Common.{◌≡◌, ◌⊎◌, ℕ, zero, suc, ◌+◌, ◌*◌, ◌<◌, ◌≤◌, Bool, true, false, cond, ltb, eqb}
-use Rattle.std.proofs.Common.{List, [], ◌∷◌, ◌++◌, map, filter, length, get_or, take}
+use Rattle.std.proofs.Common.{List, [], ◌∷◌, filter, length, get_or, take}
 use Rattle.std.proofs.Common.{refl, sym, ap, subst, ◌∙◌, arith, add-one, inl, inr}
-use Rattle.std.specs.List.{concat, sum, sum_by}
+use Rattle.std.specs.List.{sum, sum_by}
 use Rattle.std.proofs.lemmas.Bool.{cases_order, lt-ltb, le-ltb, eq-eqb, ne_eqb}
-use Rattle.std.proofs.lemmas.List.{length-append, take_all}
-use Rattle.std.proofs.lemmas.List.Sums.{sum_by-cons, sum_by_more, sum_by-take-le}
-use Rattle.sqz_object.specs.Chunk.{is_object}
-use Rattle.sqz_image.specs.Objects.{Memory, Object, objects_of, moved_on, objects, object_count, words_in}
-use Rattle.sqz_trace.specs.Live.{live}
-use Rattle.sqz_regions.specs.Places.{live_words_below, live_words}
+use Rattle.std.proofs.lemmas.List.{take_all}
+use Rattle.std.proofs.lemmas.List.Sums.{sum_by-cons, sum_by_more}
+use Rattle.sqz_image.specs.Objects.{Memory, objects, object_count, words_in}
+use Rattle.sqz_trace.specs.Live.{live, live_words_below, live_words}
 use Rattle.sqz_regions.specs.Regions.{Cutting, Regioning, region_of, region_count, objects_before, live_words_in}
 use Rattle.sqz_regions.specs.Bases.{AreSums, AreBasesOf}
-use Rattle.sqz_regions.proofs.PlaceLemmas.{size, words_in-cons, words_in-moved_on, words_in-marked, live_words_all}
+use Rattle.sqz_trace.proofs.LiveWordLemmas.{size, live_words_all}
 use Rattle.sqz_regions.proofs.RisingLemmas.{marked_below, regions_rise}
 
 -- ---- sums of what a filter keeps
@@ -59,38 +56,7 @@ module _ {X : Type 0} (g : X → ℕ) where
           let other = ne_eqb (f x) bound (λ is. absurd (omega arith)) in
           rw (le-ltb (f x) (bound + 1) (omega arith), le-ltb (f x) bound (omega arith), other) (omega arith)
 
--- ---- the live words are among the data words
-
--- the objects have no more words than there are, where a chunk, perhaps free, stands before the others
-words_in_if : (test : Bool) (chunk : List ℕ) (objects : List Object) (words : ℕ) → words_in objects ≤ words
-    → words_in ((cond test (record { first = 0; chunk = chunk } ∷ []) []) ++ map (moved_on (length chunk)) objects)
-    ≤ length chunk + words
-words_in_if true chunk objects words le =
-    let moved = map (moved_on (length chunk)) objects in
-    omega (arith, words_in-cons (record { first = 0; chunk = chunk }) moved, words_in-moved_on (length chunk) objects)
-words_in_if false chunk objects words le = omega (arith, words_in-moved_on (length chunk) objects)
-
--- the objects have no more words than there are
-pub words_in-le-concat : (chunks : List (List ℕ)) → words_in (objects_of chunks) ≤ length (concat chunks)
-words_in-le-concat [] = omega arith
-words_in-le-concat (chunk ∷ chunks) =
-    let words = length (concat chunks) in
-    let le = words_in_if (is_object chunk) chunk (objects_of chunks) words (words_in-le-concat chunks) in
-    omega (arith, le, length-append chunk (concat chunks))
-
 module _ (memory : Memory) (marks : List Bool) where
-  -- the live words below an index are among the data words
-  pub live_words_below-le-words : (index : ℕ) → live_words_below memory marks index ≤ length (concat memory.chunks)
-  live_words_below-le-words index =
-      let marked = words_in-marked (take index marks) (take index (objects memory)) in
-      omega (arith, marked, sum_by-take-le size (objects memory) index, words_in-le-concat memory.chunks)
-
-  -- and so are all live words
-  pub live_words-le-words : length marks ≡ object_count memory → live_words memory marks ≤ length (concat memory.chunks)
-  live_words-le-words sized =
-      let all = live_words_all memory marks (object_count memory) sized (omega arith) in
-      omega (arith, all, live_words_below-le-words (object_count memory))
-
   -- ---- the live words of a region
 
   module _ (cut : Cutting) where

@@ -1,16 +1,8 @@
 -- The new address (place) of an object in the compacted memory: after the marked objects below it.
-use Rattle.std.specs.Prelude.{ℕ, ◌+◌, ◌*◌, ◌==◌, Bool, if◌then◌else◌, List, take, Option, Some, None}
+use Rattle.std.specs.Prelude.{ℕ, ◌+◌, ◌*◌, ◌==◌, Bool, if◌then◌else◌, List, Option, Some, None}
 use Rattle.sqz_object.specs.Chunk.{before}
-use Rattle.sqz_image.specs.Objects.{Memory, objects, chunk_words, words_in}
-use Rattle.sqz_trace.specs.Live.{marked, live}
-
--- the total length in words of the marked objects below an index
-abbrev pub live_words_below : Memory → List Bool → ℕ → ℕ
-live_words_below memory marks index = words_in (marked (take index marks) (take index (objects memory)))
-
--- the total length in words of all marked objects
-abbrev pub live_words : Memory → List Bool → ℕ
-live_words memory marks = words_in (live memory marks)
+use Rattle.sqz_image.specs.Objects.{Memory, chunk_words}
+use Rattle.sqz_trace.specs.Live.{live_words_below}
 
 -- the address of the object's base header in the compacted memory
 abbrev pub place : Memory → List Bool → ℕ → ℕ

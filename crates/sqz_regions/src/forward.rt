@@ -5,7 +5,7 @@ ghost use Rattle.std.specs.Prelude.{IfOk, IfErr, IfSome};
 ghost use Rattle.std.specs.List.{concat, flat_map};
 ghost use Rattle.sqz_image.specs.declared.fault.Fault.TheVariants.{OutOfMemory};
 ghost use Rattle.sqz_image.specs.Objects.{object_count};
-ghost use Rattle.sqz_regions.specs.Places.{live_words_below};
+ghost use Rattle.sqz_trace.specs.Live.{live_words_below};
 ghost use Rattle.sqz_regions.specs.Bases.{AreBasesOf, ArePlacesOf};
 ghost use Rattle.sqz_regions.specs.Entries.{AreEntriesOf, range_begin, AreEntriesOfRange};
 

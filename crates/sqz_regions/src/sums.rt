@@ -4,7 +4,7 @@ ghost use Rattle.std.specs.Prelude.{◌≡◌, ◌+◌, ◌*◌, ◌^◌, ◌<�
 ghost use Rattle.std.specs.List.{concat, sum};
 ghost use Rattle.sqz_image.specs.declared.fault.Fault.TheVariants.{OutOfMemory};
 ghost use Rattle.sqz_image.specs.Objects.{object_count};
-ghost use Rattle.sqz_regions.specs.Places.{live_words, live_words_below};
+ghost use Rattle.sqz_trace.specs.Live.{live_words, live_words_below};
 ghost use Rattle.sqz_regions.specs.Bases.{AreSums};
 
 use crate::regions::Regions;

@@ -13,11 +13,11 @@ use Rattle.sqz_image.specs.Objects.{address_of, find}
 use Rattle.sqz_image.proofs.ObjectLemmas.{objects_keep, All_at}
 use Rattle.sqz_image.proofs.FoundLemmas.{find-address, objects_of-all, object-all}
 use Rattle.sqz_trace.specs.declared.weak.Weak.{Weak}
-use Rattle.sqz_trace.specs.Live.{marked, live}
+use Rattle.sqz_trace.specs.Live.{marked, live, live_words_below}
 use Rattle.sqz_trace.specs.Graph.{is_marked}
 use Rattle.sqz_trace.proofs.CopyLemmas.{marked_inside}
-use Rattle.sqz_regions.specs.Places.{live_words_below, place}
-use Rattle.sqz_regions.proofs.MarkedLemmas.{marked-at, marked-inside, marked-before, marked-onto}
+use Rattle.sqz_regions.specs.Places.{place}
+use Rattle.sqz_trace.proofs.MarkedLemmas.{marked-at, marked-inside, marked-before, marked-onto}
 use Rattle.sqz_slide.specs.Moved.{moved, moved_objects}
 use Rattle.sqz_slide.proofs.LengthLemmas.{All-marked, words_after, length-all}
 use Rattle.sqz_slide.proofs.MovedShapeLemmas.{moved-before, moved-chunk, moved-object}

@@ -12,8 +12,7 @@ use Rattle.sqz_image.specs.Objects.{Memory, Object, objects, words_in}
 use Rattle.sqz_image.proofs.ObjectLemmas.{objects_keep}
 use Rattle.sqz_trace.specs.declared.weak.Weak.{Weak}
 use Rattle.sqz_trace.specs.Strong.{is_weak, strong}
-use Rattle.sqz_trace.specs.Live.{marked, live}
-use Rattle.sqz_regions.specs.Places.{live_words}
+use Rattle.sqz_trace.specs.Live.{marked, live, live_words}
 use Rattle.sqz_slide.specs.Moved.{moved_field, moved_weak, moved_header, moved_others, moved_fields, moved, moved_objects}
 use Rattle.sqz_slide.proofs.HeaderLemmas.{length-moved_header}
 

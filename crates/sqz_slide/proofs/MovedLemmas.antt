@@ -15,7 +15,7 @@ use Rattle.sqz_trace.specs.declared.weak.Weak.{Weak}
 use Rattle.sqz_trace.specs.Strong.{is_weak, strong}
 use Rattle.sqz_trace.specs.Live.{marked}
 use Rattle.sqz_trace.proofs.StrongLemmas.{strong_inside}
-use Rattle.sqz_regions.proofs.MarkedLemmas.{marked_more_yes, marked_more_no, marked_all}
+use Rattle.sqz_trace.proofs.MarkedLemmas.{marked_more_yes, marked_more_no, marked_all}
 use Rattle.sqz_slide.specs.Moved.{moved_field, moved_weak, moved_header, moved_others, moved_fields, moved, moved_objects}
 use Rattle.sqz_slide.proofs.HeaderLemmas.{length-moved_header}
 

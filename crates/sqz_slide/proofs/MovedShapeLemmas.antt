@@ -27,9 +27,10 @@ use Rattle.sqz_trace.specs.Graph.{is_marked}
 use Rattle.sqz_trace.proofs.ShapeLemmas.{IsAlike, IsShapedAs, traced-shaped}
 use Rattle.sqz_trace.proofs.SlotLemmas.{traced_inside}
 use Rattle.sqz_trace.proofs.StrongLemmas.{strong_inside}
-use Rattle.sqz_regions.specs.Places.{live_words_below, live_words, place}
+use Rattle.sqz_regions.specs.Places.{place}
+use Rattle.sqz_trace.specs.Live.{live_words_below, live_words}
 use Rattle.sqz_regions.specs.Bases.{place_if_marked}
-use Rattle.sqz_regions.proofs.PlaceLemmas.{words_in-marked_take, live_words_more_yes, no_object}
+use Rattle.sqz_trace.proofs.LiveWordLemmas.{words_in-marked_take, live_words_more_yes, no_object}
 use Rattle.sqz_slide.specs.Moved.{new_address, moved_field, nil_place, address_or, moved_weak, moved_class, moved_header}
 use Rattle.sqz_slide.specs.Moved.{moved_others, moved_fields, moved}
 use Rattle.sqz_slide.proofs.HeaderLemmas.{length-moved_header}

@@ -20,10 +20,10 @@ use Rattle.sqz_trace.specs.Graph.{is_marked}
 use Rattle.sqz_trace.specs.Slots.{class_address}
 use Rattle.sqz_trace.specs.Targets.{object_named, named_by}
 use Rattle.sqz_trace.specs.Strong.{is_weak, strong}
-use Rattle.sqz_trace.specs.Live.{marked, live}
+use Rattle.sqz_trace.specs.Live.{marked, live, live_words_below, live_words}
 use Rattle.sqz_trace.proofs.CopyLemmas.{all_marked}
-use Rattle.sqz_regions.specs.Places.{live_words_below, live_words, place}
-use Rattle.sqz_regions.proofs.PlaceLemmas.{words_in-cons, words_in-moved_on}
+use Rattle.sqz_regions.specs.Places.{place}
+use Rattle.sqz_trace.proofs.LiveWordLemmas.{words_in-cons, words_in-moved_on}
 use Rattle.sqz_slide.specs.Moved.{new_address, moved_field, nil_place, address_or, moved_weak, moved_class, moved_header}
 use Rattle.sqz_slide.specs.Moved.{moved_others, moved_fields, moved, moved_objects}
 

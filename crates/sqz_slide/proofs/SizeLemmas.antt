@@ -4,9 +4,9 @@ use Rattle.std.proofs.Common.{◌≡◌, ℕ, zero, suc, ◌+◌, ◌-◌, ◌<�
 use Rattle.std.proofs.Common.{slice_index_or, refl, ap, ◌∙◌, arith}
 use Rattle.sqz_image.specs.Objects.{Memory, object_count}
 use Rattle.sqz_trace.specs.Graph.{is_marked}
-use Rattle.sqz_regions.specs.Places.{live_words_below}
+use Rattle.sqz_trace.specs.Live.{live_words_below}
 use Rattle.sqz_regions.specs.Bases.{ArePlacesOf}
-use Rattle.sqz_regions.proofs.PlaceLemmas.{live_words_more_yes, live_words_more_no}
+use Rattle.sqz_trace.proofs.LiveWordLemmas.{live_words_more_yes, live_words_more_no}
 use Rattle.sqz_slide.proofs.AddressLemmas.{is_marked-place}
 
 module _ (memory : Memory) (marks : List Bool) where

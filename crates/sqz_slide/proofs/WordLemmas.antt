@@ -10,8 +10,7 @@ use Rattle.sqz_object.specs.Chunk.{IsChunk}
 use Rattle.sqz_image.specs.Objects.{Memory, objects, object_count}
 use Rattle.sqz_image.proofs.ObjectLemmas.{StandsIn, objects_keep, objects_stand}
 use Rattle.sqz_trace.specs.declared.weak.Weak.{Weak}
-use Rattle.sqz_trace.specs.Live.{live}
-use Rattle.sqz_regions.specs.Places.{live_words}
+use Rattle.sqz_trace.specs.Live.{live, live_words}
 use Rattle.sqz_slide.specs.Moved.{moved_objects}
 use Rattle.sqz_slide.proofs.LengthLemmas.{All-marked, words_after}
 use Rattle.sqz_slide.proofs.CompactedLemmas.{All-both}

@@ -5,7 +5,7 @@ ghost use Rattle.std.specs.Prelude.{is_some, length};
 ghost use Rattle.std.specs.Prelude.{slice_index_or};
 ghost use Rattle.sqz_image.specs.Objects.{object_count};
 ghost use Rattle.sqz_trace.specs.Graph.{is_marked};
-ghost use Rattle.sqz_regions.specs.Places.{live_words_below};
+ghost use Rattle.sqz_trace.specs.Live.{live_words_below};
 ghost use Rattle.sqz_regions.specs.Bases.{ArePlacesOf};
 
 use sqz_image::Heap;

@@ -6,6 +6,9 @@ pub mod EdgeLemmas
 pub mod ReachabilityLemmas
 pub mod MarkingLemmas
 pub mod AvoidingLemmas
+pub mod MarkedLemmas
+pub mod LiveWordLemmas
+pub mod DeadLemmas
 pub mod DefectLemmas
 pub mod FirstDefectLemmas
 pub mod FinishingLemmas

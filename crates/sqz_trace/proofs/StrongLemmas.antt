@@ -1,6 +1,6 @@
 -- The strong fields of an object, by its class word only and by its class.
 -- Serves `classes::compact_class`, `CopyLemmas` and `CompactClassLemmas`; `MovedLemmas` and
--- `MovedShapeLemmas` of `sqz_slide`; `GroupLemmas` of `sqz_census`.
+-- `MovedShapeLemmas` of `sqz_slide`; `GroupLemmas` of `sqz_histogram`.
 use Rattle.std.proofs.Common.{◌≡◌, ℕ, suc, ◌≤◌, Bool, true, false, cond, List, length, Option, Some, None, refl, ap, subst}
 use Rattle.std.proofs.Common.{sym, ◌∙◌, arith, inl, inr}
 use Rattle.std.proofs.lemmas.Bool.{cases_lt, lt-ltb, le-ltb}

@@ -8,7 +8,9 @@ pub mod Reachability
 pub mod Marking
 pub mod Avoiding
 pub mod Live
+pub mod Dead
 pub mod Defects
+pub mod Faults
 pub mod Ranges
 pub mod Shades
 pub mod Greying

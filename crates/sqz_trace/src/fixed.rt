@@ -36,7 +36,7 @@ pub fn is_weak(weak: Weak, object: &Object<'_>) -> bool
 
 /// Returns the number of fixed fields that a class states for its instances. None if there is no
 /// class, or if it states no number.
-pub(crate) fn fixed_by(heap: &Heap, class: Option<ObjectIndex>) -> Option<u32>
+pub fn fixed_by(heap: &Heap, class: Option<ObjectIndex>) -> Option<u32>
     requires { IfSome class (λ class. class < object_count heap.now) }
     ensures { result ≡ fixed_by heap.now class }
 {

@@ -11,6 +11,7 @@ ghost use Rattle.sqz_trace.specs.Shades.{marks_of};
 
 use crate::avoided::{Avoided, Nothing};
 use crate::marks::{Marks, has_mark};
+use crate::object_graph::ObjectGraph;
 use crate::out_edges::OutEdges;
 use crate::shades::{Shade, first_shades};
 use crate::weak::Weak;
@@ -24,49 +25,52 @@ pub fn mark_plain(alloc: Global, heap: &Heap, weak: Weak) -> Result<Marks, Fault
     ensures reachable { IfOk result (λ marks. IsReachability heap.now weak marks) }
     ensures refused { IfErr result (λ fault. fault ≡ OutOfMemory) }
 {
-    mark_without(alloc, heap, weak, &Nothing)
+    let marks = reachable(alloc, ObjectGraph { heap, weak })?;
+    Ok(marks)
+}
+
+/// Returns the reachable objects of a heap: one mark per object. It runs in one thread, as
+/// `mark_plain` does.
+pub fn reachable(alloc: Global, graph: ObjectGraph<'_>) -> Result<Marks, AllocError>
+    ensures { IfOk result (λ marks. IsReachability graph.entry.heap.now graph.entry.weak marks) }
+{
+    mark_without(alloc, graph, &Nothing)
 }
 
 /// Returns the objects that a path reaches which goes through no object of a set: one mark per
 /// object. The special objects array is on every path, and the object itself on each path to it,
 /// so no object of the set is marked, and none at all if the set has the special objects array.
 ///
-/// What is reachable, and not reachable without a set, is what the set retains. Fails only if out
-/// of memory.
+/// What is reachable, and not reachable without a set, is what the set retains.
 pub fn reachable_without(
     alloc: Global,
-    heap: &Heap,
-    weak: Weak,
+    graph: ObjectGraph<'_>,
     set: &Marks,
-) -> Result<Marks, Fault>
-    ensures reachable { IfOk result (λ marks.
-        IsReachabilityWithout heap.now weak set.now marks) }
-    ensures refused { IfErr result (λ fault. fault ≡ OutOfMemory) }
+) -> Result<Marks, AllocError>
+    ensures { IfOk result (λ marks.
+        IsReachabilityWithout graph.entry.heap.now graph.entry.weak set.now marks) }
 {
-    mark_without(alloc, heap, weak, set)
+    mark_without(alloc, graph, set)
 }
 
 /// Returns the objects that a path reaches which goes through none of the avoided objects.
 fn mark_without<A: Avoided>(
     alloc: Global,
-    heap: &Heap,
-    weak: Weak,
+    graph: ObjectGraph<'_>,
     avoided: &A,
-) -> Result<Marks, Fault>
-    ensures reachable { IfOk result (λ marks.
-        IsReachabilityWithout heap.now weak (A.set avoided.now) marks) }
-    ensures refused { IfErr result (λ fault. fault ≡ OutOfMemory) }
+) -> Result<Marks, AllocError>
+    ensures { IfOk result (λ marks.
+        IsReachabilityWithout graph.entry.heap.now graph.entry.weak (A.set avoided.now) marks) }
 {
-    let special = heap.special();
+    let special = graph.heap.special();
     if avoided.contains(special) {
-        let none = Marks::listed(alloc, heap, &[])?;
-        return Ok(none);
+        return Marks::listed(alloc, graph.heap, &[]);
     }
-    let mut shades = first_shades(alloc, heap)?;
+    let mut shades = first_shades(alloc, graph.heap)?;
     let mut worklist = Vec::new(alloc);
     worklist.push(special)?;
     while let Some(object) = worklist.pop() {
-        let edges = OutEdges::of(heap, weak, object);
+        let edges = graph.edges(object);
         mark_targets(&edges, avoided, &mut shades, &mut worklist)?;
     }
     Ok(Marks::new(shades))

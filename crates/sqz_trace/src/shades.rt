@@ -1,12 +1,11 @@
 //! The shades of objects: how far marking has come.
 
-ghost use Rattle.std.specs.Prelude.{◌≡◌, ◌^◌, ◌<◌, length, IfOk, IfErr};
-ghost use Rattle.sqz_image.specs.declared.fault.Fault.TheVariants.{OutOfMemory};
+ghost use Rattle.std.specs.Prelude.{◌≡◌, ◌^◌, ◌<◌, length, IfOk};
 ghost use Rattle.sqz_trace.specs.declared.weak.Weak.{Weak};
 ghost use Rattle.sqz_trace.specs.Shades.{AreFirst, AreLawfulOf};
 
-use sqz_image::{Fault, Heap};
-use std::alloc::Global;
+use sqz_image::Heap;
+use std::alloc::{AllocError, Global};
 
 /// How far the marking of an object has come: its tri-colour mark.
 #[derive(Clone, Copy, Debug, PartialEq, Eq)]
@@ -23,13 +22,12 @@ pub enum Shade {
 pub type Shades = Vec<Shade>;
 
 /// Returns the shades with which marking begins: the special objects array is grey, every other
-/// object white. Fails only if out of memory.
-pub fn first_shades(alloc: Global, heap: &Heap) -> Result<Shades, Fault>
+/// object white.
+pub fn first_shades(alloc: Global, heap: &Heap) -> Result<Shades, AllocError>
     ensures first { IfOk result (λ shades. AreFirst heap.now shades.items) }
     ensures lawful { IfOk result (λ shades.
         (weak : Weak) → AreLawfulOf heap.now weak shades.items) }
     ensures few { IfOk result (λ shades. length shades.items < 2 ^ 30) }
-    ensures refused { IfErr result (λ fault. fault ≡ OutOfMemory) }
 {
     let mut shades = vec![in alloc; Shade::White; heap.len() as usize]?;
     shades[heap.special() as usize] = Shade::Grey;

@@ -4,7 +4,7 @@ ghost use Rattle.std.specs.Prelude.{◌≡◌, ◌+◌, ◌*◌, ◌^◌, ◌≤
 ghost use Rattle.sqz_image.specs.declared.fault.Fault.TheVariants.{OutOfMemory};
 ghost use Rattle.sqz_trace.specs.Reachability.{IsReachability};
 ghost use Rattle.sqz_regions.specs.Bases.{AreSums};
-ghost use Rattle.sqz_regions.specs.Places.{live_words};
+ghost use Rattle.sqz_trace.specs.Live.{live_words};
 
 use crate::gate::Gate;
 use crate::marked::Marked;

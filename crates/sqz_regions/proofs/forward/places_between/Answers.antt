@@ -1,6 +1,6 @@
 use Rattle.std.proofs.Common.{◌+◌, ◌*◌, ◌<◌, sym, ◌∙◌, arith}
 use Rattle.sqz_image.specs.Objects.{object_count}
-use Rattle.sqz_regions.proofs.PlaceLemmas.{live_words_more_no}
+use Rattle.sqz_trace.proofs.LiveWordLemmas.{live_words_more_no}
 use Rattle.sqz_regions.proofs.EntryLemmas.{placed, AreEntriesOf-push_marked, AreEntriesOf-push_unmarked}
 use Rattle.sqz_regions.proofs.forward.places_between.Goals as goal
 use Rattle.sqz_regions.proofs.forward.places_between.Goals.{then-has+in_ok-push, else-has+in_ok-push-2}

@@ -1,6 +1,6 @@
 use Rattle.std.proofs.Common.{◌≡◌, ◌+◌, ◌*◌, ◌<◌, sym, ap, subst, ◌∙◌, arith, ℕ}
 use Rattle.sqz_image.specs.Objects.{Memory, object_count}
-use Rattle.sqz_regions.specs.Places.{live_words_below}
+use Rattle.sqz_trace.specs.Live.{live_words_below}
 use Rattle.sqz_regions.specs.Regions.{objects_before}
 use Rattle.sqz_regions.specs.Entries.{range_begin, AreEntriesOfRange}
 use Rattle.rayon.proofs.ListFacts.{IfOk-then}

@@ -1,9 +1,10 @@
 use Rattle.std.proofs.Common.{◌≡◌, ◌+◌, length, ap, ◌∙◌, below_more, sum, arith}
 use Rattle.std.proofs.lemmas.List.{get_or_append_left, get_or_push, length_push}
 use Rattle.sqz_regions.proofs.RegionLemmas.{objects_before-rises}
-use Rattle.sqz_regions.proofs.SumLemmas.{live_words_in-between, sum-AreSums, live_words-le-words}
+use Rattle.sqz_regions.proofs.SumLemmas.{live_words_in-between, sum-AreSums}
+use Rattle.sqz_trace.proofs.LiveWordLemmas.{live_words-le-words}
 use Rattle.sqz_regions.specs.Bases.{AreSums}
-use Rattle.sqz_regions.specs.Places.{live_words}
+use Rattle.sqz_trace.specs.Live.{live_words}
 use Rattle.sqz_regions.proofs.sums.live_words.Goals as goal
 use Rattle.sqz_regions.proofs.sums.live_words.Goals.{After-loop-region}
 

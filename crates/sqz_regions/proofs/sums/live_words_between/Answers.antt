@@ -1,7 +1,6 @@
 use Rattle.std.proofs.Common.{◌+◌, ◌<◌, sym, ◌∙◌, arith}
 use Rattle.sqz_image.specs.Objects.{object_count}
-use Rattle.sqz_regions.proofs.PlaceLemmas.{live_words_more_yes, live_words_more_no}
-use Rattle.sqz_regions.proofs.SumLemmas.{live_words_below-le-words}
+use Rattle.sqz_trace.proofs.LiveWordLemmas.{live_words_more_yes, live_words_more_no, live_words_below-le-words}
 use Rattle.sqz_regions.proofs.sums.live_words_between.Goals as goal
 use Rattle.sqz_regions.proofs.sums.live_words_between.Goals.{then-has, else-has}
 

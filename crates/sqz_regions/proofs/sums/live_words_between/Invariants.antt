@@ -1,5 +1,5 @@
 use Rattle.std.proofs.Common.{◌≡◌, ◌+◌}
-use Rattle.sqz_regions.specs.Places.{live_words_below}
+use Rattle.sqz_trace.specs.Live.{live_words_below}
 use Rattle.sqz_regions.proofs.sums.live_words_between.Given as goal
 
 abbrev pub invariant-loop-object : goal.invariant-loop-object

@@ -1,6 +1,6 @@
 use Rattle.std.proofs.Common.{◌≡◌, ◌<◌, ◌+◌, ◌-◌, ◌∙◌, arith}
 use Rattle.sqz_image.specs.Objects.{object_count}
-use Rattle.sqz_regions.proofs.PlaceLemmas.{live_words_more_yes}
+use Rattle.sqz_trace.proofs.LiveWordLemmas.{live_words_more_yes}
 use Rattle.sqz_slide.proofs.AddressLemmas.{is_marked-place}
 use Rattle.sqz_slide.proofs.SizeLemmas.{live_words_below-rises, dead_between}
 use Rattle.sqz_slide.proofs.piece_sizes.piece_size.Goals as goal

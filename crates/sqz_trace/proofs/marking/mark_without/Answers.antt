@@ -16,11 +16,11 @@ loop-object-init g c start is_special =
     let begins : first.start ≡ start = same_Some _ _ (sym first.is_special ∙ is_special) in
     let same : c.special-special.result ≡ start = same_Some _ _ (sym c.special-special.ensures.special ∙ is_special) in
     rw (first.are, c.in_ok-push.ensures.items, c.new-worklist.ensures.items, map-set, marks_of-replicate, begins, same)
-    (IsMarking-start (without (graph_from start c.args.heap.now c.args.weak) (g.A.Avoided.set c.args.avoided.now)) (omega (arith, same, c.special-special.ensures.inside)))
+    (IsMarking-start (without (graph_from start c.args.graph.heap.now c.args.graph.weak) (g.A.Avoided.set c.args.avoided.now)) (omega (arith, same, c.special-special.ensures.inside)))
 
-pub of-edges-requires : goal.of-edges-requires
-of-edges-requires g c =
-    IsMarking-inside (without (graph_from c.special-special.result c.args.heap.now c.args.weak) (g.A.Avoided.set c.args.avoided.now))
+pub edges-edges-requires : goal.edges-edges-requires
+edges-edges-requires g c =
+    IsMarking-inside (without (graph_from c.special-special.result c.args.graph.heap.now c.args.graph.weak) (g.A.Avoided.set c.args.avoided.now))
     (marks_of c.loop-object.shades.items) c.loop-object.worklist.items
     c.in-Some.object (c.loop-object.invariant c.special-special.result c.special-special.ensures.special)
     (rw c.in-Some.ensures.items (Contains-push c.pop.new.self.items c.in-Some.object))
@@ -28,34 +28,34 @@ of-edges-requires g c =
 pub mark_targets-requires : goal.mark_targets-requires
 mark_targets-requires g c =
     let marking = c.loop-object.invariant c.special-special.result c.special-special.ensures.special in
-    rw (c.deref_mut.ensures.value, c.of-edges.ensures) (sym (length-marks_of c.loop-object.shades.items) ∙ marking.sized)
+    rw (c.deref_mut.ensures.value, c.edges-edges.ensures) (sym (length-marks_of c.loop-object.shades.items) ∙ marking.sized)
 
 pub new-requires : goal.new-requires
 new-requires g c =
     let marking = c.loop-object.invariant c.special-special.result c.special-special.ensures.special in
-    let sized = (c.in_ok-shades.ensures.lawful c.args.weak).lawful.sized in
+    let sized = (c.in_ok-shades.ensures.lawful c.args.graph.weak).lawful.sized in
     omega (arith, c.loop-object.shades.ok.0, length-marks_of c.loop-object.shades.items, marking.sized, sized, c.in_ok-shades.ensures.few)
 
 pub loop-object-preserved : goal.loop-object-preserved
 loop-object-preserved g c start is_special =
     let marking = rw c.in-Some.ensures.items at (c.loop-object.invariant start is_special) in
     let inside =
-    IsMarking-inside (without (graph_from start c.args.heap.now c.args.weak) (g.A.Avoided.set c.args.avoided.now)) (marks_of c.loop-object.shades.items)
+    IsMarking-inside (without (graph_from start c.args.graph.heap.now c.args.graph.weak) (g.A.Avoided.set c.args.avoided.now)) (marks_of c.loop-object.shades.items)
     (c.pop.new.self.items ++ c.in-Some.object ∷ []) c.in-Some.object marking
     (Contains-push c.pop.new.self.items c.in-Some.object) in
     let step =
-    MarksTargets-edges (g.A.Avoided.set c.args.avoided.now) c.args.heap.now c.args.weak c.in-Some.object c.of-edges.result c.of-edges.ensures inside _ _ _ _
+    MarksTargets-edges (g.A.Avoided.set c.args.avoided.now) c.args.graph.heap.now c.args.graph.weak c.in-Some.object c.edges-edges.result c.edges-edges.ensures inside _ _ _ _
     (rw c.deref_mut.ensures.value at c.in_ok-mark_targets.ensures) in
     let next =
-    IsMarking-step (without (graph_from start c.args.heap.now c.args.weak) (g.A.Avoided.set c.args.avoided.now)) c.in-Some.object (marks_of c.loop-object.shades.items)
+    IsMarking-step (without (graph_from start c.args.graph.heap.now c.args.graph.weak) (g.A.Avoided.set c.args.avoided.now)) c.in-Some.object (marks_of c.loop-object.shades.items)
     (marks_of c.mark_targets.new.shades) c.pop.new.self.items c.mark_targets.new.worklist.items marking step
     in
     let size = same_length c.mark_targets.new.shades c.loop-object.shades.items step.sized in
     rw (whole_slice c.loop-object.shades.len c.mark_targets.new.shades c.loop-object.shades.items size c.loop-object.shades.ok.0) next
 
-pub returns-clause-reachable : goal.returns-clause-reachable
-returns-clause-reachable g c =
-    let graph = graph_from c.special-special.result c.args.heap.now c.args.weak in
+pub returns : goal.returns
+returns g c =
+    let graph = graph_from c.special-special.result c.args.graph.heap.now c.args.graph.weak in
     let set = g.A.Avoided.set c.args.avoided.now in
     let none = nil_from_length c.loop-object.worklist.items (omega (arith, c.in_default.ensures.cases.0, c.loop-object.worklist.ok.0)) in
     rw c.new.ensures

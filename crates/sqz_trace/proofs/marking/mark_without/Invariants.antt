@@ -9,8 +9,8 @@ use Rattle.sqz_trace.proofs.marking.mark_without.Given as goal
 
 abbrev pub invariant-loop-object : goal.invariant-loop-object
 invariant-loop-object g l =
-    (start : ℕ) → find l.heap l.heap.special ≡ Some start
-    → IsMarking (without (graph_from start l.heap l.weak) (g.A.Avoided.set l.avoided)) (marks_of l.shades.items) l.worklist.items
+    (start : ℕ) → find l.graph.heap.now l.graph.heap.now.special ≡ Some start
+    → IsMarking (without (graph_from start l.graph.heap.now l.graph.weak) (g.A.Avoided.set l.avoided)) (marks_of l.shades.items) l.worklist.items
 
 abbrev pub decreases-loop-object : goal.decreases-loop-object
 decreases-loop-object g l = unmarked_count (marks_of l.shades.items) + vec_len l.worklist

@@ -12,9 +12,10 @@ use Rattle.sqz_trace.specs.declared.weak.Weak.{Weak}
 use Rattle.sqz_trace.specs.Shades.{has_mark, marks_of}
 use Rattle.sqz_trace.proofs.MarkingLemmas.{whole_slice}
 use Rattle.sqz_regions.specs.Bases.{AreSums}
-use Rattle.sqz_regions.specs.Places.{live_words}
+use Rattle.sqz_trace.specs.Live.{live_words}
 use Rattle.sqz_regions.specs.Regions.{Regioning, region_count, objects_before}
-use Rattle.sqz_regions.proofs.SumLemmas.{sum-AreSums, live_words-le-words}
+use Rattle.sqz_regions.proofs.SumLemmas.{sum-AreSums}
+use Rattle.sqz_trace.proofs.LiveWordLemmas.{live_words-le-words}
 use Rattle.sqz_marks.specs.declared.view.View.{View}
 use Rattle.sqz_marks.specs.Table.{SharedMarks, HeldPass, HasCountedAll, IsKept, marking_in, start_of, shade_of, AreClosed}
 use Rattle.sqz_marks.proofs.KeptLemmas.{AreClosed-kept, AreSums-kept, shades_read, sum_read, sum_few}

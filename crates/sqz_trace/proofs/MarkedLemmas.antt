@@ -1,6 +1,6 @@
 -- The marked elements among the first n of a list, as n grows.
--- Serves `PlaceLemmas`; `CompactedLemmas` and `MovedLemmas` of `sqz_slide`; `TallyLemmas` of
--- `sqz_census`; `CorrespondenceLemmas` of `sqz_tool`.
+-- Serves `LiveWordLemmas`; `CompactedLemmas` and `MovedLemmas` of `sqz_slide`; `TallyLemmas` of
+-- `sqz_histogram`; `CorrespondenceLemmas` of `sqz_tool`.
 use Rattle.std.proofs.Common.{◌≡◌, ℕ, zero, suc, ◌+◌, ◌<◌, ◌≤◌, Bool, true, false, cond, List, [], ◌∷◌, ◌++◌}
 use Rattle.std.proofs.Common.{length, get_or, take, refl, ap, arith, add-one}
 use Rattle.std.specs.List.{count_by}

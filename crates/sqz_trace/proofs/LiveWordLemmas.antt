@@ -1,19 +1,19 @@
--- The words of the marked objects below an object.
+-- The words of the marked objects of a memory, all of them and those below an object.
 -- Serves `forward::places_between`, `sums::live_words_between`, `EntryLemmas`, `ListedLemmas` and
--- `SumLemmas`; `piece_sizes::piece_size`, `MovedShapeLemmas`, `SettledLemmas` and `SizeLemmas` of
--- `sqz_slide`; `CensusLemmas`, `SumLemmas` and `TallyLemmas` of `sqz_census`; `compaction::moved`
--- of `sqz_tool`.
-use Rattle.std.proofs.Common.{◌≡◌, ℕ, zero, suc, ◌+◌, ◌<◌, ◌≤◌, Bool, true, false, List, [], ◌∷◌}
+-- `SumLemmas` of `sqz_regions`; `piece_sizes::piece_size`, `MovedShapeLemmas`, `SettledLemmas` and
+-- `SizeLemmas` of `sqz_slide`; `SumLemmas` and `TallyLemmas` of `sqz_histogram`; `CensusLemmas` of
+-- `sqz_census`; `SumLemmas` of `sqz_facts`; `compaction::moved` of `sqz_tool`.
+use Rattle.std.proofs.Common.{◌≡◌, ℕ, zero, suc, ◌+◌, ◌<◌, ◌≤◌, Bool, true, false, cond, List, [], ◌∷◌, ◌++◌}
 use Rattle.std.proofs.Common.{map, length, get_or, take, refl, ap, ◌∙◌, arith}
-use Rattle.std.specs.List.{count_by}
-use Rattle.std.proofs.lemmas.List.{length-take}
-use Rattle.std.proofs.lemmas.List.Sums.{sum_by-cons, sum_by_push}
-use Rattle.sqz_image.specs.Objects.{Memory, Object, moved_on, objects, object_count, object_at, words_in}
+use Rattle.std.specs.List.{count_by, concat}
+use Rattle.std.proofs.lemmas.List.{length-take, length-append}
+use Rattle.std.proofs.lemmas.List.Sums.{sum_by-cons, sum_by_push, sum_by-take-le}
+use Rattle.sqz_object.specs.Chunk.{is_object}
+use Rattle.sqz_image.specs.Objects.{Memory, Object, objects_of, moved_on, objects, object_count, object_at, words_in}
 use Rattle.sqz_image.specs.Objects.{chunk_words}
-use Rattle.sqz_trace.specs.Live.{marked, live}
-use Rattle.sqz_regions.specs.Places.{live_words_below, live_words}
-use Rattle.sqz_regions.proofs.MarkedLemmas.{marked_more_yes, marked_more_no, marked_all}
-use Rattle.sqz_regions.proofs.MarkedLemmas.{length-marked, length-marked_count}
+use Rattle.sqz_trace.specs.Live.{marked, live, live_words_below, live_words}
+use Rattle.sqz_trace.proofs.MarkedLemmas.{marked_more_yes, marked_more_no, marked_all}
+use Rattle.sqz_trace.proofs.MarkedLemmas.{length-marked, length-marked_count}
 
 abbrev pub no_object : Object
 no_object = record { first = 0; chunk = [] }
@@ -90,3 +90,35 @@ module _ (memory : Memory) (marks : List Bool) where
   -- there are as many live objects as marks that are set
   pub length-live : length marks ≡ object_count memory → length (live memory marks) ≡ count_by (λ mark. mark) marks
   length-live sized = length-marked_count marks (objects memory) sized
+
+-- ---- the live words are among the data words
+
+-- the objects have no more words than there are, where a chunk, perhaps free, stands before the others
+words_in_if : (test : Bool) (chunk : List ℕ) (objects : List Object) (words : ℕ) → words_in objects ≤ words
+    → words_in ((cond test (record { first = 0; chunk = chunk } ∷ []) []) ++ map (moved_on (length chunk)) objects)
+    ≤ length chunk + words
+words_in_if true chunk objects words le =
+    let moved = map (moved_on (length chunk)) objects in
+    omega (arith, words_in-cons (record { first = 0; chunk = chunk }) moved, words_in-moved_on (length chunk) objects)
+words_in_if false chunk objects words le = omega (arith, words_in-moved_on (length chunk) objects)
+
+-- the objects have no more words than there are
+pub words_in-le-concat : (chunks : List (List ℕ)) → words_in (objects_of chunks) ≤ length (concat chunks)
+words_in-le-concat [] = omega arith
+words_in-le-concat (chunk ∷ chunks) =
+    let words = length (concat chunks) in
+    let le = words_in_if (is_object chunk) chunk (objects_of chunks) words (words_in-le-concat chunks) in
+    omega (arith, le, length-append chunk (concat chunks))
+
+module _ (memory : Memory) (marks : List Bool) where
+  -- the live words below an index are among the data words
+  pub live_words_below-le-words : (index : ℕ) → live_words_below memory marks index ≤ length (concat memory.chunks)
+  live_words_below-le-words index =
+      let marked = words_in-marked (take index marks) (take index (objects memory)) in
+      omega (arith, marked, sum_by-take-le size (objects memory) index, words_in-le-concat memory.chunks)
+
+  -- and so are all live words
+  pub live_words-le-words : length marks ≡ object_count memory → live_words memory marks ≤ length (concat memory.chunks)
+  live_words-le-words sized =
+      let all = live_words_all memory marks (object_count memory) sized (omega arith) in
+      omega (arith, all, live_words_below-le-words (object_count memory))
