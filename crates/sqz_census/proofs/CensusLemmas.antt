@@ -10,20 +10,21 @@ use Rattle.sqz_image.specs.Objects.{Memory, object_count, chunk_words, address_o
 use Rattle.sqz_trace.specs.declared.weak.Weak.{Weak}
 use Rattle.sqz_trace.specs.Graph.{is_marked}
 use Rattle.sqz_trace.specs.Reachability.{IsReachability}
-use Rattle.sqz_regions.specs.Places.{live_words_below, place}
+use Rattle.sqz_regions.specs.Places.{place}
+use Rattle.sqz_trace.specs.Live.{live_words_below}
 use Rattle.sqz_regions.specs.Bases.{ArePlacesOf}
-use Rattle.sqz_regions.proofs.PlaceLemmas.{live_words_more_yes, live_words_more_no}
-use Rattle.sqz_census.specs.declared.group.Group.{Group}
-use Rattle.sqz_census.specs.declared.group.Group.TheVariants.{Class, Compact}
-use Rattle.sqz_census.specs.declared.group.GroupTotal.{GroupTotal}
-use Rattle.sqz_census.specs.Groups.{members, bytes_of, is_lower, ComesBefore, IsInside}
-use Rattle.sqz_census.specs.Histogram.{total_of, IsHistogram}
+use Rattle.sqz_trace.proofs.LiveWordLemmas.{live_words_more_yes, live_words_more_no}
+use Rattle.sqz_histogram.specs.declared.group.Group.{Group}
+use Rattle.sqz_histogram.specs.declared.group.Group.TheVariants.{Class, Compact}
+use Rattle.sqz_histogram.specs.declared.group.GroupTotal.{GroupTotal}
+use Rattle.sqz_histogram.specs.Groups.{members, bytes_of, is_lower, ComesBefore, IsInside}
+use Rattle.sqz_histogram.specs.Histogram.{total_of, IsHistogram}
 use Rattle.sqz_census.specs.Census.{CensusRow, row_of, IsCensus}
-use Rattle.sqz_census.specs.Names.{class_name}
+use Rattle.sqz_histogram.specs.Names.{class_name}
 use Rattle.sqz_census.specs.Rows.{row_at}
-use Rattle.sqz_census.proofs.AddressLemmas.{address_of-rises, before-chunk_words}
-use Rattle.sqz_census.proofs.GroupLemmas.{member-inside, class_of_group-marked}
-use Rattle.sqz_census.proofs.HistogramLemmas.{map_by_way}
+use Rattle.sqz_histogram.proofs.AddressLemmas.{address_of-rises, before-chunk_words}
+use Rattle.sqz_histogram.proofs.GroupLemmas.{member-inside, class_of_group-marked}
+use Rattle.sqz_histogram.proofs.HistogramLemmas.{map_by_way}
 
 module _ (memory : Memory) (marks : List Bool) where
   -- the live words below an object are no more than those below a later one

@@ -1,13 +1,5 @@
-pub mod GroupLemmas
-pub mod NameLemmas
-pub mod EntryLemmas
-pub mod TallyLemmas
-pub mod ShareLemmas
 pub mod RowLemmas
-pub mod AddressLemmas
-pub mod HistogramLemmas
 pub mod CensusLemmas
-pub mod OrderedLemmas
 pub mod Uniqueness
 pub mod SumLemmas
 pub mod TextLemmas

@@ -7,7 +7,7 @@ use Rattle.std.specs.declared.alloc.AllocError.{AllocError}
 use Rattle.sqz_image.specs.Objects.{Memory}
 use Rattle.sqz_trace.specs.declared.weak.Weak.{Weak}
 use Rattle.sqz_census.specs.declared.row.Row.{Row}
-use Rattle.sqz_census.specs.declared.group.GroupTotal.{GroupTotal}
+use Rattle.sqz_histogram.specs.declared.group.GroupTotal.{GroupTotal}
 use Rattle.sqz_census.specs.Rows.{shown, row_at}
 
 module _ (memory : Memory) (weak : Weak) (places : List (Option ℕ)) where

@@ -4,10 +4,10 @@ use Rattle.std.specs.Prelude.{◌≡◌, ℕ, Bool, List, ◌++◌, map, length,
 use Rattle.sqz_image.specs.Objects.{Memory}
 use Rattle.sqz_trace.specs.declared.weak.Weak.{Weak}
 use Rattle.sqz_regions.specs.Places.{place}
-use Rattle.sqz_census.specs.declared.group.Group.{Group}
-use Rattle.sqz_census.specs.declared.group.Group.TheVariants.{Class, Compact}
-use Rattle.sqz_census.specs.Names.{class_name}
-use Rattle.sqz_census.specs.Groups.{members, bytes_of, AreGroups}
+use Rattle.sqz_histogram.specs.declared.group.Group.{Group}
+use Rattle.sqz_histogram.specs.declared.group.Group.TheVariants.{Class, Compact}
+use Rattle.sqz_histogram.specs.Names.{class_name}
+use Rattle.sqz_histogram.specs.Groups.{members, bytes_of, AreGroups}
 
 -- a row: the new address of the class, or a compact index; a name; and the number of objects and
 -- bytes

@@ -1,9 +1,3 @@
-pub mod Names
-pub mod Groups
-pub mod Histogram
 pub mod Census
 pub mod Rows
-pub mod Keys
-pub mod Tallies
-pub mod Shares
 pub mod Text

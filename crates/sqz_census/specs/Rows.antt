@@ -2,7 +2,7 @@
 use Rattle.std.specs.Prelude.{ℕ, List, slice_index_or, Option, None}
 use Rattle.sqz_image.specs.Objects.{Memory}
 use Rattle.sqz_trace.specs.declared.weak.Weak.{Weak}
-use Rattle.sqz_census.specs.declared.group.GroupTotal.{GroupTotal}
+use Rattle.sqz_histogram.specs.declared.group.GroupTotal.{GroupTotal}
 use Rattle.sqz_census.specs.declared.row.Row.{Row}
 use Rattle.sqz_census.specs.Census.{CensusRow, row_by}
 

@@ -6,8 +6,8 @@ ghost use Rattle.sqz_census.specs.Rows.{shown};
 ghost use Rattle.sqz_census.specs.Text.{census_text, columns, label_text, place_text, row_text};
 ghost use Rattle.sqz_census.specs.Text.{total_text};
 
-use crate::names::compact_name;
 use crate::row::Row;
+use sqz_histogram::compact_name;
 use sqz_image::Fault;
 use sqz_object::Address;
 use std::alloc::{AllocError, Global};

@@ -10,10 +10,10 @@ ghost use Rattle.sqz_census.specs.Rows.{shown};
 
 use crate::row::Row;
 use crate::row_maker::RowMaker;
-use crate::totals::histogram;
+use sqz_histogram::histogram;
 use sqz_image::{Fault, Heap};
 use sqz_regions::Forward;
-use sqz_trace::{Marks, Weak};
+use sqz_trace::{Marks, ObjectGraph, Weak};
 use std::alloc::Global;
 use std::thread::Threads;
 
@@ -37,13 +37,10 @@ pub fn census<'a>(
         → IsCensus heap.now weak marks.now (map shown rows.items)) }
     ensures refused { IfErr result (λ fault. fault ≡ OutOfMemory) }
 {
-    let totals = histogram(rt, alloc, heap, weak, marks)?;
+    let graph = ObjectGraph { heap, weak };
+    let totals = histogram(rt, alloc, graph, marks)?;
     heap.data(); // every chunk is well-formed, so addresses rise with the indexes of objects
-    let maker = RowMaker {
-        heap,
-        weak,
-        forward,
-    };
+    let maker = RowMaker { graph, forward };
     let rows = maker.rows_of(rt, alloc, &totals)?;
     Ok(rows)
 }

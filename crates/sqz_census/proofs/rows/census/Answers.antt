@@ -8,7 +8,7 @@ rows_of-requires g c = (
   search rules,
   λ k within.
       let kept_inside =
-      groups_inside c.args.heap.now c.args.weak c.args.marks.now c.in_ok-totals.totals.items c.in_ok-totals.ensures.rows in
+      groups_inside c.args.heap.now c.args.weak c.args.marks.now c.in_ok-totals.totals.items c.in_ok-totals.ensures in
       let inside = rw (← c.deref.ensures.value) at kept_inside in
       inside k within,
 )
@@ -20,5 +20,5 @@ returns-clause-rows g c reach placed =
     let places = c.args.forward.now in
     let totals = c.in_ok-totals.totals.items in
     let rows_are = c.in_ok-rows.ensures ∙ ap (map (row_at memory weak places)) c.deref.ensures.value in
-    IsCensus-rows memory weak c.args.marks.now totals c.in_ok-totals.ensures.rows places c.data.ensures.chunks reach placed
+    IsCensus-rows memory weak c.args.marks.now totals c.in_ok-totals.ensures places c.data.ensures.chunks reach placed
     (map shown c.in_ok-rows.rows.items) rows_are

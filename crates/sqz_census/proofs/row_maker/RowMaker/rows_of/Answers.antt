@@ -5,8 +5,8 @@ use Rattle.sqz_census.proofs.row_maker.RowMaker.rows_of.Goals as goal
 
 pub returns : goal.returns
 returns g c =
-    let memory = c.args.self.now.heap.now in
-    let weak = c.args.self.now.weak in
+    let memory = c.args.self.now.graph.heap.now in
+    let weak = c.args.self.now.graph.weak in
     let places = c.args.self.now.forward.now in
     let totals = c.args.totals.now in
     let slice = ap (λ it. it.slice.now) c.map.ensures.base ∙ c.par_iter.ensures in

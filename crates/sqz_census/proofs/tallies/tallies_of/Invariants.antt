@@ -1,9 +1,0 @@
-use Rattle.sqz_trace.specs.declared.weak.Weak.{Weak}
-use Rattle.sqz_census.specs.Keys.{AreEntries}
-use Rattle.sqz_census.specs.Tallies.{AreTalliesBelow}
-use Rattle.sqz_census.proofs.tallies.tallies_of.Given as goal
-
-abbrev pub invariant-loop-entry : goal.invariant-loop-entry
-invariant-loop-entry l =
-    (weak : Weak) → AreEntries l.heap weak l.marks l.entries
-    → AreTalliesBelow l.heap weak l.marks l.entry-index l.tallies.items

@@ -1,0 +1,10 @@
+pub mod GroupLemmas
+pub mod BytesLemmas
+pub mod EntryLemmas
+pub mod TallyLemmas
+pub mod ShareLemmas
+pub mod AddressLemmas
+pub mod HistogramLemmas
+pub mod OrderedLemmas
+pub mod Uniqueness
+pub mod SumLemmas

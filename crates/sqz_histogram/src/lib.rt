@@ -1,0 +1,17 @@
+//! The class histogram of marked objects, the names of classes, and the bytes of byte objects.
+#![tactic(auto)]
+
+mod bytes;
+mod classes;
+mod entries;
+mod group;
+pub mod laws;
+mod names;
+mod shares;
+mod tallies;
+mod totals;
+
+pub use bytes::first_bytes;
+pub use group::{Group, GroupTotal};
+pub use names::{class_name, compact_name, known_class_name, shown_byte};
+pub use totals::histogram;
