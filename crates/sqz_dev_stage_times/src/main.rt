@@ -57,17 +57,11 @@ fn print_run<R: Files + Threads + Sync + Clock + Print>(
     let mut printer = StagePrinter::start(rt)?;
     let mut session = Session {
         rt,
+        alloc,
         gate: &OpenGate,
         observer: &mut printer,
     };
-    run_observed(
-        &mut session,
-        alloc,
-        &plan,
-        &mut source,
-        &mut sink,
-        &mut report,
-    )?;
+    run_observed(&mut session, &plan, &mut source, &mut sink, &mut report)?;
     printer.finish()?;
     println!(rt)?;
     Ok(())

@@ -40,17 +40,11 @@ fn observed<R: Threads + Wait + Sync + AllocGlobal>(
     };
     let mut session = Session {
         rt,
+        alloc,
         gate: &OpenGate,
         observer: &mut recorder,
     };
-    let answer = run_observed(
-        &mut session,
-        alloc,
-        plan,
-        &mut source,
-        &mut sink,
-        &mut report,
-    );
+    let answer = run_observed(&mut session, plan, &mut source, &mut sink, &mut report);
     Ok((answer, recorder.stages))
 }
 

@@ -11,7 +11,8 @@ use Rattle.sqz_image.specs.Objects.{Memory, SavedImage, object_count, find, file
 use Rattle.sqz_trace.specs.declared.weak.Weak.{Weak}
 use Rattle.sqz_trace.specs.Reachability.{IsReachability}
 use Rattle.sqz_trace.specs.Graph.{is_marked}
-use Rattle.sqz_regions.specs.Places.{place, live_words}
+use Rattle.sqz_regions.specs.Places.{place}
+use Rattle.sqz_trace.specs.Live.{live_words}
 use Rattle.sqz_regions.specs.Bases.{ArePlacesOf}
 use Rattle.sqz_slide.specs.Moved.{new_address, moved_objects}
 use Rattle.sqz_slide.proofs.LengthLemmas.{length-moved_objects}

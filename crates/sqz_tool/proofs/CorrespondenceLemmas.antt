@@ -18,7 +18,7 @@ use Rattle.sqz_trace.specs.Reachability.{IsReachability}
 use Rattle.sqz_trace.specs.Defects.{first_defect, lacks_nil}
 use Rattle.sqz_trace.proofs.CopyLemmas.{IsCopy, marked_inside, strong_target-copy, HasEdge-copy}
 use Rattle.sqz_trace.proofs.CopiedEdgeLemmas.{HasEdge-copied}
-use Rattle.sqz_regions.proofs.MarkedLemmas.{marked-inside}
+use Rattle.sqz_trace.proofs.MarkedLemmas.{marked-inside}
 use Rattle.sqz_slide.specs.Moved.{moved_objects}
 use Rattle.sqz_slide.proofs.LengthLemmas.{words_after}
 use Rattle.sqz_slide.proofs.CompactedLemmas.{copied_objects, inside-copied, words-copied, address-copied}

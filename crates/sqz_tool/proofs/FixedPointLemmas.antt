@@ -17,8 +17,9 @@ use Rattle.sqz_trace.specs.Graph.{is_marked}
 use Rattle.sqz_trace.specs.Reachability.{IsReachability}
 use Rattle.sqz_trace.specs.Defects.{first_defect, lacks_nil}
 use Rattle.sqz_trace.proofs.CopyLemmas.{IsCopy, all_marked, lacks_nil-copy, IsReachability-copy, first_defect-copy}
-use Rattle.sqz_regions.specs.Places.{live_words, place}
-use Rattle.sqz_regions.proofs.SumLemmas.{live_words-le-words}
+use Rattle.sqz_regions.specs.Places.{place}
+use Rattle.sqz_trace.specs.Live.{live_words}
+use Rattle.sqz_trace.proofs.LiveWordLemmas.{live_words-le-words}
 use Rattle.sqz_slide.specs.Moved.{new_address, moved_objects}
 use Rattle.sqz_slide.proofs.LengthLemmas.{length-moved_objects}
 use Rattle.sqz_slide.proofs.SettledLemmas.{live_words-settled, place-settled, moved_objects-settled}

@@ -4,7 +4,7 @@ use Rattle.std.specs.Prelude.{ℕ, ◌*◌, Bool, List}
 use Rattle.sqz_image.specs.Objects.{Memory, SavedImage, find}
 use Rattle.sqz_image.specs.File.{renewed}
 use Rattle.sqz_trace.specs.declared.weak.Weak.{Weak}
-use Rattle.sqz_regions.specs.Places.{live_words}
+use Rattle.sqz_trace.specs.Live.{live_words}
 use Rattle.sqz_slide.specs.Moved.{new_address, moved_objects}
 
 -- the new address of the special objects array

@@ -10,9 +10,8 @@ use Rattle.sqz_image.specs.Refusals.{file_fault}
 use Rattle.sqz_image.specs.Devices.{SourceState, SinkState, ReadsWhole, IsUnfinished, ReadStops, WritesWhole, WriteStops}
 use Rattle.sqz_trace.specs.declared.weak.Weak.{Weak}
 use Rattle.sqz_trace.specs.Reachability.{IsReachability}
-use Rattle.sqz_trace.specs.Live.{live}
+use Rattle.sqz_trace.specs.Live.{live, live_words}
 use Rattle.sqz_trace.specs.Defects.{first_defect, lacks_nil}
-use Rattle.sqz_regions.specs.Places.{live_words}
 use Rattle.sqz_census.specs.Census.{CensusRow, IsCensus}
 use Rattle.sqz_census.specs.Text.{census_text}
 use Rattle.sqz_tool.specs.declared.summary.Summary.{Summary}

@@ -8,7 +8,7 @@ ghost use Rattle.sqz_image.specs.declared.fault.Fault.TheVariants.{OutOfMemory};
 ghost use Rattle.sqz_image.specs.Objects.{object_count};
 ghost use Rattle.sqz_trace.specs.Reachability.{IsReachability};
 ghost use Rattle.sqz_trace.specs.Defects.{first_defect, lacks_nil};
-ghost use Rattle.sqz_regions.specs.Places.{live_words};
+ghost use Rattle.sqz_trace.specs.Live.{live_words};
 ghost use Rattle.sqz_regions.specs.Bases.{AreSums, ArePlacesOf};
 ghost use Rattle.sqz_tool.specs.Headline.{IsCompaction, IsReportIfAsked, LacksNilIn, HasDefectIn};
 
@@ -44,7 +44,6 @@ pub(crate) struct Compaction {
 /// fails only if out of memory.
 pub(crate) fn compaction_of<T: Threads + Sync, G: Gate, O: StageObserver>(
     session: &mut Session<'_, T, G, O>,
-    alloc: Global,
     plan: &Plan,
     image: &Image,
 ) -> Result<Compaction, Fault>
@@ -59,17 +58,16 @@ pub(crate) fn compaction_of<T: Threads + Sync, G: Gate, O: StageObserver>(
     if lacks_nil(heap, plan.weak) {
         return Err(Fault::NoNil);
     }
-    let regions = Regions::of(alloc, heap, &plan.cut)?;
+    let regions = Regions::of(session.alloc, heap, &plan.cut)?;
     session.observer.finished(Stage::Cut);
-    let marked = sound_marks(session, alloc, plan, image, &regions)?;
-    move_live_objects(session, alloc, plan, image, &regions, &marked)
+    let marked = sound_marks(session, plan, image, &regions)?;
+    move_live_objects(session, plan, image, &regions, &marked)
 }
 
 /// Returns the result of marking. Fails with the defect of the lowest reachable object that has
 /// one. Otherwise fails only if out of memory.
 fn sound_marks<T: Threads + Sync, G: Gate, O: StageObserver>(
     session: &mut Session<'_, T, G, O>,
-    alloc: Global,
     plan: &Plan,
     image: &Image,
     regions: &Regions<'_>,
@@ -92,7 +90,7 @@ fn sound_marks<T: Threads + Sync, G: Gate, O: StageObserver>(
     let heap = image.heap();
     let marked = mark(
         session.rt,
-        alloc,
+        session.alloc,
         heap,
         plan.weak,
         regions,
@@ -111,7 +109,6 @@ fn sound_marks<T: Threads + Sync, G: Gate, O: StageObserver>(
 /// memory.
 fn move_live_objects<T: Threads + Sync, G: Gate, O: StageObserver>(
     session: &mut Session<'_, T, G, O>,
-    alloc: Global,
     plan: &Plan,
     image: &Image,
     regions: &Regions<'_>,
@@ -134,11 +131,11 @@ fn move_live_objects<T: Threads + Sync, G: Gate, O: StageObserver>(
     let heap = image.heap();
     let weak = plan.weak;
     heap_bounds(heap); // fewer than 2^30 words, with addresses up to 2^32
-    let forward = places_of(session.rt, alloc, heap, regions, marked)?;
+    let forward = places_of(session.rt, session.alloc, heap, regions, marked)?;
     session.observer.finished(Stage::Place);
     let pieces = slide(
         session.rt,
-        alloc,
+        session.alloc,
         heap,
         weak,
         regions,
@@ -147,7 +144,7 @@ fn move_live_objects<T: Threads + Sync, G: Gate, O: StageObserver>(
         session.gate,
     )?;
     session.observer.finished(Stage::Slide);
-    let census = census_text(session, alloc, plan, heap, &marked.marks, &forward)?;
+    let census = census_text(session, plan, heap, &marked.marks, &forward)?;
     let special = forward.place(heap.special()).unwrap();
     let summary = Summary {
         objects: heap.len(),
@@ -185,7 +182,6 @@ fn places_of(
 /// Returns the text of the census, if the plan asks for one. Fails only if out of memory.
 fn census_text<T: Threads + Sync, G: Gate, O: StageObserver>(
     session: &mut Session<'_, T, G, O>,
-    alloc: Global,
     plan: &Plan,
     heap: &Heap,
     marks: &Marks,
@@ -202,8 +198,8 @@ fn census_text<T: Threads + Sync, G: Gate, O: StageObserver>(
     if !plan.census {
         return Ok(None);
     }
-    let rows = census(session.rt, alloc, heap, plan.weak, marks, forward)?;
-    let text = print(alloc, &rows)?;
+    let rows = census(session.rt, session.alloc, heap, plan.weak, marks, forward)?;
+    let text = print(session.alloc, &rows)?;
     session.observer.finished(Stage::Census);
     Ok(Some(text))
 }

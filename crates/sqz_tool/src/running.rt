@@ -50,14 +50,18 @@ pub fn run<T: Threads + Sync, R: Source, W: Sink, C: Sink, G: Gate>(
         report.new)) fault) }
 {
     let observer = &mut NoObserver;
-    let mut session = Session { rt, gate, observer };
-    run_observed(&mut session, alloc, plan, source, sink, report)
+    let mut session = Session {
+        rt,
+        alloc,
+        gate,
+        observer,
+    };
+    run_observed(&mut session, plan, source, sink, report)
 }
 
 /// As `run`, and calls an observer after each stage.
 pub fn run_observed<T: Threads + Sync, G: Gate, O: StageObserver, R: Source, W: Sink, C: Sink>(
     session: &mut Session<'_, T, G, O>,
-    alloc: Global,
     plan: &Plan,
     source: &mut R,
     sink: &mut W,
@@ -72,12 +76,12 @@ pub fn run_observed<T: Threads + Sync, G: Gate, O: StageObserver, R: Source, W: 
         (sinks (W.state sink.old) (C.state report.old)) (sinks (W.state sink.new) (C.state
         report.new)) fault) }
 {
-    let bytes = read_all(alloc, source)?;
+    let bytes = read_all(session.alloc, source)?;
     session.observer.finished(Stage::Read);
     byte_bounds(&bytes); // each byte is below 256
-    let image = image_of_file(alloc, bytes)?;
+    let image = image_of_file(session.alloc, bytes)?;
     session.observer.finished(Stage::Index);
-    let compaction = compaction_of(session, alloc, plan, &image)?;
+    let compaction = compaction_of(session, plan, &image)?;
     write_compaction(&image, &compaction, sink, report)?;
     session.observer.finished(Stage::Write);
     Ok(compaction.summary)

@@ -1,8 +1,7 @@
 use Rattle.std.proofs.Common.{◌*◌, ℕ, is_some, ap, ◌∙◌, sym, arith}
 use Rattle.std.proofs.lemmas.Option.{same_Some}
 use Rattle.sqz_image.specs.Objects.{object_count}
-use Rattle.sqz_regions.proofs.PlaceLemmas.{length-live}
-use Rattle.sqz_regions.proofs.SumLemmas.{live_words-le-words}
+use Rattle.sqz_trace.proofs.LiveWordLemmas.{length-live, live_words-le-words}
 use Rattle.sqz_tool.proofs.CompactionLemmas.{bytes_are, few_words, place_of_special, same_summary}
 use Rattle.sqz_tool.proofs.compaction.move_live_objects.Goals as goal
 
