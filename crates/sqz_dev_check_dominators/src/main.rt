@@ -16,7 +16,7 @@ use anyhow::Result;
 use difference::compare;
 use sqz_dominators::{MOST_PASSES, Retained, dominators_within};
 use sqz_image::{Fault, Image, ReadSource, image_of_file, read_all};
-use sqz_trace::Weak;
+use sqz_trace::{ObjectGraph, Weak};
 use std::alloc::Global;
 use std::env;
 use std::fs::File;
@@ -44,7 +44,11 @@ fn check_file<R: Files + Print>(rt: &R, alloc: Global, path: &str) -> Result<boo
     };
     let mut certified: u32 = 0;
     for weak in [Weak::Keep, Weak::Clear] {
-        let comparison = compare(alloc, image.heap(), weak)?;
+        let graph = ObjectGraph {
+            heap: image.heap(),
+            weak,
+        };
+        let comparison = compare(alloc, graph)?;
         if let Some(difference) = comparison.difference {
             println!(rt; "{path}: {difference}")?;
             return Ok(false);
@@ -87,7 +91,8 @@ fn print_retained<R: Files + Print + AllocGlobal>(
     let Some(object) = heap.find(address) else {
         return Ok(false);
     };
-    let found = dominators_within(alloc, heap, Weak::Keep, passes)?;
+    let weak = Weak::Keep;
+    let found = dominators_within(alloc, ObjectGraph { heap, weak }, passes)?;
     let retained = found.dominators.retained(object);
     let Retained { objects, bytes } = retained;
     println!(rt; "{objects} objects, {bytes} bytes, {:?}", found.way)?;

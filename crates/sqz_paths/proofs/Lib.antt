@@ -1,5 +1,1 @@
 pub mod PathLemmas
-pub mod MemberLemmas
-pub mod RangeLemmas
-pub mod ReferrerLemmas
-pub mod AllDefectLemmas

@@ -1,4 +1,1 @@
 pub mod Paths
-pub mod Members
-pub mod Referrers
-pub mod AllDefects

@@ -1,16 +1,14 @@
 //! Paths along strong slots.
 
-ghost use Rattle.std.specs.Prelude.{◌≡◌, ◌<◌, ◌≤◌, length, slice_index, IfOk, IfErr, IfSome};
-ghost use Rattle.std.specs.Prelude.{IfNone};
-ghost use Rattle.sqz_image.specs.declared.fault.Fault.TheVariants.{OutOfMemory};
+ghost use Rattle.std.specs.Prelude.{◌≡◌, ◌<◌, ◌≤◌, length, slice_index, IfOk, IfSome, IfNone};
 ghost use Rattle.sqz_paths.specs.Paths.{IsPathBack, IsShortestPath, IsUnreachable};
 ghost use Rattle.sqz_dominators.specs.Searching.{IsSearching};
 
 use crate::slots_between::slot_between;
 use sqz_dominators::Search;
-use sqz_image::{Fault, Heap, Slot};
+use sqz_image::Slot;
 use sqz_object::ObjectIndex;
-use sqz_trace::{OutEdges, Weak};
+use sqz_trace::ObjectGraph;
 use std::alloc::{AllocError, Global};
 
 /// A step of a path: from the object before, along one of its strong slots, to the object that the
@@ -38,16 +36,15 @@ pub struct Path {
 /// words of the heap, and eight bytes per object. Fails only if out of memory.
 pub fn path_to(
     alloc: Global,
-    heap: &Heap,
-    weak: Weak,
+    graph: ObjectGraph<'_>,
     object: ObjectIndex,
-) -> Result<Option<Path>, Fault>
-    ensures path { IfOk result (λ found.
-        IfSome found (λ path. IsShortestPath heap.now weak object path.steps.items)) }
-    ensures none { IfOk result (λ found. IfNone found (IsUnreachable heap.now weak object)) }
-    ensures refused { IfErr result (λ fault. fault ≡ OutOfMemory) }
+) -> Result<Option<Path>, AllocError>
+    ensures path { IfOk result (λ found. IfSome found (λ path.
+        IsShortestPath graph.entry.heap.now graph.entry.weak object path.steps.items)) }
+    ensures none { IfOk result (λ found. IfNone found
+        (IsUnreachable graph.entry.heap.now graph.entry.weak object)) }
 {
-    let mut search = Search::new(alloc, heap, weak)?;
+    let mut search = Search::new(alloc, graph)?;
     let mut place = 0;
     while place < search.found.len() {
         if search.found[place] == object {
@@ -66,15 +63,15 @@ fn path_back(alloc: Global, search: &Search<'_>, place: usize) -> Result<Path, A
     requires searching { IsSearching search.now place }
     requires inside { place < length search.now.found.items }
     ensures { IfOk result (λ path.
-        IsPathBack search.now.heap.now search.now.weak search.now.found.items search.now.from.items
-        place path.steps.items) }
+        IsPathBack search.now.graph.heap.now search.now.graph.weak search.now.found.items
+        search.now.from.items place path.steps.items) }
 {
     let mut steps = Vec::new(alloc);
     let mut next = place;
     while next > 0 {
         let object = search.found[next];
         next = search.from[object as usize] as usize;
-        let edges = OutEdges::of(search.heap, search.weak, search.found[next]);
+        let edges = search.graph.edges(search.found[next]);
         match slot_between(&edges, object) {
             Some(slot) => steps.push(Step { slot, object })?,
             None => unreachable!(),

@@ -7,11 +7,11 @@ use Rattle.sqz_paths.specs.declared.path.Step.{Step}
 use Rattle.sqz_paths.specs.Paths.{IsFirstSlotTo, LeadsBySlots}
 use Rattle.sqz_paths.proofs.PathLemmas.{IsReadBack, found-is, found-inside, before-earlier, before-edge, before-deep, before-is}
 use Rattle.sqz_paths.proofs.path.path_back.Goals as goal
-use Rattle.sqz_paths.proofs.path.path_back.Goals.{After-of-arg-1}
+use Rattle.sqz_paths.proofs.path.path_back.Goals.{After-edges-arg-1}
 
 -- what was read of the object at the place, and of the one before
-read : (c : After-of-arg-1)
-    → IsReadBack c.args.search.now.heap.now c.args.search.now.weak c.args.search.now.found.items c.args.search.now.from.items c.args.place
+read : (c : After-edges-arg-1)
+    → IsReadBack c.args.search.now.graph.heap.now c.args.search.now.graph.weak c.args.search.now.found.items c.args.search.now.from.items c.args.place
     c.loop-next.next c.index-object.result.now c.index.result.now
 read c =
     record {
@@ -26,7 +26,7 @@ pub index-requires : goal.index-requires
 index-requires c =
     omega (
       arith,
-      found-inside c.args.search.now.heap.now c.args.search.now.weak _ _ c.args.place c.requires.searching c.loop-next.next c.loop-next.invariant.inside
+      found-inside c.args.search.now.graph.heap.now c.args.search.now.graph.weak _ _ c.args.place c.requires.searching c.loop-next.next c.loop-next.invariant.inside
           c.index-object.result.now c.index-object.ensures,
       c.args.search.now.from.ok.0,
     )
@@ -35,33 +35,33 @@ pub index-requires-in-loop-next : goal.index-requires-in-loop-next
 index-requires-in-loop-next c =
     omega (arith, before-earlier _ _ _ _ _ _ _ _ (read c), c.loop-next.invariant.inside, c.args.search.now.found.ok.0)
 
-pub of-edges-requires : goal.of-edges-requires
-of-edges-requires c =
-    let read = read (goal.at.of-edges-requires c).After-of-arg-1 in
+pub edges-edges-requires : goal.edges-edges-requires
+edges-edges-requires c =
+    let read = read (goal.at.edges-edges-requires c).After-edges-arg-1 in
     let is = before-is _ _ _ _ _ _ _ _ read c.index-in-loop-next.result.now c.index-in-loop-next.ensures in
     let earlier = before-earlier _ _ _ _ _ _ _ _ read in
     omega (arith, is, c.requires.searching.search.inside c.index.result.now (omega (arith, earlier, c.loop-next.invariant.inside)))
 
 pub loop-next-smaller : goal.loop-next-smaller
-loop-next-smaller c = before-earlier _ _ _ _ _ _ _ _ (read (goal.at.loop-next-smaller c).After-of-arg-1)
+loop-next-smaller c = before-earlier _ _ _ _ _ _ _ _ (read (goal.at.loop-next-smaller c).After-edges-arg-1)
 
 pub loop-next-preserved : goal.loop-next-preserved
 loop-next-preserved c =
-    let read = read (goal.at.loop-next-preserved c).After-of-arg-1 in
+    let read = read (goal.at.loop-next-preserved c).After-edges-arg-1 in
     let so_far = c.loop-next.invariant in
-    let memory = c.args.search.now.heap.now in
+    let memory = c.args.search.now.graph.heap.now in
     let found = c.args.search.now.found.items in
     let object = c.index-object.result.now in
     let step : Step = record { slot = c.in-Some.slot; object = object } in
     let pushed = c.in_ok-push-in-Some.ensures.items in
     let end = slice_index found c.args.place in
     let is =
-    found-is memory c.args.search.now.weak found _ c.args.place c.requires.searching c.loop-next.next so_far.inside object c.index-object.ensures
+    found-is memory c.args.search.now.graph.weak found _ c.args.place c.requires.searching c.loop-next.next so_far.inside object c.index-object.ensures
     in
     let there = before-is _ _ _ _ _ _ _ _ read c.index-in-loop-next.result.now c.index-in-loop-next.ensures in
-    let rest = subst (λ (i : ℕ). LeadsBySlots memory c.args.search.now.weak i (reverse c.loop-next.steps.items) end) (sym is) so_far.leads in
-    let leads = subst (λ (it : OutEdges). IsFirstSlotTo it object c.in-Some.slot) c.of-edges.ensures c.in-Some.ensures.first in
-    let first = subst (λ (i : ℕ). IsFirstSlotTo (out_edges memory c.args.search.now.weak i) object c.in-Some.slot) there leads in
+    let rest = subst (λ (i : ℕ). LeadsBySlots memory c.args.search.now.graph.weak i (reverse c.loop-next.steps.items) end) (sym is) so_far.leads in
+    let leads = subst (λ (it : OutEdges). IsFirstSlotTo it object c.in-Some.slot) c.edges-edges.ensures c.in-Some.ensures.first in
+    let first = subst (λ (i : ℕ). IsFirstSlotTo (out_edges memory c.args.search.now.graph.weak i) object c.in-Some.slot) there leads in
     record {
       inside = omega (arith, before-earlier _ _ _ _ _ _ _ _ read, so_far.inside);
       leads = rw (pushed, reverse-append) (first, rest);
@@ -77,25 +77,25 @@ loop-next-preserved c =
 
 pub unreachable-requires : goal.unreachable-requires
 unreachable-requires c =
-    let read = read (goal.at.unreachable-requires c).After-of-arg-1 in
+    let read = read (goal.at.unreachable-requires c).After-edges-arg-1 in
     let there = before-is _ _ _ _ _ _ _ _ read c.index-in-loop-next.result.now c.index-in-loop-next.ensures in
     let search = c.args.search.now in
     let object = c.index-object.result.now in
-    let edge = subst (λ (i : ℕ). HasEdge search.heap.now search.weak i object) (sym there) (before-edge _ _ _ _ _ _ _ _ read) in
+    let edge = subst (λ (i : ℕ). HasEdge search.graph.heap.now search.graph.weak i object) (sym there) (before-edge _ _ _ _ _ _ _ _ read) in
     c.in-None.ensures.none
-    (IsTargetAmong-edge search.heap.now search.weak c.index-in-loop-next.result.now c.of-edges.result c.of-edges.ensures
-    (strong_slots c.of-edges.result) refl object edge)
+    (IsTargetAmong-edge search.graph.heap.now search.graph.weak c.index-in-loop-next.result.now c.edges-edges.result c.edges-edges.ensures
+    (strong_slots c.edges-edges.result) refl object edge)
 
 pub returns : goal.returns
 returns c =
     let so_far = c.loop-next.invariant in
-    let memory = c.args.search.now.heap.now in
+    let memory = c.args.search.now.graph.heap.now in
     let found = c.args.search.now.found.items in
     let first : c.loop-next.next ≡ 0 = omega (arith, c.loop-next-test.false) in
     let all = c.reverse.ensures.items in
     record {
       leads = rw all
-          (subst (λ (i : ℕ). LeadsBySlots memory c.args.search.now.weak (slice_index found i) (reverse c.loop-next.steps.items)
+          (subst (λ (i : ℕ). LeadsBySlots memory c.args.search.now.graph.weak (slice_index found i) (reverse c.loop-next.steps.items)
           (slice_index found c.args.place)) first so_far.leads);
       deep = λ law.
           let depths = law.search.depths in

@@ -8,9 +8,9 @@ abbrev pub invariant-loop-next : goal.invariant-loop-next
 invariant-loop-next l =
     record {
       inside : l.next < length l.search.found.items;
-      leads : LeadsBySlots l.search.heap.now l.search.weak (slice_index l.search.found.items l.next) (reverse l.steps.items)
+      leads : LeadsBySlots l.search.graph.heap.now l.search.graph.weak (slice_index l.search.found.items l.next) (reverse l.steps.items)
           (slice_index l.search.found.items l.place);
-      deep : (law : IsSearchOf l.search.heap.now l.search.weak l.search.found.items l.search.from.items l.place)
+      deep : (law : IsSearchOf l.search.graph.heap.now l.search.graph.weak l.search.found.items l.search.from.items l.place)
           → slice_index law.search.depths l.next + length l.steps.items ≡ slice_index law.search.depths l.place;
     }
 

@@ -11,31 +11,31 @@ use Rattle.sqz_paths.proofs.path.path_to.Goals as goal
 pub returns-then-index-object-clause-path : goal.returns-then-index-object-clause-path
 returns-then-index-object-clause-path c =
     let so_far = c.loop-place.invariant in
-    let memory = c.args.heap.now in
+    let memory = c.args.graph.heap.now in
     let found = c.loop-place.search.found.items in
     let from = c.loop-place.search.from.items in
     let place = c.loop-place.place in
     let law = so_far.searching in
-    let back = rw (so_far.heap, so_far.weak) at c.in_ok-path.ensures in
+    let back = rw so_far.graph at c.in_ok-path.ensures in
     let steps = c.in_ok-path.path.steps.items in
     let here : place < length found = omega (arith, c.loop-place-test.true, c.len.ensures, c.loop-place.search.found.ok.0) in
     let there : slice_index found place ≡ c.args.object =
     sym (get_or_read found place c.index.result.now here c.index.ensures 0) ∙ c.if-index-object.true
     in
-    let by_slots : LeadsBySlots memory c.args.weak law.start steps c.args.object =
-    subst (LeadsBySlots memory c.args.weak law.start steps) there
-    (subst (λ (i : ℕ). LeadsBySlots memory c.args.weak i steps (slice_index found place)) law.search.start back.leads)
+    let by_slots : LeadsBySlots memory c.args.graph.weak law.start steps c.args.object =
+    subst (LeadsBySlots memory c.args.graph.weak law.start steps) there
+    (subst (λ (i : ℕ). LeadsBySlots memory c.args.graph.weak i steps (slice_index found place)) law.search.start back.leads)
     in
     record {
       start = law.start;
       is_special = law.is_special;
-      leads = Leads-by_slots memory c.args.weak law.start law.start steps c.args.object
+      leads = Leads-by_slots memory c.args.graph.weak law.start law.start steps c.args.object
           (omega (arith, law.search.inside 0 law.search.some, law.search.start)) by_slots;
-      inside = steps-inside memory c.args.weak law.start steps c.args.object by_slots;
+      inside = steps-inside memory c.args.graph.weak law.start steps c.args.object by_slots;
       by_slots = by_slots;
       shortest = λ path leads.
           rw (back.deep law)
-          (no_shorter (graph_from law.start memory c.args.weak) found from place law.search c.args.object so_far.before here path leads);
+          (no_shorter (graph_from law.start memory c.args.graph.weak) found from place law.search c.args.object so_far.before here path leads);
     }
 
 pub loop-place-preserved : goal.loop-place-preserved
@@ -49,9 +49,8 @@ loop-place-preserved c =
     λ same. c.if-index-object.false (get_or_read found place c.index.result.now here c.index.ensures 0 ∙ same)
     in
     record {
-      heap = ap (λ it. it.now) step.same.0 ∙ so_far.heap;
-      weak = step.same.1 ∙ so_far.weak;
-      searching = rw (step.same.0, step.same.1, so_far.heap, so_far.weak) at step.searching;
+      graph = step.same ∙ so_far.graph;
+      searching = rw (step.same, so_far.graph) at step.searching;
       inside = let lt = GoesOn-inside _ found _ _ _ step.goes_on place here in omega arith;
       before = λ p lt same.
           elim (cases_lt p place) [
@@ -73,6 +72,6 @@ returns-clause-none c =
       start = law.start;
       is_special = law.is_special;
       none = λ reached.
-          no_path (graph_from law.start c.args.heap.now c.args.weak) found c.loop-place.search.from.items c.loop-place.place law.search
+          no_path (graph_from law.start c.args.graph.heap.now c.args.graph.weak) found c.loop-place.search.from.items c.loop-place.place law.search
           c.args.object so_far.before end reached.path reached.leads;
     }

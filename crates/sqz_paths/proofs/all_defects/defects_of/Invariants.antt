@@ -1,8 +1,0 @@
-use Rattle.std.proofs.Common.{◌≡◌}
-use Rattle.std.specs.List.{filter_map, range_with_len}
-use Rattle.sqz_trace.specs.Ranges.{defect_at}
-use Rattle.sqz_paths.proofs.all_defects.defects_of.Given as goal
-
-abbrev pub invariant-loop-object : goal.invariant-loop-object
-invariant-loop-object l =
-    l.found.items ≡ filter_map (defect_at l.heap l.weak l.marks) (range_with_len 0 l.object)

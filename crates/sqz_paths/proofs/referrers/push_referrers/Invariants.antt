@@ -1,6 +1,0 @@
-use Rattle.std.proofs.Common.{◌≡◌, ◌++◌}
-use Rattle.sqz_paths.specs.Referrers.{referrers_among}
-use Rattle.sqz_paths.proofs.referrers.push_referrers.Given as goal
-
-abbrev pub invariant-loop-slot : goal.invariant-loop-slot
-invariant-loop-slot l = l.found.items ≡ l.initial.found.items ++ referrers_among l.edges l.from l.to l.yielded
