@@ -1,6 +1,9 @@
 pub mod HeldLemmas
-pub mod DeadLemmas
 pub mod WalkLemmas
 pub mod SumLemmas
 pub mod SiteLemmas
 pub mod OneSiteLemmas
+pub mod RangeLemmas
+pub mod MemberLemmas
+pub mod ReferrerLemmas
+pub mod AllDefectLemmas

@@ -1,8 +1,7 @@
 -- Sums over the chunks of an object memory.
 -- Serves `sums::chunk_sums` and `files::file_facts`.
-use Rattle.std.proofs.Common.{◌≡◌, ℕ, ◌+◌, ◌<◌, ◌≤◌, Bool, true, false, not, cond, List, [], ◌∷◌, ◌++◌, length, map, drop}
+use Rattle.std.proofs.Common.{◌≡◌, ℕ, ◌+◌, ◌<◌, ◌≤◌, Bool, true, false, not, List, [], ◌∷◌, ◌++◌, length, map, drop}
 use Rattle.std.proofs.Common.{refl, sym, ap, ◌∙◌, arith, inl, inr}
-use Rattle.std.specs.Prelude.{count_by}
 use Rattle.std.specs.List.{concat, AllByRecursion}
 use Rattle.std.proofs.lemmas.Bool.{cases_Bool}
 use Rattle.std.proofs.lemmas.List.{length-append, append-nil}
@@ -18,8 +17,9 @@ use Rattle.sqz_image.specs.Objects.{Object, objects_of, moved_on, words_in}
 use Rattle.sqz_image.proofs.IndexLemmas.{objects_of-push, objects_of-push_free}
 use Rattle.sqz_trace.specs.Graph.{is_marked}
 use Rattle.sqz_trace.specs.Live.{marked}
+use Rattle.sqz_trace.proofs.LiveWordLemmas.{size, words_in-moved_on}
 use Rattle.sqz_facts.specs.declared.sums.ChunkSums.{ChunkSums}
-use Rattle.sqz_facts.specs.Dead.{unmarked}
+use Rattle.sqz_trace.specs.Dead.{unmarked}
 use Rattle.sqz_facts.specs.FreeChunks.{free_among}
 use Rattle.sqz_facts.specs.Sums.{sums_of}
 use Rattle.sqz_facts.proofs.WalkLemmas.{IsWalked, IsAtChunk, IsWalked-none, at_end, here, header_is, header_length}
@@ -71,21 +71,7 @@ module _ {X : Type 0} where
   unmarked-push (true ∷ marks) (y ∷ xs) x is = unmarked-push marks xs x is
   unmarked-push (false ∷ marks) (y ∷ xs) x is = ap (λ ys. y ∷ ys) (unmarked-push marks xs x is)
 
--- if there is a mark for each element, there are as many marked ones as marks that are set
-pub length-marked : {X : Type 0} (marks : List Bool) (xs : List X) → length marks ≡ length xs
-    → length (marked marks xs) ≡ count_by (λ mark. mark) marks
-length-marked [] [] same = refl
-length-marked [] (x ∷ xs) same = absurd (omega arith)
-length-marked (mark ∷ marks) [] same = absurd (omega arith)
-length-marked (true ∷ marks) (x ∷ xs) same =
-    omega (arith, length-marked marks xs (omega arith), sum_by-cons (λ mark. cond mark 1 0) true marks)
-length-marked (false ∷ marks) (x ∷ xs) same =
-    omega (arith, length-marked marks xs (omega arith), sum_by-cons (λ mark. cond mark 1 0) false marks)
-
 -- ---- words
-
-abbrev size : Object → ℕ
-size object = length object.chunk
 
 -- marked objects and the others make all objects
 words_in-marked : (marks : List Bool) (xs : List Object) → words_in (marked marks xs) + words_in (unmarked marks xs) ≡ words_in xs
@@ -96,11 +82,6 @@ words_in-marked (true ∷ marks) (x ∷ xs) =
     omega (arith, words_in-marked marks xs, sum_by-cons size x (marked marks xs), sum_by-cons size x xs)
 words_in-marked (false ∷ marks) (x ∷ xs) =
     omega (arith, words_in-marked marks xs, sum_by-cons size x (unmarked marks xs), sum_by-cons size x xs)
-
-words_in-moved : (count : ℕ) (xs : List Object) → words_in (map (moved_on count) xs) ≡ words_in xs
-words_in-moved count [] = refl
-words_in-moved count (x ∷ xs) =
-    omega (arith, sum_by-cons size (moved_on count x) (map (moved_on count) xs), sum_by-cons size x xs, words_in-moved count xs)
 
 -- objects and free chunks make all chunks
 words_in-chunks : (chunks : List (List ℕ))
@@ -113,7 +94,7 @@ words_in-chunks (chunk ∷ chunks) =
           (omega (
             arith,
             sum_by-cons size (record { first = 0; chunk = chunk }) (map (moved_on (length chunk)) (objects_of chunks)),
-            words_in-moved (length chunk) (objects_of chunks),
+            words_in-moved_on (length chunk) (objects_of chunks),
             words_in-chunks chunks,
             length-append chunk (concat chunks),
           ))
@@ -121,7 +102,7 @@ words_in-chunks (chunk ∷ chunks) =
           rw free
           (omega (
             arith,
-            words_in-moved (length chunk) (objects_of chunks),
+            words_in-moved_on (length chunk) (objects_of chunks),
             words_in-chunks chunks,
             length-append chunk (concat chunks),
             length-append chunk (concat (free_among chunks)),

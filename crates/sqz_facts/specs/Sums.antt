@@ -4,7 +4,7 @@ use Rattle.std.specs.List.{concat}
 use Rattle.sqz_image.specs.Objects.{objects_of, words_in}
 use Rattle.sqz_trace.specs.Live.{marked}
 use Rattle.sqz_facts.specs.declared.sums.ChunkSums.{ChunkSums}
-use Rattle.sqz_facts.specs.Dead.{unmarked}
+use Rattle.sqz_trace.specs.Dead.{unmarked}
 use Rattle.sqz_facts.specs.FreeChunks.{free_among}
 
 -- the sums over some chunks

@@ -4,7 +4,7 @@ ghost use Rattle.std.specs.Prelude.{◌≡◌, ◌+◌, ◌*◌, length};
 ghost use Rattle.std.specs.List.{concat};
 ghost use Rattle.sqz_image.specs.Objects.{object_count};
 ghost use Rattle.sqz_trace.specs.Live.{live};
-ghost use Rattle.sqz_facts.specs.Dead.{dead, bytes_in};
+ghost use Rattle.sqz_trace.specs.Dead.{dead, bytes_in};
 ghost use Rattle.sqz_facts.specs.FreeChunks.{free_chunks, free_bytes};
 
 use crate::sums::chunk_sums;

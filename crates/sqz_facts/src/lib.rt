@@ -1,20 +1,24 @@
 //! Facts about an image as data: what its file holds, what an object and a slot hold, what lies at
-//! an address, and the first fault of the image.
+//! an address, the live objects of a class, the references to an object, and all defects.
 #![tactic(auto)]
 
-mod complements;
-mod faults;
+mod all_defects;
 mod files;
+mod groups;
 pub mod laws;
+mod members;
 mod objects;
 mod placed;
+mod referrers;
 mod sites;
 mod slots;
 mod sums;
 
-pub use complements::complement;
-pub use faults::first_fault;
+pub use all_defects::defects_of;
 pub use files::{FileFacts, file_facts};
+pub use members::{Member, members_of};
 pub use objects::{ObjectFacts, object_facts};
+pub use referrers::{Referrer, referrers_of};
 pub use sites::{Site, site_of};
 pub use slots::{Held, SlotFacts, slot_facts};
+pub use sums::marked_bytes;

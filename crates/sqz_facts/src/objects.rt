@@ -6,9 +6,8 @@ ghost use Rattle.sqz_object.specs.Chunk.{before, base_word, format, compact_inde
 ghost use Rattle.sqz_image.specs.Objects.{object_count, address_of, chunk_words};
 ghost use Rattle.sqz_trace.specs.Strong.{class_of};
 
-use sqz_image::Heap;
 use sqz_object::{Address, ObjectIndex, base_of};
-use sqz_trace::{Weak, class_of};
+use sqz_trace::{ObjectGraph, class_of};
 
 /// An object's address, class and size, and the bit fields of its header.
 #[derive(Clone, Copy, Debug, PartialEq, Eq)]
@@ -32,25 +31,30 @@ pub struct ObjectFacts {
 }
 
 /// Returns an object's address, class and size, and the bit fields of its header.
-pub fn object_facts(heap: &Heap, weak: Weak, object: ObjectIndex) -> ObjectFacts
-    requires { object < object_count heap.now }
-    ensures address { result.address ≡ address_of heap.now object }
-    ensures class { result.class ≡ class_of heap.now weak (chunk_words heap.now object) }
-    ensures inside { IfSome result.class (λ class. class < object_count heap.now) }
-    ensures bytes { result.bytes ≡ 4 * length (chunk_words heap.now object) }
-    ensures header { result.header_words ≡ before (chunk_words heap.now object) + 1 }
-    ensures format { result.format ≡ format (chunk_words heap.now object) }
-    ensures hash { result.hash ≡ (base_of (base_word (chunk_words heap.now object))).hash }
-    ensures compact { result.compact_index ≡ compact_index (chunk_words heap.now object) }
-    ensures fields { result.fields ≡ length (fields (chunk_words heap.now object)) }
+pub fn object_facts(graph: ObjectGraph<'_>, object: ObjectIndex) -> ObjectFacts
+    requires { object < object_count graph.heap.now }
+    ensures address { result.address ≡ address_of graph.entry.heap.now object }
+    ensures class { let chunk = chunk_words graph.entry.heap.now object in
+        result.class ≡ class_of graph.entry.heap.now graph.entry.weak chunk }
+    ensures inside { IfSome result.class (λ class. class < object_count graph.entry.heap.now) }
+    ensures bytes { result.bytes ≡ 4 * length (chunk_words graph.entry.heap.now object) }
+    ensures header { result.header_words ≡ before (chunk_words graph.entry.heap.now object) + 1 }
+    ensures format { result.format ≡ format (chunk_words graph.entry.heap.now object) }
+    ensures hash { let word = base_word (chunk_words graph.entry.heap.now object) in
+        result.hash ≡ (base_of word).hash }
+    ensures compact { let chunk = chunk_words graph.entry.heap.now object in
+        result.compact_index ≡ compact_index chunk }
+    ensures fields { let chunk = chunk_words graph.entry.heap.now object in
+        result.fields ≡ length (fields chunk) }
     ensures whole { result.bytes ≡ 4 * (result.header_words + result.fields) }
 {
+    let heap = graph.heap;
     let chunk = heap.object(object);
     let header = chunk.header();
     let base = base_of(header.base);
     ObjectFacts {
         address: heap.address(object),
-        class: class_of(heap, weak, &chunk),
+        class: class_of(heap, graph.weak, &chunk),
         bytes: 4 * u64::from(header.length),
         header_words: header.before + 1,
         format: base.format,

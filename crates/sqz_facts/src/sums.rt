@@ -1,6 +1,8 @@
 //! How many words the chunks of a heap have, by what the chunks are.
 
 ghost use Rattle.std.specs.Prelude.{◌≡◌};
+ghost use Rattle.sqz_trace.specs.Dead.{bytes_in};
+ghost use Rattle.sqz_trace.specs.Live.{live};
 ghost use Rattle.sqz_facts.specs.Sums.{sums_of};
 
 use sqz_image::Heap;
@@ -52,4 +54,12 @@ pub(crate) fn chunk_sums(heap: &Heap, marks: &Marks) -> ChunkSums
         at += chunk.length as usize;
     }
     sums
+}
+
+/// Returns the number of bytes of the chunks of the marked objects, header words included. It reads
+/// the header of each chunk once, and allocates no memory.
+pub fn marked_bytes(heap: &Heap, marks: &Marks) -> u64
+    ensures { result ≡ bytes_in (live heap.now marks.now) }
+{
+    4 * u64::from(chunk_sums(heap, marks).live_words)
 }

@@ -1,8 +1,9 @@
 use Rattle.std.proofs.Common.{sym, ap, ◌∙◌, arith}
-use Rattle.sqz_image.specs.Objects.{Memory, objects}
+use Rattle.sqz_image.specs.Objects.{Memory}
 use Rattle.sqz_image.proofs.FoundLemmas.{address-find}
+use Rattle.sqz_trace.proofs.LiveWordLemmas.{length-live}
 use Rattle.sqz_facts.specs.declared.sums.ChunkSums.{ChunkSums}
-use Rattle.sqz_facts.proofs.SumLemmas.{length-marked, sums_of-whole}
+use Rattle.sqz_facts.proofs.SumLemmas.{sums_of-whole}
 use Rattle.sqz_facts.proofs.files.file_facts.Goals as goal
 
 pub returns-clause-special : goal.returns-clause-special
@@ -14,7 +15,7 @@ returns-clause-special c =
 
 pub returns-clause-live_objects : goal.returns-clause-live_objects
 returns-clause-live_objects c =
-    c.count.ensures ∙ sym (length-marked c.args.marks.now (objects c.args.image.now.memory) c.requires)
+    c.count.ensures ∙ sym (length-live c.args.image.now.memory c.args.marks.now c.requires)
 
 pub returns-clause-whole : goal.returns-clause-whole
 returns-clause-whole c =
