@@ -1,27 +1,22 @@
 //! The classes whose live instances differ in number or size.
 
-ghost use Rattle.std.specs.Prelude.{IfErr, ◌≡◌};
-ghost use Rattle.sqz_image.specs.declared.fault.Fault.TheVariants.{OutOfMemory};
-
 use crate::change::{Change, changes_of};
 use crate::size::{NOTHING, Size};
-use sqz_census::{Group, histogram};
-use sqz_image::Fault;
-use sqz_inspect::Inspector;
+use sqz_answers::live_histogram;
+use sqz_histogram::Group;
+use sqz_look::Inspector;
 use std::alloc::AllocError;
 use std::cmp::Reverse;
 use std::collections::BTreeMap;
 use std::thread::Threads;
 
 /// Returns the classes whose live instances differ in number or size, those whose bytes changed
-/// most first. Fails only if out of memory.
+/// most first.
 pub(crate) fn class_changes(
     rt: &(impl Threads + Sync),
     old: &Inspector<'_>,
     new: &Inspector<'_>,
-) -> Result<Vec<Change<Size>>, Fault>
-    ensures refused { IfErr result (λ fault. fault ≡ OutOfMemory) }
-{
+) -> Result<Vec<Change<Size>>, AllocError> {
     let (old_sizes, new_sizes) = (sizes_of(rt, old)?, sizes_of(rt, new)?);
     let mut changes = changes_of(old.alloc, old_sizes, new_sizes)?;
     changes.retain(|change: &Change<Size>| -> bool { change.old != change.new });
@@ -36,13 +31,10 @@ pub(crate) fn class_changes(
 fn sizes_of(
     rt: &(impl Threads + Sync),
     inspector: &Inspector<'_>,
-) -> Result<BTreeMap<String, Size>, Fault>
-    ensures { IfErr result (λ fault. fault ≡ OutOfMemory) }
-{
-    let (heap, weak) = (inspector.heap, inspector.weak);
-    let totals = histogram(rt, inspector.alloc, heap, weak, &inspector.marks)?;
+) -> Result<BTreeMap<String, Size>, AllocError> {
+    let histogram = live_histogram(rt, inspector.alloc, &inspector.live)?;
     let mut sizes = BTreeMap::new(inspector.alloc);
-    for total in &totals {
+    for total in &histogram.totals {
         let name = name_of(inspector, total.group)?;
         let size = sizes.entry(name)?.or_insert(NOTHING);
         size.objects = size.objects.saturating_add(u64::from(total.count));

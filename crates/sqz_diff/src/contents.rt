@@ -4,7 +4,7 @@ use crate::bytecodes::MethodParts;
 use crate::literals::Literal;
 use crate::numbers::Numbers;
 use sqz_image::Heap;
-use sqz_inspect::Inspector;
+use sqz_look::Inspector;
 use sqz_object::{ObjectIndex, Value, value_of};
 use std::alloc::AllocError;
 use std::collections::BTreeMap;
@@ -42,7 +42,8 @@ impl<'a> Contents<'a> {
         if let Some(number) = self.methods.get(&method) {
             return Ok(*number);
         }
-        let (alloc, heap) = (self.inspector.alloc, self.inspector.heap);
+        let inspector = self.inspector;
+        let (alloc, heap) = (inspector.alloc, inspector.live.graph.heap);
         let mut description = Vec::new(alloc);
         if method < heap.len() {
             let parts = MethodParts::of(alloc, heap.order(), &heap.object(method))?;
@@ -77,16 +78,17 @@ impl<'a> Contents<'a> {
         if let Some(number) = self.known.get(&(object, depth)) {
             return Ok(*number);
         }
-        let mut literal = Literal::of(self.inspector, object)?;
+        let inspector = self.inspector;
+        let mut literal = Literal::of(inspector, object)?;
         if depth == 0 {
             literal = literal.without_elements();
         }
-        let mut description = literal.description(self.inspector.alloc)?;
+        let mut description = literal.description(inspector.alloc)?;
         if let Literal::Array { elements, .. } = &literal
             && depth > 0
         {
             for element in elements.iter() {
-                match object_in(self.inspector.heap, element) {
+                match object_in(inspector.live.graph.heap, element) {
                     Some(object) => {
                         let number = self.number_of(numbers, object, depth - 1)?;
                         push_number(&mut description, number)?;

@@ -1,16 +1,13 @@
 //! What differs between two images.
 
-ghost use Rattle.std.specs.Prelude.{IfErr, ◌≡◌};
-ghost use Rattle.sqz_image.specs.declared.fault.Fault.TheVariants.{OutOfMemory};
-
 use crate::change::Change;
 use crate::classes::class_changes;
 use crate::methods::{MethodChanges, method_changes};
 use crate::size::Size;
 use crate::variables::{Held, variable_changes};
-use sqz_facts::file_facts;
-use sqz_image::Fault;
-use sqz_inspect::Inspector;
+use sqz_facts::marked_bytes;
+use sqz_look::Inspector;
+use std::alloc::AllocError;
 use std::thread::Threads;
 
 /// What differs between two images.
@@ -26,14 +23,12 @@ pub(crate) struct Differences {
 }
 
 impl Differences {
-    /// Returns what differs between two images. Fails only if out of memory.
+    /// Returns what differs between two images.
     pub(crate) fn between(
         rt: &(impl Threads + Sync),
         old: &Inspector<'_>,
         new: &Inspector<'_>,
-    ) -> Result<Self, Fault>
-        ensures refused { IfErr result (λ fault. fault ≡ OutOfMemory) }
-    {
+    ) -> Result<Self, AllocError> {
         Ok(Differences {
             old: size_of(old),
             new: size_of(new),
@@ -54,9 +49,9 @@ impl Differences {
 
 /// Returns the number of the live objects of an image, and their bytes.
 fn size_of(inspector: &Inspector<'_>) -> Size {
-    let facts = file_facts(inspector.image, &inspector.marks);
+    let live = &inspector.live;
     Size {
-        objects: u64::from(facts.live_objects),
-        bytes: facts.live_bytes,
+        objects: u64::from(live.marks.count()),
+        bytes: marked_bytes(live.graph.heap, &live.marks),
     }
 }

@@ -1,14 +1,11 @@
 //! Differences as JSON.
 
-ghost use Rattle.std.specs.Prelude.{IfErr};
-ghost use Rattle.sqz_inspect.specs.Failures.{IsPrintFault};
-
 use crate::differences::Differences;
 use crate::methods::MethodChanges;
 use crate::size::Size;
 use serde::Serialize;
-use sqz_image::{Fault, Sink};
-use sqz_inspect::Out;
+use sqz_image::Sink;
+use sqz_look::{Out, PrintError};
 use std::alloc::Global;
 
 /// The sizes of the live objects or of those of a class as JSON. The live objects have no name.
@@ -29,14 +26,12 @@ struct BytesRow<'a> {
     new: Option<u64>,
 }
 
-/// Prints differences as lines of JSON. Fails only with `WriteFailed` or `OutOfMemory`.
+/// Prints differences as lines of JSON.
 pub(crate) fn print_json<C: Sink>(
     alloc: Global,
     differences: &Differences,
     out: &mut Out<'_, C>,
-) -> Result<(), Fault>
-    ensures refused { IfErr result IsPrintFault }
-{
+) -> Result<(), PrintError> {
     out.json(&SizeRow {
         kind: "total",
         name: None,
@@ -67,9 +62,7 @@ fn print_methods<C: Sink>(
     alloc: Global,
     methods: &MethodChanges,
     out: &mut Out<'_, C>,
-) -> Result<(), Fault>
-    ensures { IfErr result IsPrintFault }
-{
+) -> Result<(), PrintError> {
     for change in &methods.changes {
         let name = methods.name(alloc, *change)?;
         out.json(&BytesRow {

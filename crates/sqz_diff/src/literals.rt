@@ -1,7 +1,8 @@
 //! What the literals of methods are compared by.
 
-use sqz_inspect::Inspector;
-use sqz_names::{Role, all_bytes};
+use sqz_histogram::first_bytes;
+use sqz_look::Inspector;
+use sqz_names::Role;
 use sqz_object::{Layout, ObjectIndex, Words, base_of};
 use std::alloc::{AllocError, Global};
 
@@ -36,11 +37,13 @@ impl<'a> Literal<'a> {
     /// Returns what an object without a name is compared by.
     fn of_object(inspector: &'a Inspector<'a>, object: ObjectIndex) -> Result<Self, AllocError> {
         let class = inspector.names.name_of_class_of(object)?;
-        if object >= inspector.heap.len() {
+        if object >= inspector.live.graph.heap.len() {
             return Ok(Literal::Other { class });
         }
-        let chunk = inspector.heap.object(object);
-        if let Some(bytes) = all_bytes(inspector.alloc, inspector.heap.order(), &chunk)? {
+        let heap = inspector.live.graph.heap;
+        let chunk = heap.object(object);
+        let bytes = first_bytes(inspector.alloc, heap.order(), &chunk, usize::MAX)?;
+        if let Some(bytes) = bytes {
             return Ok(Literal::Bytes { class, bytes });
         }
         let fields = chunk.fields();

@@ -1,8 +1,9 @@
 //! The names of methods.
 
 use crate::numbers::{Numbers, Order};
-use sqz_inspect::Inspector;
-use sqz_names::{MethodName, all_bytes, escaped};
+use sqz_histogram::first_bytes;
+use sqz_look::Inspector;
+use sqz_names::{MethodName, escaped};
 use sqz_object::ObjectIndex;
 use std::alloc::{AllocError, Global};
 use std::collections::BTreeMap;
@@ -136,9 +137,10 @@ impl<'a> ImageNames<'a> {
         if let Some(number) = self.selectors.get(&selector) {
             return Ok(*number);
         }
-        let (alloc, heap) = (self.inspector.alloc, self.inspector.heap);
+        let inspector = self.inspector;
+        let (alloc, heap) = (inspector.alloc, inspector.live.graph.heap);
         let bytes = if selector < heap.len() {
-            all_bytes(alloc, heap.order(), &heap.object(selector))?
+            first_bytes(alloc, heap.order(), &heap.object(selector), usize::MAX)?
         } else {
             None
         };

@@ -3,7 +3,7 @@
 use crate::contents::Contents;
 use crate::method_names::{ImageNames, MethodKey, NameParts, OrderedNames};
 use crate::numbers::Numbers;
-use sqz_inspect::Inspector;
+use sqz_look::Inspector;
 use sqz_names::MethodName;
 use sqz_object::ObjectIndex;
 use std::alloc::{AllocError, Global};
@@ -125,8 +125,8 @@ fn methods_in(
     numbers: &mut Numbers,
     parts: &mut NameParts,
 ) -> Result<Vec<NamedMethod>, AllocError> {
-    let mut names = inspector.names.methods_of_marked(&inspector.marks)?;
-    names.retain(|name: &MethodName| -> bool { inspector.marks.has(name.method) });
+    let mut names = inspector.names.methods_of_marked(&inspector.live.marks)?;
+    names.retain(|name: &MethodName| -> bool { inspector.live.marks.has(name.method) });
     names.sort_unstable_by_key(|name: &MethodName| -> (ObjectIndex, ObjectIndex, ObjectIndex) {
         (name.class, name.method, name.selector)
     });

@@ -1,25 +1,20 @@
 //! Differences as text for a person.
 
-ghost use Rattle.std.specs.Prelude.{IfErr};
-ghost use Rattle.sqz_inspect.specs.Failures.{IsPrintFault};
-
 use crate::change::Change;
 use crate::differences::Differences;
 use crate::methods::{MethodChange, MethodChanges};
 use crate::size::{NOTHING, Size};
 use crate::variables::{Held, bytes_of};
-use sqz_image::{Fault, Sink};
-use sqz_inspect::Out;
+use sqz_image::Sink;
+use sqz_look::{Out, PrintError};
 use std::alloc::{AllocError, Global};
 
-/// Prints differences as text. Fails only with `WriteFailed` or `OutOfMemory`.
+/// Prints differences as text.
 pub(crate) fn print_text<C: Sink>(
     alloc: Global,
     differences: &Differences,
     out: &mut Out<'_, C>,
-) -> Result<(), Fault>
-    ensures refused { IfErr result IsPrintFault }
-{
+) -> Result<(), PrintError> {
     let total = total_line(alloc, differences.old, differences.new)?;
     out.line(total.as_str())?;
     print_classes(alloc, &differences.classes, out)?;
@@ -41,9 +36,7 @@ fn print_classes<C: Sink>(
     alloc: Global,
     changes: &[Change<Size>],
     out: &mut Out<'_, C>,
-) -> Result<(), Fault>
-    ensures { IfErr result IsPrintFault }
-{
+) -> Result<(), PrintError> {
     let count = changes.len();
     let head = format!(in alloc; "classes   {count} changed")?;
     out.line(head.as_str())?;
@@ -69,9 +62,7 @@ fn print_variables<C: Sink>(
     alloc: Global,
     changes: &[Change<Held>],
     out: &mut Out<'_, C>,
-) -> Result<(), Fault>
-    ensures { IfErr result IsPrintFault }
-{
+) -> Result<(), PrintError> {
     let count = changes.len();
     let head = format!(in alloc; "retained  {count} changed")?;
     out.line(head.as_str())?;
@@ -106,9 +97,7 @@ fn print_methods<C: Sink>(
     alloc: Global,
     methods: &MethodChanges,
     out: &mut Out<'_, C>,
-) -> Result<(), Fault>
-    ensures { IfErr result IsPrintFault }
-{
+) -> Result<(), PrintError> {
     let head = methods_line(alloc, methods)?;
     out.line(head.as_str())?;
     let count = methods.changes.len();

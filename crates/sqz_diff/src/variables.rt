@@ -1,12 +1,8 @@
 //! The variables that retain more or less.
 
-ghost use Rattle.std.specs.Prelude.{IfErr, ◌≡◌};
-ghost use Rattle.sqz_image.specs.declared.fault.Fault.TheVariants.{OutOfMemory};
-
 use crate::change::{Change, changes_of};
 use sqz_dominators::dominators_of;
-use sqz_image::Fault;
-use sqz_inspect::Inspector;
+use sqz_look::Inspector;
 use sqz_names::{Role, Variable};
 use std::alloc::AllocError;
 use std::cmp::Reverse;
@@ -28,13 +24,10 @@ const NOTHING: Held = Held {
 };
 
 /// Returns the variables that came, went, or retain more or less, those that changed most first.
-/// Fails only if out of memory.
 pub(crate) fn variable_changes(
     old: &Inspector<'_>,
     new: &Inspector<'_>,
-) -> Result<Vec<Change<Held>>, Fault>
-    ensures refused { IfErr result (λ fault. fault ≡ OutOfMemory) }
-{
+) -> Result<Vec<Change<Held>>, AllocError> {
     let (old_held, new_held) = (held_in(old)?, held_in(new)?);
     let mut changes = changes_of(old.alloc, old_held, new_held)?;
     changes.retain(|change: &Change<Held>| -> bool {
@@ -48,15 +41,13 @@ pub(crate) fn variable_changes(
 
 /// Returns what the variables of an image hold, by their names. Variables with one name are added
 /// up.
-fn held_in(inspector: &Inspector<'_>) -> Result<BTreeMap<String, Held>, Fault>
-    ensures { IfErr result (λ fault. fault ≡ OutOfMemory) }
-{
-    let dominators = dominators_of(inspector.alloc, inspector.heap, inspector.weak)?;
+fn held_in(inspector: &Inspector<'_>) -> Result<BTreeMap<String, Held>, AllocError> {
+    let dominators = dominators_of(inspector.alloc, inspector.live.graph)?;
     let mut all = BTreeMap::new(inspector.alloc);
     let mut last = None;
     for name in inspector.names.variables() {
         let association = name.association;
-        if last == Some(association) || !inspector.marks.has(association) {
+        if last == Some(association) || !inspector.live.marks.has(association) {
             continue;
         }
         last = Some(association);

@@ -4,23 +4,8 @@ ghost use Rattle.std.specs.Prelude.{◌<◌, IfSome};
 ghost use Rattle.sqz_image.specs.Objects.{object_count};
 
 use sqz_image::{Heap, Slot};
-use sqz_object::{BitField, ObjectIndex};
-use sqz_trace::target;
-
-/// The field of a class that states the shape of its instances.
-const SHAPE: usize = 2;
-
-/// The bits of that word with the lower six bits of one more than the number of fixed fields.
-const LOWER_BITS: BitField = BitField {
-    lowest: 2,
-    width: 6,
-};
-
-/// The bits of that word with the two bits above these.
-const HIGHER_BITS: BitField = BitField {
-    lowest: 17,
-    width: 2,
-};
+use sqz_object::ObjectIndex;
+use sqz_trace::{fixed_by, target};
 
 /// Returns the object that a traced field of an object points to. None also if there is no such
 /// object.
@@ -39,10 +24,5 @@ pub fn fixed_fields(heap: &Heap, class: ObjectIndex) -> Option<u32> {
     if class >= heap.len() {
         return None;
     }
-    let shape = heap.object(class).fields().get(SHAPE)?;
-    if shape % 2 != 1 {
-        return None;
-    }
-    let stated = HIGHER_BITS.get(shape) * 64 + LOWER_BITS.get(shape);
-    stated.checked_sub(1)
+    fixed_by(heap, Some(class))
 }

@@ -23,7 +23,7 @@ impl Names<'_> {
         &self,
         class: ObjectIndex,
     ) -> Result<Option<Vec<ObjectIndex>>, AllocError> {
-        let Some(fixed) = fixed_fields(self.heap, class) else {
+        let Some(fixed) = fixed_fields(self.graph.heap, class) else {
             return Ok(None);
         };
         let Some(arrays) = self.name_arrays(class, fixed)? else {
@@ -52,14 +52,14 @@ impl Names<'_> {
             let Some(class) = next else {
                 break;
             };
-            if let Some(array) = field_target(self.heap, class, VARIABLES) {
-                count = count.saturating_add(self.heap.fields(array));
+            if let Some(array) = field_target(self.graph.heap, class, VARIABLES) {
+                count = count.saturating_add(self.graph.heap.fields(array));
                 arrays.push(array)?;
             }
             if count > most {
                 return Ok(None);
             }
-            next = field_target(self.heap, class, SUPERCLASS);
+            next = field_target(self.graph.heap, class, SUPERCLASS);
         }
         Ok(Some(arrays))
     }
@@ -70,12 +70,12 @@ impl Names<'_> {
         array: ObjectIndex,
         names: &mut Vec<ObjectIndex>,
     ) -> Result<bool, AllocError> {
-        if array >= self.heap.len() {
+        if array >= self.graph.heap.len() {
             return Ok(false);
         }
-        for field in 0..self.heap.fields(array) {
-            match field_target(self.heap, array, field) {
-                Some(name) if has_bytes(&self.heap.object(name)) => names.push(name)?,
+        for field in 0..self.graph.heap.fields(array) {
+            match field_target(self.graph.heap, array, field) {
+                Some(name) if has_bytes(&self.graph.heap.object(name)) => names.push(name)?,
                 _ => return Ok(false),
             }
         }

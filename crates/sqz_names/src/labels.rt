@@ -1,11 +1,12 @@
 //! The label of an object.
 
-use crate::bytes::{first_bytes, has_bytes};
+use crate::bytes::has_bytes;
 use crate::escape::push_escaped;
 use crate::fields::field_target;
 use crate::names::Names;
 use crate::role::Role;
 use crate::variables::GLOBALS;
+use sqz_histogram::{first_bytes, known_class_name};
 use sqz_object::{ObjectIndex, base_of};
 use std::alloc::AllocError;
 
@@ -27,7 +28,7 @@ const KNOWN: [(u32, &str, &str); 4] = [
 impl Names<'_> {
     /// Returns what an object is to a Smalltalker.
     pub fn role(&self, object: ObjectIndex) -> Result<Role, AllocError> {
-        if object == self.heap.special() {
+        if object == self.graph.heap.special() {
             return Ok(Role::SpecialObjects);
         }
         if let Some(known) = self.known(object)? {
@@ -78,14 +79,14 @@ impl Names<'_> {
     /// Returns the label of an object for a text that also has its address: its name if it has
     /// one, else the name of its class, with the number of its fields if all of them are indexed.
     pub fn short_label(&self, object: ObjectIndex) -> Result<String, AllocError> {
-        if self.role(object)? != Role::Other || object >= self.heap.len() {
+        if self.role(object)? != Role::Other || object >= self.graph.heap.len() {
             return self.label(object);
         }
         let class = self.name_of_class_of(object)?;
-        if base_of(self.heap.chunk(object).base).format != INDEXED {
+        if base_of(self.graph.heap.chunk(object).base).format != INDEXED {
             return Ok(class);
         }
-        let count = self.heap.fields(object);
+        let count = self.graph.heap.fields(object);
         format!(in self.alloc; "{class}({count})")
     }
 
@@ -108,11 +109,11 @@ impl Names<'_> {
         doubles_quotes: bool,
     ) -> Result<String, AllocError> {
         let mut text = String::from_str(self.alloc, quote)?;
-        if object >= self.heap.len() {
+        if object >= self.graph.heap.len() {
             return Ok(text);
         }
-        let chunk = self.heap.object(object);
-        let bytes = first_bytes(self.alloc, self.heap.order(), &chunk, MOST_BYTES + 1)?;
+        let chunk = self.graph.heap.object(object);
+        let bytes = first_bytes(self.alloc, self.graph.heap.order(), &chunk, MOST_BYTES + 1)?;
         let bytes = bytes.unwrap_or(Vec::new(self.alloc));
         for byte in bytes.iter().take(MOST_BYTES) {
             if doubles_quotes && *byte == b'\'' {
@@ -130,17 +131,17 @@ impl Names<'_> {
     /// Returns the name of the object's class and its address.
     fn class_and_address(&self, object: ObjectIndex) -> Result<String, AllocError> {
         let class = self.name_of_class_of(object)?;
-        if object >= self.heap.len() {
+        if object >= self.graph.heap.len() {
             return Ok(class);
         }
-        let address = self.heap.address(object);
+        let address = self.graph.heap.address(object);
         format!(in self.alloc; "{class} {address:08x}")
     }
 
     /// Returns the name of one of the objects that every image has.
     fn known(&self, object: ObjectIndex) -> Result<Option<&'static str>, AllocError> {
         for (field, class, name) in KNOWN {
-            let found = field_target(self.heap, self.heap.special(), field);
+            let found = field_target(self.graph.heap, self.graph.heap.special(), field);
             if found == Some(object) && self.name_of_class_of(object)?.as_str() == class {
                 return Ok(Some(name));
             }
@@ -150,7 +151,10 @@ impl Names<'_> {
 
     /// Returns the role of a class that has a name.
     fn class_role(&self, object: ObjectIndex) -> Result<Option<Role>, AllocError> {
-        if !self.is_class(object) || self.name_of_class(object)?.as_str() == "?" {
+        if !self.is_class(object) || object >= self.graph.heap.len() {
+            return Ok(None);
+        }
+        if known_class_name(self.alloc, self.graph, object)?.is_none() {
             return Ok(None);
         }
         if self.has_own_name(object) {
@@ -176,7 +180,7 @@ impl Names<'_> {
 
     /// Returns the role of a string, a symbol or any other object.
     fn text_role(&self, object: ObjectIndex) -> Result<Role, AllocError> {
-        if object >= self.heap.len() || !has_bytes(&self.heap.object(object)) {
+        if object >= self.graph.heap.len() || !has_bytes(&self.graph.heap.object(object)) {
             return Ok(Role::Other);
         }
         let class = self.name_of_class_of(object)?;

@@ -16,7 +16,7 @@ mod object_set;
 mod role;
 mod variables;
 
-pub use bytes::{all_bytes, has_bytes};
+pub use bytes::has_bytes;
 pub use class_names::{class_at, name_of_class, name_of_class_of};
 pub use escape::escaped;
 pub use fields::{field_target, fixed_fields};

@@ -1,27 +1,24 @@
 //! What a name stands for.
 
-ghost use Rattle.std.specs.Prelude.{◌≡◌, ◌<◌, All, IfErr, IfOk};
+ghost use Rattle.std.specs.Prelude.{◌<◌, All, IfOk};
 ghost use Rattle.sqz_image.specs.Objects.{object_count};
-ghost use Rattle.sqz_image.specs.declared.fault.Fault.TheVariants.{OutOfMemory};
 
 use crate::bytes::spells;
 use crate::methods::{MethodName, MethodsFound};
 use crate::names::Names;
 use crate::object_set::ObjectSet;
 use crate::variables::VariableName;
-use sqz_image::Fault;
 use sqz_object::ObjectIndex;
+use std::alloc::AllocError;
 
 impl Names<'_> {
-    /// Returns the classes with this name, by address. A metaclass is named `NAME class`. Fails
-    /// only if out of memory.
-    pub fn classes_named(&self, name: &str) -> Result<Vec<ObjectIndex>, Fault>
-        ensures inside { IfOk result (λ found.
-            All (λ class. class < object_count self.now.heap.now) found.items) }
-        ensures refused { IfErr result (λ fault. fault ≡ OutOfMemory) }
+    /// Returns the classes with this name, by address. A metaclass is named `NAME class`.
+    pub fn classes_named(&self, name: &str) -> Result<Vec<ObjectIndex>, AllocError>
+        ensures { IfOk result (λ found.
+            All (λ class. class < object_count self.now.graph.heap.now) found.items) }
     {
         let mut found = Vec::new(self.alloc);
-        for class in 0..self.heap.len() {
+        for class in 0..self.graph.heap.len() {
             if self.is_class(class) && self.name_of_class(class)?.as_str() == name {
                 found.push(class)?;
             }
@@ -29,14 +26,12 @@ impl Names<'_> {
         Ok(found)
     }
 
-    /// Returns the methods with this name, as `Point>>x:y:`, by address. Fails only if out of
-    /// memory.
-    pub fn methods_named(&self, name: &str) -> Result<Vec<ObjectIndex>, Fault>
-        ensures inside { IfOk result (λ found.
-            All (λ method. method < object_count self.now.heap.now) found.items) }
-        ensures refused { IfErr result (λ fault. fault ≡ OutOfMemory) }
+    /// Returns the methods with this name, as `Point>>x:y:`, by address.
+    pub fn methods_named(&self, name: &str) -> Result<Vec<ObjectIndex>, AllocError>
+        ensures { IfOk result (λ found.
+            All (λ method. method < object_count self.now.graph.heap.now) found.items) }
     {
-        let (alloc, heap) = (self.alloc, self.heap);
+        let (alloc, heap) = (self.alloc, self.graph.heap);
         let mut named = ObjectSet::empty(alloc, heap)?;
         let Some((class, selector)) = name.split_once(">>") else {
             return Ok(Vec::new(alloc));
@@ -57,7 +52,7 @@ impl Names<'_> {
                 named.insert(method.method);
             }
         }
-        Ok(named.objects(alloc, heap)?)
+        named.objects(alloc, heap)
     }
 
     /// Returns the first name of a method.

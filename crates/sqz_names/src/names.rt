@@ -1,7 +1,6 @@
 //! All names of an image.
 
-ghost use Rattle.std.specs.Prelude.{◌≡◌, ◌<◌, IfErr, IfOk, IfSome};
-ghost use Rattle.sqz_image.specs.declared.fault.Fault.TheVariants.{OutOfMemory};
+ghost use Rattle.std.specs.Prelude.{◌≡◌, ◌<◌, IfOk, IfSome};
 ghost use Rattle.sqz_image.specs.Objects.{object_count};
 
 use crate::bytes::has_bytes;
@@ -10,9 +9,9 @@ use crate::fields::field_target;
 use crate::methods::{MethodName, MethodsFound};
 use crate::object_set::ObjectSet;
 use crate::variables::{VariableName, VariablesFound};
-use sqz_image::{Fault, Heap};
+use sqz_image::Heap;
 use sqz_object::ObjectIndex;
-use sqz_trace::{Marks, Weak, class_of};
+use sqz_trace::{Live, Marks, ObjectGraph};
 use std::alloc::{AllocError, Global};
 
 /// The field of a metaclass that points to its only instance.
@@ -26,8 +25,7 @@ const NAME: u32 = 6;
 pub struct Names<'a> {
     pub(crate) alloc: Global,
     /// The objects of the image.
-    pub heap: &'a Heap,
-    pub(crate) weak: Weak,
+    pub graph: ObjectGraph<'a>,
     pub(crate) classes: ObjectSet,
     /// Sorted by method, then by the address of the class. The methods of a shared dictionary are
     /// listed once, for the first class that has it.
@@ -37,13 +35,14 @@ pub struct Names<'a> {
 }
 
 impl<'a> Names<'a> {
-    /// Returns the names of an image. An object is a class if it is the class of a marked object,
-    /// or the instance of a metaclass, with a name of its own. Fails only if out of memory.
-    pub fn of(alloc: Global, heap: &'a Heap, weak: Weak, marks: &Marks) -> Result<Self, Fault>
-        ensures heap { IfOk result (λ names. names.heap.now ≡ heap.now) }
-        ensures refused { IfErr result (λ fault. fault ≡ OutOfMemory) }
+    /// Returns the names of an image. An object is a class if it is the class of a live object, or
+    /// the instance of a metaclass, with a name of its own.
+    pub fn of(alloc: Global, live: &Live<'a>) -> Result<Self, AllocError>
+        ensures { IfOk result (λ names. names.graph ≡ live.now.graph) }
     {
-        let classes = classes_in(alloc, heap, weak, marks)?;
+        let graph = live.graph;
+        let heap = graph.heap;
+        let classes = classes_in(alloc, live)?;
         let mut methods = MethodsFound::none(alloc, heap)?;
         let mut variables = VariablesFound::none(alloc, heap)?;
         variables.add(None)?;
@@ -58,8 +57,7 @@ impl<'a> Names<'a> {
         variables.sort_by_key(|name: &VariableName| -> ObjectIndex { name.association })?;
         Ok(Names {
             alloc,
-            heap,
-            weak,
+            graph,
             classes,
             methods,
             variables,
@@ -69,8 +67,8 @@ impl<'a> Names<'a> {
     /// Returns the methods of the marked classes, sorted by the address of the class. The methods
     /// of a shared dictionary are listed once, for the first class that has it.
     pub fn methods_of_marked(&self, marks: &Marks) -> Result<Vec<MethodName>, AllocError> {
-        let mut methods = MethodsFound::none(self.alloc, self.heap)?;
-        for class in 0..self.heap.len() {
+        let mut methods = MethodsFound::none(self.alloc, self.graph.heap)?;
+        for class in 0..self.graph.heap.len() {
             if self.classes.contains(class) && marks.has(class) {
                 methods.add(class)?;
             }
@@ -91,44 +89,41 @@ impl<'a> Names<'a> {
 
     /// Returns the class of an object. None also if there is no such object.
     pub fn class_of(&self, object: ObjectIndex) -> Option<ObjectIndex>
-        ensures inside { IfSome result (λ class. class < object_count self.now.heap.now) }
+        ensures inside { IfSome result (λ class. class < object_count self.now.graph.heap.now) }
     {
-        class_at(self.heap, self.weak, object)
+        class_at(self.graph, object)
     }
 
     /// Returns the name of an object's class as a class histogram prints it, and `compact K` with
     /// the compact index if the object has no class.
     pub fn name_of_class_of(&self, object: ObjectIndex) -> Result<String, AllocError> {
-        name_of_class_of(self.alloc, self.heap, self.weak, object)
+        name_of_class_of(self.alloc, self.graph, object)
     }
 
     /// Returns the name of a class as a class histogram prints it.
     pub fn name_of_class(&self, class: ObjectIndex) -> Result<String, AllocError> {
-        name_of_class(self.alloc, self.heap, self.weak, class)
+        name_of_class(self.alloc, self.graph, class)
     }
 
     /// Returns whether field 6 of an object points to a byte object.
     pub(crate) fn has_own_name(&self, object: ObjectIndex) -> bool {
-        has_own_name(self.heap, object)
+        has_own_name(self.graph.heap, object)
     }
 }
 
 /// Returns the classes of an image.
-fn classes_in(
-    alloc: Global,
-    heap: &Heap,
-    weak: Weak,
-    marks: &Marks,
-) -> Result<ObjectSet, AllocError> {
-    let mut classes = ObjectSet::empty(alloc, heap)?;
-    for object in 0..heap.len() {
-        let Some(class) = class_of(heap, weak, &heap.object(object)) else {
+fn classes_in(alloc: Global, live: &Live<'_>) -> Result<ObjectSet, AllocError> {
+    let graph = live.graph;
+    let mut classes = ObjectSet::empty(alloc, graph.heap)?;
+    for object in 0..graph.heap.len() {
+        let Some(class) = graph.class_of(object) else {
             continue;
         };
-        if marks.has(object) {
+        if live.marks.has(object) {
             classes.insert(class);
         }
-        if field_target(heap, class, INSTANCE) == Some(object) && has_own_name(heap, object) {
+        let is_instance = field_target(graph.heap, class, INSTANCE) == Some(object);
+        if is_instance && has_own_name(graph.heap, object) {
             classes.insert(object);
         }
     }

@@ -62,13 +62,13 @@ impl Names<'_> {
             Role::ClassVariable { class, .. } => Some(class),
             _ => return Ok(None),
         };
-        let Some(dictionary) = dictionary_of(self.heap, class) else {
+        let Some(dictionary) = dictionary_of(self.graph.heap, class) else {
             return Ok(None);
         };
         Ok(Some(Variable {
             dictionary,
-            array: field_target(self.heap, dictionary, ASSOCIATIONS),
-            value: field_target(self.heap, association, VALUE),
+            array: field_target(self.graph.heap, dictionary, ASSOCIATIONS),
+            value: field_target(self.graph.heap, association, VALUE),
         }))
     }
 }

@@ -1,15 +1,12 @@
 //! An icicle drawing of rows, as SVG.
 
-ghost use Rattle.std.specs.Prelude.{IfErr};
-ghost use Rattle.sqz_inspect.specs.Failures.{IsPrintFault};
-
 use crate::colours::{GREY, colour_of};
 use crate::layout::{BOX_HEIGHT, Span, WIDTH, height_of, spans_of, top_of};
 use crate::rows::Row;
 use crate::text::percent_text;
 use crate::xml::xml_text;
-use sqz_image::{Fault, Sink};
-use sqz_inspect::{Inspector, Out, counted};
+use sqz_image::Sink;
+use sqz_look::{Inspector, Out, PrintError, counted};
 use std::alloc::{AllocError, Global};
 
 /// The width of a character of a label in hundredths of a pixel, about.
@@ -24,15 +21,13 @@ const KINDS: [&str; 3] = ["class variable ", "class ", "Smalltalk at: "];
 /// The minimum number of characters of a label that is cut: a shorter one says nothing.
 const FEWEST: usize = 4;
 
-/// Prints rows as an icicle drawing. Fails only with `WriteFailed` or `OutOfMemory`.
+/// Prints rows as an icicle drawing.
 pub(crate) fn print_drawing<C: Sink>(
     inspector: &Inspector<'_>,
     rows: &[Row],
     live: u64,
     out: &mut Out<'_, C>,
-) -> Result<(), Fault>
-    ensures refused { IfErr result IsPrintFault }
-{
+) -> Result<(), PrintError> {
     let alloc = inspector.alloc;
     for line in &head_lines(alloc, rows)? {
         out.line(line.as_str())?;

@@ -1,23 +1,18 @@
 //! Rows as folded stacks.
 
-ghost use Rattle.std.specs.Prelude.{IfErr};
-ghost use Rattle.sqz_inspect.specs.Failures.{IsPrintFault};
-
 use crate::rows::Row;
-use sqz_image::{Fault, Sink};
-use sqz_inspect::Out;
+use sqz_image::Sink;
+use sqz_look::{Out, PrintError};
 use std::alloc::{AllocError, Global};
 
 /// Prints a line for each row with bytes that no row below it retains: the labels from the first
 /// row to it, joined by `;`, a space, and the number of these bytes. The numbers add up to the live
-/// bytes. Fails only with `WriteFailed` or `OutOfMemory`.
+/// bytes.
 pub(crate) fn print_folded<C: Sink>(
     alloc: Global,
     rows: &[Row],
     out: &mut Out<'_, C>,
-) -> Result<(), Fault>
-    ensures refused { IfErr result IsPrintFault }
-{
+) -> Result<(), PrintError> {
     let mut path = Vec::new(alloc);
     for row in rows {
         path.truncate(row.depth);

@@ -1,12 +1,9 @@
 //! Rows as JSON.
 
-ghost use Rattle.std.specs.Prelude.{IfErr};
-ghost use Rattle.sqz_inspect.specs.Failures.{IsPrintFault};
-
 use crate::rows::Row;
 use serde::Serialize;
-use sqz_image::{Fault, Sink};
-use sqz_inspect::{Inspector, Out, digits_if};
+use sqz_image::Sink;
+use sqz_look::{Inspector, Out, PrintError, digits_if};
 use std::alloc::AllocError;
 
 /// A row as JSON. A row that stands for several smaller objects has no address and no class.
@@ -23,14 +20,12 @@ struct TopRow<'a> {
     path: &'a [&'a str],
 }
 
-/// Prints rows as lines of JSON. Fails only with `WriteFailed` or `OutOfMemory`.
+/// Prints rows as lines of JSON.
 pub(crate) fn print_json<C: Sink>(
     inspector: &Inspector<'_>,
     rows: &[Row],
     out: &mut Out<'_, C>,
-) -> Result<(), Fault>
-    ensures refused { IfErr result IsPrintFault }
-{
+) -> Result<(), PrintError> {
     let mut path = Vec::new(inspector.alloc);
     for row in rows {
         path.truncate(row.depth);

@@ -1,7 +1,7 @@
 //! The labels of rows.
 
 use crate::level::{Below, Level};
-use sqz_inspect::Inspector;
+use sqz_look::Inspector;
 use sqz_names::Role;
 use sqz_object::ObjectIndex;
 use std::alloc::AllocError;

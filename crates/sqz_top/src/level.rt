@@ -2,7 +2,7 @@
 
 use crate::tree::Tree;
 use crate::variables::value_of;
-use sqz_inspect::Inspector;
+use sqz_look::Inspector;
 use sqz_object::ObjectIndex;
 use std::alloc::AllocError;
 use std::cmp::Reverse;

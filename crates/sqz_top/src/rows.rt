@@ -5,9 +5,9 @@ use crate::level::{Below, Level};
 use crate::options::Limits;
 use crate::tree::Tree;
 use sqz_dominators::Retained;
-use sqz_inspect::Inspector;
+use sqz_look::Inspector;
 use sqz_object::ObjectIndex;
-use std::alloc::AllocError;
+use std::alloc::{AllocError, Global};
 
 /// A row of a tree.
 #[derive(Drop)]
@@ -35,7 +35,8 @@ pub(crate) fn rows_of(
     tree: &Tree,
     limits: Limits,
 ) -> Result<Vec<Row>, AllocError> {
-    let special = inspector.heap.special();
+    let maker = RowMaker { tree, limits };
+    let special = inspector.live.graph.heap.special();
     let label = inspector.names.short_label(special)?;
     let mut rows = Vec::new(inspector.alloc);
     let mut pending = Vec::new(inspector.alloc);
@@ -50,7 +51,7 @@ pub(crate) fn rows_of(
             row.own = level.own;
             if row.depth < limits.depth {
                 row.apart = level.own;
-                push_below(inspector, tree, limits, &row, &level, &mut pending)?;
+                maker.push_below(inspector, &row, &level, &mut pending)?;
             }
         }
         rows.push(row)?;
@@ -72,53 +73,62 @@ fn new_row(object: ObjectIndex, label: String, above: Option<&Row>, retained: Re
     }
 }
 
-/// Appends the rows on the level below a row, the first one last.
-fn push_below(
-    inspector: &Inspector<'_>,
-    tree: &Tree,
+/// A tree, and the bounds of its rows.
+#[derive(Drop)]
+struct RowMaker<'a> {
+    tree: &'a Tree,
     limits: Limits,
-    row: &Row,
-    level: &Level,
-    pending: &mut Vec<Row>,
-) -> Result<(), AllocError> {
-    let count = level
-        .below
-        .partition_point(|below: &Below| below.bytes >= limits.bytes);
-    let (shown, smaller) = level.below.split_at(count.min(level.below.len()));
-    if !smaller.is_empty() {
-        pending.push(smaller_row(inspector, tree, row, smaller)?)?;
-    }
-    let mut labels = labels_below(inspector, level, shown)?;
-    for below in shown.iter().rev() {
-        let label = labels.pop().unwrap_or(String::new(inspector.alloc));
-        let retained = tree.retained(below.object);
-        pending.push(new_row(below.object, label, Some(row), retained))?;
-    }
-    Ok(())
 }
 
-/// Returns the row that stands for the smaller objects on the level below a row.
-fn smaller_row(
-    inspector: &Inspector<'_>,
-    tree: &Tree,
-    above: &Row,
-    smaller: &[Below],
-) -> Result<Row, AllocError> {
-    let mut bytes = 0u64;
-    let mut objects = 0u64;
-    for below in smaller {
-        bytes = bytes.saturating_add(below.bytes);
-        objects = objects.saturating_add(u64::from(tree.retained(below.object).objects));
+impl RowMaker<'_> {
+    /// Appends the rows on the level below a row, the first one last.
+    fn push_below(
+        &self,
+        inspector: &Inspector<'_>,
+        row: &Row,
+        level: &Level,
+        pending: &mut Vec<Row>,
+    ) -> Result<(), AllocError> {
+        let count = level
+            .below
+            .partition_point(|below: &Below| below.bytes >= self.limits.bytes);
+        let (shown, smaller) = level.below.split_at(count.min(level.below.len()));
+        if !smaller.is_empty() {
+            pending.push(self.smaller_row(inspector.alloc, row, smaller)?)?;
+        }
+        let mut labels = labels_below(inspector, level, shown)?;
+        for below in shown.iter().rev() {
+            let label = labels.pop().unwrap_or(String::new(inspector.alloc));
+            let retained = self.tree.retained(below.object);
+            pending.push(new_row(below.object, label, Some(row), retained))?;
+        }
+        Ok(())
     }
-    let count = smaller.len();
-    Ok(Row {
-        object: None,
-        label: format!(in inspector.alloc; "{count} smaller")?,
-        depth: above.depth.saturating_add(1),
-        parent: above.object,
-        own: bytes,
-        apart: bytes,
-        retained: bytes,
-        objects,
-    })
+
+    /// Returns the row that stands for the smaller objects on the level below a row.
+    fn smaller_row(
+        &self,
+        alloc: Global,
+        above: &Row,
+        smaller: &[Below],
+    ) -> Result<Row, AllocError> {
+        let mut bytes = 0u64;
+        let mut objects = 0u64;
+        for below in smaller {
+            let retained = self.tree.retained(below.object);
+            bytes = bytes.saturating_add(below.bytes);
+            objects = objects.saturating_add(u64::from(retained.objects));
+        }
+        let count = smaller.len();
+        Ok(Row {
+            object: None,
+            label: format!(in alloc; "{count} smaller")?,
+            depth: above.depth.saturating_add(1),
+            parent: above.object,
+            own: bytes,
+            apart: bytes,
+            retained: bytes,
+            objects,
+        })
+    }
 }

@@ -1,23 +1,17 @@
 //! Rows as text for a person.
 
-ghost use Rattle.std.specs.Prelude.{IfErr};
-ghost use Rattle.sqz_inspect.specs.Failures.{IsPrintFault};
-
 use crate::rows::Row;
-use sqz_image::{Fault, Sink};
-use sqz_inspect::Out;
+use sqz_image::Sink;
+use sqz_look::{Out, PrintError};
 use std::alloc::{AllocError, Global};
 
 /// Prints rows as text, each label two spaces further to the right than that of the row above it.
-/// Fails only with `WriteFailed` or `OutOfMemory`.
 pub(crate) fn print_text<C: Sink>(
     alloc: Global,
     rows: &[Row],
     live: u64,
     out: &mut Out<'_, C>,
-) -> Result<(), Fault>
-    ensures refused { IfErr result IsPrintFault }
-{
+) -> Result<(), PrintError> {
     out.line("  retained      %   objects")?;
     for row in rows {
         let line = row_line(alloc, row, live)?;

@@ -1,13 +1,13 @@
 //! The dictionaries that hold variables.
 
-use sqz_inspect::Inspector;
+use sqz_look::Inspector;
 use sqz_object::ObjectIndex;
 use std::alloc::AllocError;
 
 /// Returns for each object whether it only holds variables: whether it is a dictionary of the
 /// associations of globals or class variables, or the array of such a dictionary.
 pub(crate) fn variable_holders(inspector: &Inspector<'_>) -> Result<Vec<bool>, AllocError> {
-    let count = inspector.heap.len();
+    let count = inspector.live.graph.heap.len();
     let mut holders = vec![in inspector.alloc; false; count as usize]?;
     for object in 0..count {
         if let Some(variable) = inspector.names.variable(object)? {

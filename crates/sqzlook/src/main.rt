@@ -3,7 +3,7 @@
 
 use sqz_cli::words_or_exit;
 use sqz_image::WriteSink;
-use sqz_inspect_cli::{QuietPipe, look};
+use sqz_look_cli::{QuietPipe, look};
 use std::process::ExitCode;
 
 fn main(rt: HostRuntime) -> ExitCode {

@@ -1,0 +1,146 @@
+//! What the slots of an object are called.
+
+ghost use Rattle.std.specs.Prelude.{◌<◌};
+ghost use Rattle.sqz_image.specs.Objects.{object_count};
+
+use crate::inspector::Inspector;
+use serde::Serialize;
+use sqz_facts::object_facts;
+use sqz_image::Slot;
+use sqz_names::fixed_fields;
+use sqz_object::{Layout, ObjectIndex};
+use std::alloc::{AllocError, Global};
+
+/// The format of objects that have indexed fields alone.
+const INDEXED: u32 = 2;
+
+/// The formats of objects that have fixed fields and then indexed ones: strong and weak.
+const FIXED_AND_INDEXED: u32 = 3;
+
+const FIXED_AND_WEAK: u32 = 4;
+
+/// A slot as JSON: `"class"`, or the number of a field.
+#[derive(Clone, Copy, Drop, Serialize)]
+#[serde(untagged)]
+pub(crate) enum SlotName {
+    Class(&'static str),
+    Field(u32),
+}
+
+/// Returns a slot as JSON.
+pub(crate) fn slot_name(slot: Slot) -> SlotName {
+    match slot {
+        Slot::ClassWord => SlotName::Class("class"),
+        Slot::Field(index) => SlotName::Field(index),
+    }
+}
+
+/// The names of the slots of an object.
+#[derive(Drop)]
+pub(crate) struct SlotNames {
+    /// The class whose instance variables were found last.
+    class: Option<ObjectIndex>,
+    /// The names of these instance variables, as byte objects.
+    variables: Vec<ObjectIndex>,
+    /// Whether the fields of the object are these instance variables.
+    has_variables: bool,
+    /// The first indexed field, if the object has such fields.
+    first_indexed: Option<u32>,
+}
+
+impl SlotNames {
+    /// Returns names of slots, none of which is that of an instance variable.
+    pub(crate) fn none(alloc: Global) -> Self {
+        SlotNames {
+            class: None,
+            variables: Vec::new(alloc),
+            has_variables: false,
+            first_indexed: None,
+        }
+    }
+
+    /// Returns the names of the slots of an object.
+    pub(crate) fn of(inspector: &Inspector<'_>, object: ObjectIndex) -> Result<Self, AllocError>
+        requires { object < object_count inspector.now.live.graph.heap.now }
+    {
+        let mut names = SlotNames::none(inspector.alloc);
+        names.set_object(inspector, object)?;
+        Ok(names)
+    }
+
+    /// Makes these the names of the slots of another object. The names of its instance variables
+    /// are found again only if it has another class. All objects have to be of one image.
+    pub(crate) fn set_object(
+        &mut self,
+        inspector: &Inspector<'_>,
+        object: ObjectIndex,
+    ) -> Result<(), AllocError>
+        requires { object < object_count inspector.now.live.graph.heap.now }
+    {
+        let graph = inspector.live.graph;
+        let layout = graph.heap.object(object).layout();
+        let facts = object_facts(graph, object);
+        self.has_variables = !matches!(layout, Layout::Bytes { .. } | Layout::Method);
+        self.first_indexed = match facts.format {
+            INDEXED => Some(0),
+            FIXED_AND_INDEXED | FIXED_AND_WEAK => {
+                facts
+                    .class
+                    .and_then(|class| fixed_fields(graph.heap, class))
+            }
+            _ => None,
+        };
+        if self.has_variables && self.class != facts.class {
+            self.variables = variables_of(inspector, facts.class)?;
+            self.class = facts.class;
+        }
+        Ok(())
+    }
+
+    /// Returns the name of the instance variable that a slot is.
+    pub(crate) fn name(
+        &self,
+        inspector: &Inspector<'_>,
+        slot: Slot,
+    ) -> Result<Option<String>, AllocError> {
+        let Slot::Field(index) = slot else {
+            return Ok(None);
+        };
+        match self.variables.get(index as usize) {
+            Some(variable) if self.has_variables => Ok(Some(inspector.names.text(*variable)?)),
+            _ => Ok(None),
+        }
+    }
+
+    /// Returns a slot as text: `.NAME`, `[K]` with the index of an indexed field counted from 1,
+    /// `class`, or `field K`.
+    pub(crate) fn text(&self, inspector: &Inspector<'_>, slot: Slot) -> Result<String, AllocError> {
+        let alloc = inspector.alloc;
+        if let Some(name) = self.name(inspector, slot)? {
+            return format!(in alloc; ".{name}");
+        }
+        let Slot::Field(index) = slot else {
+            return String::from_str(alloc, "class");
+        };
+        match self
+            .first_indexed
+            .and_then(|first| index.checked_sub(first))
+        {
+            Some(place) => format!(in alloc; "[{}]", u64::from(place) + 1),
+            None => format!(in alloc; "field {index}"),
+        }
+    }
+}
+
+/// Returns the names of the instance variables of a class, as byte objects; none if they are not
+/// known.
+fn variables_of(
+    inspector: &Inspector<'_>,
+    class: Option<ObjectIndex>,
+) -> Result<Vec<ObjectIndex>, AllocError> {
+    let names = match class {
+        Some(class) => inspector.names.instance_variables(class)?,
+        None => None,
+    };
+    Ok(names.unwrap_or(Vec::new(inspector.alloc)))
+}

@@ -1,0 +1,46 @@
+//! What changed between two images.
+
+ghost use Rattle.std.specs.Prelude.{◌≤◌, IfOk};
+
+use crate::failure::Failure;
+use crate::loading::{Loaded, load};
+use crate::session::Session;
+use sqz_cli::{BAD_IMAGE, DONE};
+use sqz_diff::print_diff;
+use sqz_image::{Fault, Image, Sink};
+use sqz_look::{Inspector, Out};
+use std::alloc::Global;
+use std::rt::Files;
+use std::thread::Threads;
+
+/// Prints what changed between the images in two files, and returns the exit: 0 if they are alike,
+/// else 1.
+pub(crate) fn compare<T: Files + Threads + Sync, C: Sink>(
+    session: &Session<'_, T>,
+    old: &str,
+    new: &str,
+    out: &mut Out<'_, C>,
+) -> Result<u8, Failure>
+    ensures { IfOk result (λ exit. exit ≤ BAD_IMAGE) }
+{
+    let (rt, alloc) = (session.rt, session.alloc);
+    let (old, new) = (image_at(rt, alloc, old)?, image_at(rt, alloc, new)?);
+    let old = Inspector::of(session.subject(&old)?)?;
+    let new = Inspector::of(session.subject(&new)?)?;
+    let is_alike = print_diff(rt, &old, &new, out)?;
+    Ok(if is_alike { DONE } else { BAD_IMAGE })
+}
+
+/// Returns the image in the file with this path. A failure says which file it is about.
+fn image_at<T: Files>(rt: &T, alloc: Global, path: &str) -> Result<Image, Failure> {
+    match load(rt, alloc, path) {
+        Ok(Loaded::Image(image)) => Ok(image),
+        Ok(Loaded::Unreadable(unreadable)) => {
+            let message = unreadable.message(alloc)?;
+            let message = format!(in alloc; "{path}: {message}")?;
+            Err(Failure::NotThere(message))
+        }
+        Err(Fault::ReadFailed) => Err(Failure::NotRead(String::from_str(alloc, path)?)),
+        Err(fault) => Err(Failure::Faulty(fault)),
+    }
+}

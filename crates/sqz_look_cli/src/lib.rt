@@ -1,0 +1,16 @@
+//! Questions about images, as a command line asks them, and their answers.
+#![tactic(auto)]
+
+mod answers;
+mod checks;
+mod commands;
+mod comparison;
+mod entry_point;
+mod failure;
+mod loading;
+mod quiet_pipe;
+mod requests;
+mod session;
+
+pub use entry_point::look;
+pub use quiet_pipe::QuietPipe;

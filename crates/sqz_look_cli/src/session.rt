@@ -1,0 +1,21 @@
+//! What questions are answered with.
+
+use sqz_image::Image;
+use sqz_look::Subject;
+use sqz_trace::Weak;
+use std::alloc::{AllocError, Global};
+
+/// What questions are answered with: the runtime, the allocator and the policy on weak slots.
+#[derive(Drop)]
+pub(crate) struct Session<'a, T> {
+    pub(crate) rt: &'a T,
+    pub(crate) alloc: Global,
+    pub(crate) weak: Weak,
+}
+
+impl<T> Session<'_, T> {
+    /// Returns an image with its live objects.
+    pub(crate) fn subject<'b>(&self, image: &'b Image) -> Result<Subject<'b>, AllocError> {
+        Subject::of(self.alloc, image, self.weak)
+    }
+}
