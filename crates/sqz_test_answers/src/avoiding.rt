@@ -5,7 +5,7 @@ use sqz_object::ObjectIndex;
 use sqz_test_fixtures::accepted::DEAD_CYCLE;
 use sqz_test_fixtures::with_weak_objects::WEAK_FIXED_FIELD;
 use sqz_test_fixtures::{TestImage, image_of};
-use sqz_trace::{Marks, Weak, reachable_without};
+use sqz_trace::{Marks, ObjectGraph, Weak, reachable_without};
 use std::process::Abort;
 use std::test::Fail;
 
@@ -20,7 +20,7 @@ fn assert_reachable<R: Abort + AllocGlobal>(
     let image = image_of(rt.alloc(), image)?;
     let heap = image.heap();
     let set = Marks::listed(rt.alloc(), heap, avoided)?;
-    let marks = reachable_without(rt.alloc(), heap, weak, &set)?;
+    let marks = reachable_without(rt.alloc(), ObjectGraph { heap, weak }, &set)?;
     for object in 0..heap.len() {
         assert_eq!(rt;
             marks.has(object),

@@ -2,12 +2,12 @@
 
 use super::images::{CHAIN, CYCLE_WITH_TWO_ENTRIES, DIAMOND, ROOT_IN_CYCLE};
 use sqz_dominators::{PlacedTree, dominator_candidate, is_dominator_tree};
-use sqz_image::Heap;
+use sqz_image::Image;
 use sqz_object::ObjectIndex;
 use sqz_test_fixtures::accepted::{DEAD_CYCLE, SPECIAL_ARRAY_ALONE};
 use sqz_test_fixtures::with_classes::CLASS_EDGE;
 use sqz_test_fixtures::{TestImage, image_of};
-use sqz_trace::Weak;
+use sqz_trace::{ObjectGraph, Weak};
 use std::process::Abort;
 use std::test::Fail;
 
@@ -20,20 +20,28 @@ const BOTTOM: ObjectIndex = 4;
 /// The special objects array of the diamond.
 const ROOT: ObjectIndex = 5;
 
+/// Returns the objects of an image with all their edges.
+fn graph_of(image: &Image) -> ObjectGraph<'_> {
+    ObjectGraph {
+        heap: image.heap(),
+        weak: Weak::Keep,
+    }
+}
+
 /// Returns a candidate.
-fn candidate_in<R: Abort + AllocGlobal>(rt: &R, heap: &Heap) -> Result<PlacedTree, Fail> {
-    let found = dominator_candidate(rt.alloc(), heap, Weak::Keep)?;
+fn candidate_in<R: Abort + AllocGlobal>(rt: &R, image: &Image) -> Result<PlacedTree, Fail> {
+    let found = dominator_candidate(rt.alloc(), graph_of(image))?;
     Ok(found.expect(rt, "a candidate"))
 }
 
 /// Asserts whether the check accepts a tree.
 fn assert_check<R: Abort + AllocGlobal>(
     rt: &R,
-    heap: &Heap,
+    image: &Image,
     tree: &PlacedTree,
     wanted: bool,
 ) -> Result<(), Fail> {
-    let is_accepted = is_dominator_tree(rt.alloc(), heap, Weak::Keep, tree)?;
+    let is_accepted = is_dominator_tree(rt.alloc(), graph_of(image), tree)?;
     assert_eq!(rt; is_accepted, wanted);
     Ok(())
 }
@@ -76,8 +84,8 @@ fn accepted(rt: HostRuntime) -> Result<(), Fail> {
     ];
     for image in images {
         let image = image_of(rt.alloc(), image)?;
-        let tree = candidate_in(&rt, image.heap())?;
-        assert_check(&rt, image.heap(), &tree, true)?;
+        let tree = candidate_in(&rt, &image)?;
+        assert_check(&rt, &image, &tree, true)?;
     }
     Ok(())
 }
@@ -86,11 +94,11 @@ fn accepted(rt: HostRuntime) -> Result<(), Fail> {
 fn swapped_pair(rt: HostRuntime) -> Result<(), Fail> {
     let image = image_of(rt.alloc(), &DIAMOND)?;
     for side in SIDES {
-        let mut tree = candidate_in(&rt, image.heap())?;
+        let mut tree = candidate_in(&rt, &image)?;
         swap(&mut tree, side, BOTTOM);
-        assert_check(&rt, image.heap(), &tree, false)?;
+        assert_check(&rt, &image, &tree, false)?;
         swap(&mut tree, side, BOTTOM);
-        assert_check(&rt, image.heap(), &tree, true)?;
+        assert_check(&rt, &image, &tree, true)?;
     }
     Ok(())
 }
@@ -98,21 +106,21 @@ fn swapped_pair(rt: HostRuntime) -> Result<(), Fail> {
 #[test]
 fn object_at_another_place(rt: HostRuntime) -> Result<(), Fail> {
     let image = image_of(rt.alloc(), &DIAMOND)?;
-    let mut tree = candidate_in(&rt, image.heap())?;
+    let mut tree = candidate_in(&rt, &image)?;
     let place = place_of(&tree, BOTTOM);
     write(&mut tree.found, place, TOP);
-    assert_check(&rt, image.heap(), &tree, false)
+    assert_check(&rt, &image, &tree, false)
 }
 
 #[test]
 fn parent_too_high(rt: HostRuntime) -> Result<(), Fail> {
     let image = image_of(rt.alloc(), &DIAMOND)?;
     for object in [SIDES[0], SIDES[1], BOTTOM] {
-        let mut tree = candidate_in(&rt, image.heap())?;
+        let mut tree = candidate_in(&rt, &image)?;
         let place = place_of(&tree, object);
         let root = place_of(&tree, ROOT);
         write(&mut tree.parents, place, root);
-        assert_check(&rt, image.heap(), &tree, false)?;
+        assert_check(&rt, &image, &tree, false)?;
     }
     Ok(())
 }
@@ -121,11 +129,11 @@ fn parent_too_high(rt: HostRuntime) -> Result<(), Fail> {
 fn parent_too_low(rt: HostRuntime) -> Result<(), Fail> {
     let image = image_of(rt.alloc(), &DIAMOND)?;
     for side in SIDES {
-        let mut tree = candidate_in(&rt, image.heap())?;
+        let mut tree = candidate_in(&rt, &image)?;
         let place = place_of(&tree, BOTTOM);
         let above = place_of(&tree, side);
         write(&mut tree.parents, place, above);
-        assert_check(&rt, image.heap(), &tree, false)?;
+        assert_check(&rt, &image, &tree, false)?;
     }
     Ok(())
 }

@@ -5,7 +5,7 @@ use sqz_dominators::{Child, Retained, children_of, dominators_of};
 use sqz_object::ObjectIndex;
 use sqz_test_fixtures::accepted::DEAD_CYCLE;
 use sqz_test_fixtures::{TestImage, image_of};
-use sqz_trace::Weak;
+use sqz_trace::{ObjectGraph, Weak};
 use std::process::Abort;
 use std::test::Fail;
 
@@ -18,7 +18,11 @@ fn assert_retains<R: Abort + AllocGlobal>(
     children: &[ObjectIndex],
 ) -> Result<(), Fail> {
     let image = image_of(rt.alloc(), image)?;
-    let dominators = dominators_of(rt.alloc(), image.heap(), Weak::Keep)?;
+    let graph = ObjectGraph {
+        heap: image.heap(),
+        weak: Weak::Keep,
+    };
+    let dominators = dominators_of(rt.alloc(), graph)?;
     assert_eq!(rt; dominators.retained(object), retained);
     let all = children_of(rt.alloc(), &dominators)?;
     let found = all.of(object);

@@ -1,12 +1,13 @@
 //! All defects of an image.
 
 use super::images::DIAMOND;
+use sqz_facts::defects_of;
 use sqz_image::{Fault, Slot};
-use sqz_paths::defects_of;
+use sqz_test_fixtures::accepted::{DEAD_BAD_POINTER, DEAD_WITHOUT_CLASS};
 use sqz_test_fixtures::with_defects::LOWER_OF_TWO;
 use sqz_test_fixtures::with_weak_classes::WEAK_TOO_MANY_FIXED;
 use sqz_test_fixtures::{TestImage, image_of};
-use sqz_trace::{Marks, Weak, mark_plain};
+use sqz_trace::{Live, ObjectGraph, Weak};
 use std::process::Abort;
 use std::test::Fail;
 
@@ -27,8 +28,9 @@ fn assert_defects<R: Abort + AllocGlobal>(
     wanted: &[Fault],
 ) -> Result<(), Fail> {
     let image = image_of(rt.alloc(), image)?;
-    let marks = mark_plain(rt.alloc(), image.heap(), weak)?;
-    let found = defects_of(rt.alloc(), image.heap(), weak, &marks)?;
+    let heap = image.heap();
+    let live = Live::of(rt.alloc(), ObjectGraph { heap, weak })?;
+    let found = defects_of(rt.alloc(), &live)?;
     assert_eq!(rt; found.as_slice(), wanted);
     Ok(())
 }
@@ -54,10 +56,9 @@ fn defect_of_a_weak_object(rt: HostRuntime) -> Result<(), Fail> {
 }
 
 #[test]
-fn defects_of_marked_objects(rt: HostRuntime) -> Result<(), Fail> {
-    let image = image_of(rt.alloc(), &LOWER_OF_TWO)?;
-    let marks = Marks::listed(rt.alloc(), image.heap(), &[2])?;
-    let found = defects_of(rt.alloc(), image.heap(), Weak::Keep, &marks)?;
-    assert_eq!(rt; found.as_slice(), [NO_CLASS].as_slice());
+fn defects_of_dead_objects(rt: HostRuntime) -> Result<(), Fail> {
+    for image in [&DEAD_BAD_POINTER, &DEAD_WITHOUT_CLASS] {
+        assert_defects(&rt, image, Weak::Keep, &[])?;
+    }
     Ok(())
 }

@@ -7,7 +7,7 @@ use sqz_test_fixtures::accepted::{DEAD_CYCLE, SPECIAL_ARRAY_ALONE};
 use sqz_test_fixtures::with_classes::CLASS_EDGE;
 use sqz_test_fixtures::with_weak_objects::WEAK_FIELDS;
 use sqz_test_fixtures::{TestImage, image_of};
-use sqz_trace::Weak;
+use sqz_trace::{ObjectGraph, Weak};
 use std::process::Abort;
 use std::test::Fail;
 
@@ -20,7 +20,7 @@ fn assert_immediate<R: Abort + AllocGlobal>(
 ) -> Result<(), Fail> {
     let image = image_of(rt.alloc(), image)?;
     let heap = image.heap();
-    let dominators = dominators_of(rt.alloc(), heap, weak)?;
+    let dominators = dominators_of(rt.alloc(), ObjectGraph { heap, weak })?;
     assert_eq!(rt; heap.len() as usize, wanted.len());
     for (object, above) in wanted.iter().enumerate() {
         assert_eq!(rt;

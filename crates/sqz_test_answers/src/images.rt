@@ -64,3 +64,10 @@ pub(crate) const THREE_SLOTS: TestImage = TestImage {
     special: 0x1020,
     ..EMPTY
 };
+
+/// The dead object 2 and the special objects array, object 3, point to object 1.
+pub(crate) const DEAD_REFERRER: TestImage = TestImage {
+    chunks: &[NIL, LEAF, Fixed(&[0x1004]), Array(&[0x1000, 0x1004])],
+    special: 0x1014,
+    ..EMPTY
+};

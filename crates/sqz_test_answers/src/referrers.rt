@@ -1,13 +1,13 @@
 //! What points to an object.
 
-use super::images::{DIAMOND, ROOT_IN_CYCLE, THREE_SLOTS};
+use super::images::{DEAD_REFERRER, DIAMOND, ROOT_IN_CYCLE, THREE_SLOTS};
+use sqz_facts::{Referrer, referrers_of};
 use sqz_image::Slot;
 use sqz_object::ObjectIndex;
-use sqz_paths::{Referrer, referrers_of};
 use sqz_test_fixtures::accepted::DEAD_CYCLE;
 use sqz_test_fixtures::with_weak_objects::WEAK_FIELDS;
 use sqz_test_fixtures::{TestImage, image_of};
-use sqz_trace::{Marks, Weak, mark_plain};
+use sqz_trace::{Live, ObjectGraph, Weak};
 use std::process::Abort;
 use std::test::Fail;
 
@@ -25,8 +25,9 @@ fn assert_referrers<R: Abort + AllocGlobal>(
     wanted: &[Referrer],
 ) -> Result<(), Fail> {
     let image = image_of(rt.alloc(), image)?;
-    let marks = mark_plain(rt.alloc(), image.heap(), weak)?;
-    let found = referrers_of(rt.alloc(), image.heap(), weak, &marks, object)?;
+    let heap = image.heap();
+    let live = Live::of(rt.alloc(), ObjectGraph { heap, weak })?;
+    let found = referrers_of(rt.alloc(), &live, object)?;
     assert_eq!(rt; found.as_slice(), wanted);
     Ok(())
 }
@@ -64,10 +65,6 @@ fn special_objects_array(rt: HostRuntime) -> Result<(), Fail> {
 #[test]
 fn slots_of_dead_objects(rt: HostRuntime) -> Result<(), Fail> {
     assert_referrers(&rt, &DEAD_CYCLE, Weak::Keep, 2, &[])?;
-    let image = image_of(rt.alloc(), &DEAD_CYCLE)?;
-    let marks = Marks::listed(rt.alloc(), image.heap(), &[4])?;
-    let found = referrers_of(rt.alloc(), image.heap(), Weak::Keep, &marks, 2)?;
-    let wanted = [referrer(4, Slot::Field(0))];
-    assert_eq!(rt; found.as_slice(), wanted.as_slice());
-    Ok(())
+    let wanted = [referrer(3, Slot::Field(1))];
+    assert_referrers(&rt, &DEAD_REFERRER, Weak::Keep, 1, &wanted)
 }

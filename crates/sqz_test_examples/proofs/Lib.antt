@@ -4,3 +4,4 @@ pub mod PathTest
 pub mod WorkedImages
 pub mod DominatorTest
 pub mod RetainedTest
+pub mod WithoutTest

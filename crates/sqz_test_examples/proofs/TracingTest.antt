@@ -1,7 +1,8 @@
 -- Whether paths to some of the objects show that these are the reachable ones, by a test that
 -- computes.
--- Serves `marking::not_yet`, `moved_objects::dead_cycle`, the functions of `questions`,
--- `DominatorTest`, `RunTest` and `WorkedImages`.
+-- Serves `dominators::reachable_without_an_object`, `marking::not_yet`,
+-- `moved_objects::dead_cycle`, the functions of `questions`, `DominatorTest`, `PathTest`,
+-- `RetainedTest`, `RunTest` and `WorkedImages`.
 use Rattle.std.proofs.Common.{◌≡◌, ℕ, zero, suc, ◌+◌, ◌<◌, Bool, true, false, ◌&&◌, ◌||◌, eqb, ltb, nat_lt, List, []}
 use Rattle.std.proofs.Common.{◌∷◌, length, map, slice_index, slice_index_or, if◌then◌else◌, Option, Some, None, refl}
 use Rattle.std.proofs.Common.{sym, ap, subst, ◌∙◌, arith, inl, inr}

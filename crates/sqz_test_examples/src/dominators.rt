@@ -6,12 +6,15 @@
 
 ghost use Rattle.std.specs.Prelude.{true, false, [], ◌∷◌, Some, None};
 ghost use Rattle.sqz_trace.specs.declared.weak.Weak.TheVariants.{Keep, Clear};
-ghost use Rattle.sqz_trace.specs.Reachability.{graph_from};
-ghost use Rattle.sqz_dominators.specs.Dominators.{AreImmediate};
 ghost use Rattle.sqz_trace.specs.Avoiding.{IsReachabilityWithout};
+ghost use Rattle.sqz_trace.specs.Dead.{IsDifference};
+ghost use Rattle.sqz_trace.specs.Reachability.{graph_from};
 ghost use Rattle.sqz_dominators.specs.Children.{AreChildren};
+ghost use Rattle.sqz_dominators.specs.Dominators.{AreImmediate};
 ghost use Rattle.sqz_dominators.specs.Retained.{IsRetained, nothing};
+ghost use Rattle.sqz_answers.specs.CutOff.{IsRetainedBy};
 ghost use Rattle.sqz_test_examples.specs.DeadCycle.{dead_cycle};
+ghost use Rattle.sqz_test_examples.specs.MovedCycle.{cycle_marks};
 ghost use Rattle.sqz_test_examples.specs.Shapes.{diamond, chain, cycle_with_two_entries, root_in_cycle};
 ghost use Rattle.sqz_test_examples.specs.Shapes.{weak_fields};
 
@@ -93,4 +96,14 @@ fn reachable_without_an_object()
     ensures start { IsReachabilityWithout dead_cycle Keep
         (false ∷ false ∷ false ∷ false ∷ false ∷ true ∷ [])
         (false ∷ false ∷ false ∷ false ∷ false ∷ false ∷ []) }
+{}
+
+/// Object 3 is reachable only through object 1, so object 1 retains both of them. The objects of the
+/// dead cycle do not count.
+fn retained_by_a_set()
+    ensures difference { IsDifference 6 cycle_marks
+        (true ∷ false ∷ false ∷ false ∷ false ∷ true ∷ [])
+        (false ∷ true ∷ false ∷ true ∷ false ∷ false ∷ []) }
+    ensures retained { IsRetainedBy dead_cycle Keep cycle_marks
+        (false ∷ true ∷ false ∷ false ∷ false ∷ false ∷ []) 16 }
 {}

@@ -7,13 +7,13 @@
 ghost use Rattle.std.specs.Prelude.{◌≡◌, ◌≢◌, true, false, [], ◌∷◌};
 ghost use Rattle.sqz_image.specs.declared.slot.Slot.TheVariants.{ClassWord, Field};
 ghost use Rattle.sqz_trace.specs.declared.weak.Weak.TheVariants.{Keep};
-ghost use Rattle.sqz_census.specs.declared.group.Group.TheVariants.{Class, Compact};
-ghost use Rattle.sqz_census.specs.Histogram.{IsHistogram};
+ghost use Rattle.sqz_trace.specs.Dead.{IsComplement, dead, bytes_in};
+ghost use Rattle.sqz_histogram.specs.declared.group.Group.TheVariants.{Class, Compact};
+ghost use Rattle.sqz_histogram.specs.Histogram.{IsHistogram};
 ghost use Rattle.sqz_facts.specs.declared.slots.Held.TheVariants as held;
 ghost use Rattle.sqz_facts.specs.declared.sites.Site.TheVariants as site;
 ghost use Rattle.sqz_facts.specs.Held.{IsHeld};
 ghost use Rattle.sqz_facts.specs.Sites.{IsSite};
-ghost use Rattle.sqz_facts.specs.Dead.{IsComplement, dead, bytes_in};
 ghost use Rattle.sqz_test_examples.specs.ClassEdge.{class_edge, class_edge_marks};
 ghost use Rattle.sqz_test_examples.specs.DeadCycle.{dead_cycle};
 ghost use Rattle.sqz_test_examples.specs.Shapes.{weak_fields};

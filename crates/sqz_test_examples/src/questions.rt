@@ -1,4 +1,4 @@
-//! What keeps objects alive, and which objects a class has.
+//! What keeps objects alive, and which objects a group of a class histogram has.
 //!
 //! The images are those of [`crate::compacted`] with a dead cycle and with a class word. In the
 //! first, object 5 is the special objects array, whose field 1 points to object 1; objects 1 and 3
@@ -8,8 +8,9 @@
 ghost use Rattle.std.specs.Prelude.{[], ◌∷◌};
 ghost use Rattle.sqz_image.specs.declared.slot.Slot.TheVariants.{ClassWord, Field};
 ghost use Rattle.sqz_trace.specs.declared.weak.Weak.TheVariants.{Keep};
+ghost use Rattle.sqz_histogram.specs.declared.group.Group.TheVariants.{Class, Compact};
 ghost use Rattle.sqz_paths.specs.Paths.{IsShortestPath, IsUnreachable};
-ghost use Rattle.sqz_paths.specs.Members.{AreMembers};
+ghost use Rattle.sqz_facts.specs.Members.{AreMembers};
 ghost use Rattle.sqz_test_examples.specs.DeadCycle.{dead_cycle};
 ghost use Rattle.sqz_test_examples.specs.ClassEdge.{class_edge, class_edge_marks};
 
@@ -40,9 +41,12 @@ fn path_by_a_class_word()
         (record { slot = Field 1; object = 3 } ∷ record { slot = ClassWord; object = 2 } ∷ []) }
 {}
 
-/// The members of a class are its live instances, with their words; an object without instances
-/// has no members.
-fn members_of_a_class()
-    ensures instance { AreMembers class_edge Keep class_edge_marks 2 (record { object = 3; words = 3 } ∷ []) }
-    ensures none { AreMembers class_edge Keep class_edge_marks 0 [] }
+/// The members of a class are its live instances, with their words. Of the objects without a class,
+/// those with the same compact index are members of a group; the longer one comes first.
+fn members_of_a_group()
+    ensures class { AreMembers class_edge Keep class_edge_marks (Class 2)
+        (record { object = 3; words = 3 } ∷ []) }
+    ensures none { AreMembers class_edge Keep class_edge_marks (Class 0) [] }
+    ensures compact { AreMembers class_edge Keep class_edge_marks (Compact 1)
+        (record { object = 2; words = 2 } ∷ record { object = 0; words = 1 } ∷ []) }
 {}

@@ -1,7 +1,8 @@
 -- What a pass knows after calls, one after the other.
--- Serves `passes::raced`, `steps::assert_blackens`, `::assert_claims`, `::assert_each_blackens`, `::assert_looks`,
--- `::assert_marked`, `::claim`, `::mark_dead_cycle`, `::mark_named`, `::mark_special`, `targets::claim_target` and
--- `targets::mark_targets`; `InOrderLemmas`.
+-- Serves `alone::mark_alone`, `passes::raced`, `steps::assert_blackens`, `::assert_claims`,
+-- `::assert_each_blackens`, `::assert_looks`, `::assert_marked`, `::claim`, `::mark_dead_cycle`,
+-- `::mark_named`, `::mark_special`, `targets::claim_target`, `targets::mark_targets` and
+-- `InOrderLemmas`.
 use Rattle.std.proofs.Common.{◌≡◌, ◌≢◌, ◌⊎◌, ℕ, ◌<◌, List, [], ◌∷◌, ◌++◌, length, length-append, Option, Some, None, refl, sym, ap, subst, ◌∙◌}
 use Rattle.std.proofs.Common.{arith, inl, inr}
 use Rattle.std.specs.Prelude.{slice_index_or}

@@ -3,9 +3,9 @@ use Rattle.std.proofs.Common.{inl, inr}
 use Rattle.std.specs.Prelude.{slice_index_or, Contains}
 use Rattle.std.proofs.lemmas.Bool.{cases_eq, ne_eqb}
 use Rattle.sqz_trace.specs.declared.weak.Weak.TheVariants.{Keep}
-use Rattle.sqz_census.specs.declared.group.Group.{Group}
-use Rattle.sqz_census.specs.declared.group.Group.TheVariants.{Class, Compact}
-use Rattle.sqz_census.specs.Groups.{members, ComesBefore}
+use Rattle.sqz_histogram.specs.declared.group.Group.{Group}
+use Rattle.sqz_histogram.specs.declared.group.Group.TheVariants.{Class, Compact}
+use Rattle.sqz_histogram.specs.Groups.{members, ComesBefore}
 use Rattle.sqz_image.specs.Objects.{address_of}
 use Rattle.sqz_test_examples.specs.ClassEdge.{class_edge, class_edge_marks}
 use Rattle.sqz_test_examples.proofs.facts.histogram_of_classes.Goals as goal
