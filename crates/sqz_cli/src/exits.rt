@@ -28,6 +28,21 @@ pub(crate) fn exit_of(fault: &Fault) -> u8
         Fault::OutOfMemory => OUT_OF_MEMORY,
         Fault::ReadFailed | Fault::WriteFailed => DEVICE_FAILED,
         Fault::BadWorkers | Fault::BadCut => BAD_ARGUMENTS,
-        _ => BAD_IMAGE,
+        Fault::TooShort
+        | Fault::BadVersion
+        | Fault::BadHeaderSize
+        | Fault::BadDataSize
+        | Fault::BadBase
+        | Fault::Truncated
+        | Fault::ZeroSize { .. }
+        | Fault::HeaderMismatch { .. }
+        | Fault::Overrun { .. }
+        | Fault::BadSpecialObjects
+        | Fault::NoClass { .. }
+        | Fault::BadMethod { .. }
+        | Fault::BadContext { .. }
+        | Fault::BadWeak { .. }
+        | Fault::BadPointer { .. }
+        | Fault::NoNil => BAD_IMAGE,
     }
 }

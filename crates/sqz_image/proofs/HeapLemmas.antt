@@ -242,10 +242,17 @@ module _ (order : Order) (base special : ℕ) {words : List ℕ} {starts : List 
   memory_of_index =
       record { in_order = refl; begins = refl; special_address = refl; partition = partition_read }
 
-  pub whole_memory_of : {special_object : ℕ} → find memory_read special ≡ Some special_object
-      → IsWholeMemory order base special words memory_read
-  whole_memory_of found = record { is_memory = memory_of_index; found = ap is_some found }
-
   pub lacks_special_of : find memory_read special ≡ None → LacksSpecial order base special words BadSpecialObjects
   lacks_special_of missing =
       record { memory = memory_read; is_memory = memory_of_index; missing = missing; refused = refl }
+
+-- what a heap keeps is a memory with its special objects array
+pub whole_memory_of_kept : {order : Order} {base special special_object : ℕ} {words : List ℕ} {starts : List Start} {headers : List Block}
+    → IsKept (memory_of order base special words) words starts headers special_object
+    → IsWholeMemory order base special words (memory_of order base special words)
+whole_memory_of_kept kept =
+    record {
+      is_memory =
+          record { in_order = refl; begins = refl; special_address = refl; partition = kept.listed.partition };
+      found = ap is_some kept.found;
+    }

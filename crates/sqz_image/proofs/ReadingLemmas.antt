@@ -1,12 +1,12 @@
 -- From a file to its image and back.
--- Serves `reading::image_of_file` and `SavedLemmas`; `CorrespondenceLemmas` and `RunLemmas` of
+-- Serves `file_parts::parts_of` and `SavedLemmas`; `CorrespondenceLemmas` and `RunLemmas` of
 -- `sqz_tool`.
-use Rattle.std.proofs.Common.{◌≡◌, ◌⊎◌, ℕ, ◌+◌, ◌*◌, ◌/◌, ◌%◌, ◌^◌, ◌<◌, ◌≤◌, Bool, true, false, not, ◌||◌}
+use Rattle.std.proofs.Common.{◌≡◌, ◌⊎◌, ℕ, ◌+◌, ◌*◌, ◌/◌, ◌-◌, ◌%◌, ◌^◌, ◌<◌, ◌≤◌, Bool, true, false, not, ◌||◌}
 use Rattle.std.proofs.Common.{cond, eqb, ltb, List, length, take, drop, slice_index, Option, Some, None, refl}
 use Rattle.std.proofs.Common.{sym, ap, subst, ◌∙◌, arith, inl, inr}
 use Rattle.std.proofs.lemmas.Option.{none-some}
 use Rattle.std.proofs.lemmas.Bool.{eqb-true, ltb-false, cases_lt}
-use Rattle.std.proofs.lemmas.List.{length-drop, length-take, get_or-take, get_or_past, get_or-drop}
+use Rattle.std.proofs.lemmas.List.{length-drop, length-take, drop-drop, get_or-take, get_or_past, get_or-drop}
 use Rattle.sqz_object.specs.declared.order.Order.{Order}
 use Rattle.sqz_object.specs.Bytes.{words_of}
 use Rattle.sqz_object.specs.Partition.{IsPartition}
@@ -15,7 +15,8 @@ use Rattle.sqz_image.specs.declared.fault.Fault.{Fault}
 use Rattle.sqz_image.specs.declared.fault.Fault.TheVariants.{TooShort, BadVersion, BadHeaderSize, BadDataSize}
 use Rattle.sqz_image.specs.declared.fault.Fault.TheVariants.{BadBase, Truncated, OutOfMemory}
 use Rattle.sqz_image.specs.File.{header_size, order_of, prefix_of, image_bytes, header_of, stated_header_size}
-use Rattle.sqz_image.specs.File.{data_size, base_address, special_address, data_of}
+use Rattle.sqz_image.specs.File.{header_offset, data_size, base_address, special_address, data_of, IsHeader}
+use Rattle.sqz_image.specs.declared.header.Header.{Header}
 use Rattle.sqz_image.specs.Objects.{SavedImage}
 use Rattle.sqz_image.specs.Refusals.{header_fault, fault_in_order, header_bytes_fault, file_fault, HasChunks, Holds}
 use Rattle.sqz_image.specs.Refusals.{IsUnreadable}
@@ -182,6 +183,34 @@ module _ (file header : List ℕ) (order : Order)
       → ((fault ≡ OutOfMemory) × (file_fault file ≡ None)) ⊎ IsUnreadable file fault
   refused-memory fault (inl none) = inl (none, sound)
   refused-memory fault (inr missing) = inr (IsUnreadable-memory fault missing)
+
+-- ---- the data of a file with a header that has no fault
+
+module _ (file : List ℕ) (header : Header) (is : IsHeader file header) (sound : file_fault file ≡ None) where
+  module _ (size : ℕ) (is_size : size ≡ data_size header.words) where
+    -- the data lie in the file
+    pub data_end : header.offset + 64 + size ≤ length file
+    data_end =
+        let room = data_inside (image_bytes file) header.words header.order sound is.order is.words in
+        let at = is.offset in
+        let long = is.long in
+        omega (arith, room, at, long, is_size, length-drop {A = ℕ} (header_offset file) file)
+
+    -- their words
+    pub data_words_are : words_of header.order (take (header.offset + 64 + size - (header.offset + 64)) (drop (header.offset + 64) file))
+        ≡ data_of header.order (image_bytes file)
+    data_words_are =
+        let same : header.offset + 64 + size - (header.offset + 64) ≡ data_size header.words = omega (arith, is_size) in
+        ap (λ (n : ℕ). words_of header.order (take n (drop (header.offset + 64) file))) same
+        ∙ ap (λ (bytes : List ℕ). words_of header.order (take (data_size header.words) bytes))
+        (sym (drop-drop 64 header.offset file) ∙ ap (λ (n : ℕ). drop 64 (drop n file)) is.offset)
+        ∙ data_is (image_bytes file) header.words header.order sound is.order is.words
+
+  pub file_bounds : ((i : ℕ) → slice_index file i < 256)
+      → HasBounds (data_of header.order (image_bytes file)) (base_address header.words)
+  file_bounds each =
+      data_bounds (image_bytes file) header.words header.order sound is.order is.words
+      (rest_fits file (header_offset file) each)
 
 -- ---- the refusals 1 to 6 are these
 

@@ -1,11 +1,12 @@
 -- An image file: sixteen header words, and the data directly after them. The header is at the
 -- front, or after a prefix.
-use Rattle.std.specs.Prelude.{ℕ, ◌+◌, ◌*◌, ◌<◌, ◌==◌, ◌&&◌, nat_le, if◌then◌else◌, Bool, List, ◌++◌, length, take, drop}
+use Rattle.std.specs.Prelude.{◌≡◌, ◌⊎◌, ℕ, ◌+◌, ◌*◌, ◌<◌, ◌≤◌, ◌==◌, ◌&&◌, nat_le, if◌then◌else◌, Bool, List, ◌++◌, length, take, drop}
 use Rattle.std.specs.Prelude.{slice_index, slice_set, Option, Some, None, is_some}
 use Rattle.std.specs.List.{concat}
 use Rattle.sqz_object.specs.declared.order.Order.{Order}
 use Rattle.sqz_object.specs.declared.order.Order.TheVariants.{Little, Big}
 use Rattle.sqz_object.specs.Bytes.{number_of, words_of, spelling_of}
+use Rattle.sqz_image.specs.declared.header.Header.{Header}
 
 -- the bytes of a file: numbers below 256
 abbrev pub AreBytes : List ℕ → Type 0
@@ -62,6 +63,17 @@ base_address header = slice_index header 3
 
 abbrev pub special_address : List ℕ → ℕ
 special_address header = slice_index header 4
+
+-- the header that a file has: where it is, in which order, and its words
+pub record IsHeader (file : List ℕ) (header : Header) : Type 0 where
+  pub long : header_size ≤ length (image_bytes file)
+  pub offset : header.offset ≡ header_offset file
+  pub order : order_of (image_bytes file) ≡ Some header.order
+  pub words : header.words ≡ header_of header.order (image_bytes file)
+
+-- the file has no header: it is too short, or does not state the version
+abbrev pub HasNoHeader : List ℕ → Type 0
+HasNoHeader file = (length (image_bytes file) < header_size) ⊎ (order_of (image_bytes file) ≡ None)
 
 -- the data words after the header
 abbrev pub data_of : Order → List ℕ → List ℕ

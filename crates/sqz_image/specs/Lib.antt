@@ -8,4 +8,5 @@ pub mod Starts
 pub mod Memory
 pub mod Ranks
 pub mod Index
+pub mod Unread
 pub mod MemoryDevices

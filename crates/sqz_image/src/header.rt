@@ -1,18 +1,19 @@
 //! The header of an image file, and its offset in the file.
 
-ghost use Rattle.std.specs.Prelude.{◌≡◌, ◌⊎◌, ◌≤◌, length, take, IfOk, IfErr, None, Some};
+ghost use Rattle.std.specs.Prelude.{◌≡◌, ◌⊎◌, ◌≤◌, length, take, IfOk, IfErr, Some};
 ghost use Rattle.sqz_object.specs.Bytes.{words_of};
 ghost use Rattle.sqz_image.specs.File.{order_of, prefix_size, header_offset, header_of};
-ghost use Rattle.sqz_image.specs.Refusals.{header_fault, header_bytes_fault};
+ghost use Rattle.sqz_image.specs.File.{IsHeader, HasNoHeader, base_address, data_size, special_address};
+ghost use Rattle.sqz_image.specs.Refusals.{header_fault, file_fault};
 
 use crate::fault::Fault;
-use sqz_object::{Order, word_at};
+use sqz_object::{Address, Order, word_at};
 
 /// The first header word of a supported image.
 const VERSION: u32 = 6502;
 
 /// The size of the header in bytes.
-pub(crate) const HEADER_SIZE: usize = 64;
+pub const HEADER_SIZE: usize = 64;
 
 /// The size of the header in words.
 pub(crate) const HEADER_WORDS: usize = 16;
@@ -21,7 +22,7 @@ pub(crate) const HEADER_WORDS: usize = 16;
 const HEADER_SIZE_WORD: usize = 1;
 
 /// The index of the header word that holds the size of the data in bytes.
-pub const DATA_SIZE_WORD: usize = 2;
+pub(crate) const DATA_SIZE_WORD: usize = 2;
 
 /// The index of the header word that holds the address of the first data word.
 pub(crate) const BASE_WORD: usize = 3;
@@ -32,11 +33,69 @@ pub(crate) const SPECIAL_WORD: usize = 4;
 /// The number of bytes before the header, if the header does not begin the file.
 const PREFIX_SIZE: usize = 512;
 
-/// The header of a file, and its byte order.
-#[derive(Clone, Copy)]
-pub(crate) struct Header {
+/// The header of an image file.
+#[derive(Clone, Copy, Debug, PartialEq, Eq)]
+pub struct Header {
+    /// The byte order of the file.
     pub order: Order,
+    /// The offset of the header in the file in bytes: 0, or 512.
+    pub offset: usize,
+    /// The sixteen header words.
     pub words: [u32; HEADER_WORDS],
+}
+
+impl Header {
+    /// Returns the header of a file, whatever sizes and addresses it states. Fails with `TooShort`
+    /// or `BadVersion` if the file has none.
+    pub fn of(file: &[u8]) -> Result<Self, Fault>
+        ensures header { IfOk result (IsHeader file.now) }
+        ensures fault { IfErr result (λ fault. file_fault file.now ≡ Some fault) }
+        ensures none { IfErr result (λ fault. HasNoHeader file.now) }
+    {
+        let offset = header_offset(file);
+        let bytes = &file[offset..];
+        if bytes.len() < HEADER_SIZE {
+            return Err(Fault::TooShort);
+        }
+        let Some(order) = order_of(bytes) else {
+            return Err(Fault::BadVersion);
+        };
+        let words = header_words(order, bytes);
+        Ok(Header {
+            order,
+            offset,
+            words,
+        })
+    }
+
+    /// Returns the address of the first data word that the header states.
+    pub fn base(&self) -> Address
+        ensures { result ≡ base_address self.now.words }
+    {
+        self.words[BASE_WORD]
+    }
+
+    /// Returns the size of the data in bytes that the header states.
+    pub fn data_size(&self) -> u32
+        ensures { result ≡ data_size self.now.words }
+    {
+        self.words[DATA_SIZE_WORD]
+    }
+
+    /// Returns the address of the special objects array that the header states.
+    pub fn special(&self) -> Address
+        ensures { result ≡ special_address self.now.words }
+    {
+        self.words[SPECIAL_WORD]
+    }
+
+    /// Returns the first fault of the header of a file, if it has one.
+    pub(crate) fn fault(&self, file: &[u8]) -> Option<Fault>
+        requires { IsHeader file.now self.now }
+        ensures { result ≡ file_fault file.now }
+    {
+        header_fault(&self.words, file.len() - self.offset)
+    }
 }
 
 /// Returns the byte order in which the first word is the version, if there is one.
@@ -55,7 +114,7 @@ fn order_of(bytes: &[u8]) -> Option<Order>
 
 /// Returns the offset of the header in bytes: 512 if the version is at offset 512, in either byte
 /// order, and not at offset 0; else 0.
-pub(crate) fn header_offset(file: &[u8]) -> usize
+fn header_offset(file: &[u8]) -> usize
     ensures offset { result ≡ header_offset file.now }
     ensures inside { result ≤ length file.now }
     ensures one_of { (result ≡ 0) ⊎ (result ≡ prefix_size) }
@@ -103,24 +162,4 @@ fn header_fault(words: &[u32; HEADER_WORDS], bytes: usize) -> Option<Fault>
         return Some(Fault::Truncated);
     }
     None
-}
-
-/// Returns the header that the bytes begin with, or the first fault that it has.
-pub(crate) fn read_header(bytes: &[u8]) -> Result<Header, Fault>
-    ensures sound { IfOk result (λ header. header_bytes_fault bytes.now ≡ None) }
-    ensures order { IfOk result (λ header. order_of bytes.now ≡ Some header.order) }
-    ensures words { IfOk result (λ header. header.words ≡ header_of header.order bytes.now) }
-    ensures fault { IfErr result (λ fault. header_bytes_fault bytes.now ≡ Some fault) }
-{
-    if bytes.len() < HEADER_SIZE {
-        return Err(Fault::TooShort);
-    }
-    let Some(order) = order_of(bytes) else {
-        return Err(Fault::BadVersion);
-    };
-    let words = header_words(order, bytes);
-    match header_fault(&words, bytes.len()) {
-        Some(fault) => Err(fault),
-        None => Ok(Header { order, words }),
-    }
 }

@@ -9,7 +9,7 @@ ghost use Rattle.sqz_object.specs.Chunk.{fields, IsChunk};
 ghost use Rattle.sqz_object.specs.Reading.{description};
 ghost use Rattle.sqz_image.specs.declared.fault.Fault.TheVariants.{OutOfMemory};
 ghost use Rattle.sqz_image.specs.Objects.{object_count, object_at, address_of, chunk_words, find};
-ghost use Rattle.sqz_image.specs.Memory.{IsWholeMemory, IsNoMemory};
+ghost use Rattle.sqz_image.specs.Memory.{memory_of, IsKept, IsNoMemory};
 ghost use Rattle.sqz_image.specs.Ranks.{IsPlaceOf, IsRanked, IsTable};
 
 use crate::data_bytes::DataBytes;
@@ -53,8 +53,19 @@ impl Model for Heap {
         (words_of heap.order heap.bytes) heap.starts.items heap.headers.items heap.special_object };
 }
 
-impl Heap {
-    /// Returns the object memory with these data.
+/// Where the objects of an object memory lie among its data words.
+#[derive(Drop)]
+pub(crate) struct HeapIndex {
+    /// Where each object's chunk begins.
+    starts: Vec<Start>,
+    /// The table of the word indexes of the base headers.
+    headers: Vec<Block>,
+    /// The index of the special objects array.
+    special_object: ObjectIndex,
+}
+
+impl HeapIndex {
+    /// Returns where the objects lie that these data bytes encode.
     ///
     /// Fails with `ZeroSize`, `HeaderMismatch` or `Overrun` if the data words are not a sequence
     /// of chunks, and with `BadSpecialObjects` if no object has the address `special`. Otherwise
@@ -64,31 +75,54 @@ impl Heap {
         order: Order,
         base: Address,
         special: Address,
-        bytes: DataBytes,
+        bytes: &[u8],
     ) -> Result<Self, Fault>
-        requires few { length (words_of order bytes) < 2 ^ 30 }
-        requires within { base + 4 * length (words_of order bytes) ≤ 2 ^ 32 }
+        requires few { length (words_of order bytes.now) < 2 ^ 30 }
+        requires within { base + 4 * length (words_of order bytes.now) ≤ 2 ^ 32 }
         requires aligned { base % 4 ≡ 0 }
-        ensures heap { IfOk result (λ heap.
-            IsWholeMemory order base special (words_of order bytes) heap) }
+        ensures kept { IfOk result (λ index.
+            IsKept (memory_of order base special (words_of order bytes.now))
+            (words_of order bytes.now) index.starts.items index.headers.items
+            index.special_object) }
         ensures refused { IfErr result (λ fault. (fault ≡ OutOfMemory)
-            ⊎ IsNoMemory order base special (words_of order bytes) fault) }
+            ⊎ IsNoMemory order base special (words_of order bytes.now) fault) }
     {
-        let words = Words::of(order, bytes.as_slice());
+        let words = Words::of(order, bytes);
         let index = index_of(alloc, &words)?;
         let Index { starts, headers } = index;
         let Some(special_object) = place_at(&headers, base, special) else {
             return Err(Fault::BadSpecialObjects);
         };
-        Ok(Heap {
+        Ok(HeapIndex {
+            starts,
+            headers,
+            special_object,
+        })
+    }
+}
+
+impl Heap {
+    /// Returns the object memory with these data, whose objects lie where an index says.
+    pub(crate) fn of(
+        order: Order,
+        base: Address,
+        special: Address,
+        bytes: DataBytes,
+        index: HeapIndex,
+    ) -> Self
+        requires { IsKept (memory_of order base special (words_of order bytes))
+            (words_of order bytes) index.starts.items index.headers.items index.special_object }
+        ensures { result ≡ memory_of order base special (words_of order bytes) }
+    {
+        Heap {
             order,
             base,
             special,
-            special_object,
+            special_object: index.special_object,
             bytes,
-            starts,
-            headers,
-        })
+            starts: index.starts,
+            headers: index.headers,
+        }
     }
 
     /// Returns the data words, free chunks included.

@@ -5,6 +5,7 @@
 mod data_bytes;
 mod device;
 mod fault;
+mod file_parts;
 mod header;
 mod heap;
 mod image;
@@ -28,7 +29,7 @@ mod writing;
 
 pub use device::{DeviceFault, Sink, Source};
 pub use fault::Fault;
-pub use header::DATA_SIZE_WORD;
+pub use header::{HEADER_SIZE, Header};
 pub use heap::Heap;
 pub use image::Image;
 pub use memory_sink::MemorySink;
@@ -36,7 +37,7 @@ pub use memory_source::MemorySource;
 pub use object::Object;
 pub use read_source::ReadSource;
 pub use read_whole::read_all;
-pub use reading::{image_of_file, read_image};
+pub use reading::{UnreadFile, image_of_file, image_or_file, read_image};
 pub use sink_calls::SinkCalls;
 pub use slot::Slot;
 pub use write_sink::WriteSink;

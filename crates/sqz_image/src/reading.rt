@@ -3,16 +3,24 @@
 ghost use Rattle.std.specs.Prelude.{◌≡◌, ◌⊎◌, IfOk, IfErr, None};
 ghost use Rattle.sqz_image.specs.declared.fault.Fault.TheVariants.{OutOfMemory};
 ghost use Rattle.sqz_image.specs.Refusals.{file_fault, Holds, IsUnreadable};
+ghost use Rattle.sqz_image.specs.Unread.{IsUnread};
 
-use crate::data_bytes::DataBytes;
 use crate::fault::Fault;
-use crate::header::{
-    BASE_WORD, DATA_SIZE_WORD, HEADER_SIZE, SPECIAL_WORD, header_offset, read_header,
-};
-use crate::heap::Heap;
+use crate::file_parts::parts_of;
+use crate::header::Header;
 use crate::image::Image;
-use crate::laws::byte_bounds;
 use std::alloc::Global;
+
+/// A file that holds no image, or whose image could not be kept in memory.
+#[derive(Drop)]
+pub struct UnreadFile {
+    /// Why there is no image.
+    pub fault: Fault,
+    /// The header, if the file has one.
+    pub header: Option<Header>,
+    /// The bytes of the file.
+    pub bytes: Vec<u8>,
+}
 
 /// Returns the image that the bytes of a file hold, over a copy of them. The header is at offset
 /// 0, or at offset 512; the image keeps the 512 bytes before it. Bytes after the data are ignored.
@@ -27,7 +35,9 @@ pub fn read_image(alloc: Global, bytes: &[u8]) -> Result<Image, Fault>
         ((fault ≡ OutOfMemory) × (file_fault bytes.now ≡ None)) ⊎ IsUnreadable bytes.now fault) }
 {
     // the copy is made only if the header is sound
-    read_header(&bytes[header_offset(bytes)..])?;
+    if let Some(fault) = Header::of(bytes)?.fault(bytes) {
+        return Err(fault);
+    }
     let file = Vec::from_slice(alloc, bytes)?;
     image_of_file(alloc, file)
 }
@@ -39,15 +49,34 @@ pub fn image_of_file(alloc: Global, file: Vec<u8>) -> Result<Image, Fault>
     ensures refused { IfErr result (λ fault.
         ((fault ≡ OutOfMemory) × (file_fault file.items ≡ None)) ⊎ IsUnreadable file.items fault) }
 {
-    byte_bounds(&file); // each byte is below 256
-    let offset = header_offset(&file);
-    let header = read_header(&file[offset..])?;
-    let prefix = Vec::from_slice(alloc, &file[..offset])?;
-    let start = offset + HEADER_SIZE;
-    let size = header.words[DATA_SIZE_WORD] as usize;
-    let bytes = DataBytes::of(file, start, start + size);
-    let base = header.words[BASE_WORD];
-    let special = header.words[SPECIAL_WORD];
-    let heap = Heap::of(alloc, header.order, base, special, bytes)?;
-    Ok(Image::new(prefix, header.words, heap))
+    match image_or_file(alloc, file) {
+        Ok(image) => Ok(image),
+        Err(unread) => Err(unread.fault),
+    }
+}
+
+/// Returns the image that a file holds, without copying, or the bytes of the file with the reason.
+/// Fails as `read_image` does.
+pub fn image_or_file(alloc: Global, file: Vec<u8>) -> Result<Image, UnreadFile>
+    ensures image { IfOk result (λ image. Holds file.items image) }
+    ensures refused { IfErr result (IsUnread file.items) }
+{
+    let header = match Header::of(&file) {
+        Ok(header) => header,
+        Err(fault) => {
+            return Err(UnreadFile {
+                fault,
+                header: None,
+                bytes: file,
+            });
+        }
+    };
+    match parts_of(alloc, &header, &file) {
+        Ok(parts) => Ok(parts.image(file)),
+        Err(fault) => Err(UnreadFile {
+            fault,
+            header: Some(header),
+            bytes: file,
+        }),
+    }
 }

@@ -18,7 +18,7 @@ use crate::session::Session;
 use crate::summary::Summary;
 use sqz_census::{census, print};
 use sqz_image::laws::heap_bounds;
-use sqz_image::{DATA_SIZE_WORD, Fault, Heap, Image};
+use sqz_image::{Fault, Heap, Image};
 use sqz_object::Address;
 use sqz_regions::{Forward, Regions, bases};
 use sqz_slide::{Pieces, slide};
@@ -26,6 +26,9 @@ use sqz_trace::{Marks, first_defect, lacks_nil};
 use sqz_workers::{Gate, Marked, mark};
 use std::alloc::Global;
 use std::thread::Threads;
+
+/// The index of the header word that holds the size of the data in bytes.
+const DATA_SIZE_WORD: u32 = 2;
 
 /// The data of a compacted image, and what its header states about them.
 #[derive(Drop)]
@@ -149,7 +152,7 @@ fn move_live_objects<T: Threads + Sync, G: Gate, O: StageObserver>(
     let summary = Summary {
         objects: heap.len(),
         kept: marked.marks.count(),
-        data_before: image.header(DATA_SIZE_WORD as u32),
+        data_before: image.header(DATA_SIZE_WORD),
         data_after: 4 * total(&marked.live_words),
     };
     Ok(Compaction {
