@@ -1,27 +1,44 @@
-//! The bytes of byte objects.
+//! Byte objects and compiled methods.
 
-use sqz_image::{Heap, Object};
-use sqz_object::{Layout, ObjectIndex, put_word};
+ghost use Rattle.std.specs.Prelude.{◌≡◌, ◌<◌, IfOk, IsTrue};
+ghost use Rattle.sqz_image.specs.Objects.{object_count};
+ghost use Rattle.sqz_names.specs.Structures.{is_bytes, is_method, HasText};
 
-/// Returns whether the fields of an object are bytes.
-pub fn has_bytes(object: &Object<'_>) -> bool {
-    matches!(object.layout(), Layout::Bytes { .. })
+use sqz_histogram::first_bytes;
+use sqz_image::Heap;
+use sqz_object::{Layout, ObjectIndex};
+use std::alloc::{AllocError, Global};
+
+/// Returns whether an object is a byte object.
+pub(crate) fn is_bytes(heap: &Heap, object: ObjectIndex) -> bool
+    requires { object < object_count heap.now }
+    ensures { result ≡ is_bytes heap.now object }
+{
+    matches!(heap.object(object).layout(), Layout::Bytes { .. })
 }
 
-/// Returns whether an object is a byte object with these bytes. Their number is compared first,
-/// and no byte is copied.
-pub(crate) fn spells(heap: &Heap, object: ObjectIndex, text: &[u8]) -> bool {
-    if object >= heap.len() {
-        return false;
+/// Returns whether an object is a compiled method.
+pub(crate) fn is_method(heap: &Heap, object: ObjectIndex) -> bool
+    requires { object < object_count heap.now }
+    ensures { result ≡ is_method heap.now object }
+{
+    matches!(heap.object(object).layout(), Layout::Method)
+}
+
+/// Returns whether an object is a byte object with these bytes.
+pub(crate) fn spells(
+    alloc: Global,
+    heap: &Heap,
+    object: ObjectIndex,
+    text: &str,
+) -> Result<bool, AllocError>
+    requires { object < object_count heap.now }
+    ensures { IfOk result (λ is. IsTrue is → HasText heap.now text.now object) }
+{
+    let text = text.as_bytes();
+    // one byte more tells a longer object apart
+    match first_bytes(alloc, heap.order(), &heap.object(object), text.len() + 1)? {
+        Some(bytes) => Ok(bytes.as_slice() == text),
+        None => Ok(false),
     }
-    let object = heap.object(object);
-    let Layout::Bytes { unused } = object.layout() else {
-        return false;
-    };
-    let fields = object.fields();
-    let count = (4 * fields.len()).saturating_sub(unused as usize);
-    count == text.len()
-        && fields.iter().zip(text.chunks(4)).all(|(word, piece)| {
-            put_word(heap.order(), word).starts_with(piece)
-        })
 }

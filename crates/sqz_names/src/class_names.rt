@@ -1,22 +1,13 @@
 //! The names of classes.
 
-ghost use Rattle.std.specs.Prelude.{◌<◌, IfSome};
+ghost use Rattle.std.specs.Prelude.{◌≡◌, ◌<◌, IfOk, option_map};
 ghost use Rattle.sqz_image.specs.Objects.{object_count};
+ghost use Rattle.sqz_names.specs.Structures.{class_name_of};
 
 use sqz_histogram::{class_name, compact_name};
 use sqz_object::{ObjectIndex, base_of};
 use sqz_trace::ObjectGraph;
 use std::alloc::{AllocError, Global};
-
-/// Returns the class of an object. None also if there is no such object.
-pub fn class_at(graph: ObjectGraph<'_>, object: ObjectIndex) -> Option<ObjectIndex>
-    ensures inside { IfSome result (λ class. class < object_count graph.entry.heap.now) }
-{
-    if object >= graph.heap.len() {
-        return None;
-    }
-    graph.class_of(object)
-}
 
 /// Returns the name of an object's class as a class histogram prints it, and `compact K` with the
 /// compact index if the object has no class.
@@ -24,12 +15,11 @@ pub fn name_of_class_of(
     alloc: Global,
     graph: ObjectGraph<'_>,
     object: ObjectIndex,
-) -> Result<String, AllocError> {
-    if object >= graph.heap.len() {
-        return String::from_str(alloc, "?");
-    }
-    match graph.class_of(object) {
-        Some(class) => name_of_class(alloc, graph, class),
+) -> Result<String, AllocError>
+    requires { object < object_count graph.heap.now }
+{
+    match class_name_of(alloc, graph, object)? {
+        Some(name) => ascii(alloc, &name),
         None => {
             let base = base_of(graph.heap.chunk(object).base);
             ascii(alloc, &compact_name(alloc, base.compact)?)
@@ -42,12 +32,28 @@ pub fn name_of_class(
     alloc: Global,
     graph: ObjectGraph<'_>,
     class: ObjectIndex,
-) -> Result<String, AllocError> {
-    if class >= graph.heap.len() {
-        return String::from_str(alloc, "?");
-    }
+) -> Result<String, AllocError>
+    requires { class < object_count graph.heap.now }
+{
     let name = class_name(alloc, graph, class)?;
     ascii(alloc, &name)
+}
+
+/// Returns the name of an object's class as a class histogram prints it, in ASCII characters. None
+/// if the object has no class.
+pub(crate) fn class_name_of(
+    alloc: Global,
+    graph: ObjectGraph<'_>,
+    object: ObjectIndex,
+) -> Result<Option<Vec<u8>>, AllocError>
+    requires { object < object_count graph.heap.now }
+    ensures { IfOk result (λ name. option_map (λ name. name.items) name
+        ≡ class_name_of graph.entry.heap.now graph.entry.weak object) }
+{
+    match graph.class_of(object) {
+        Some(class) => Ok(Some(class_name(alloc, graph, class)?)),
+        None => Ok(None),
+    }
 }
 
 /// Returns ASCII characters as a string.

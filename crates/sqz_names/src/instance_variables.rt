@@ -1,16 +1,17 @@
 //! The names of instance variables.
 
-use crate::bytes::has_bytes;
-use crate::fields::{field_target, fixed_fields};
+ghost use Rattle.std.specs.Prelude.{◌≡◌, ◌<◌, ◌∷◌, length, All, IfOk, IfSome, IsTrue, Some};
+ghost use Rattle.sqz_image.specs.Objects.{object_count};
+ghost use Rattle.sqz_trace.specs.Strong.{fixed_by};
+ghost use Rattle.sqz_names.specs.Names.{IsTextObject};
+
+use crate::bytes::is_bytes;
+use crate::fields::{INSTANCE_VARIABLES, SUPERCLASS};
 use crate::names::Names;
+use crate::targets::field_target;
 use sqz_object::ObjectIndex;
+use sqz_trace::fixed_by;
 use std::alloc::AllocError;
-
-/// The field of a class that points to its superclass.
-const SUPERCLASS: u32 = 0;
-
-/// The field of a class that points to the array of the names of its instance variables.
-const VARIABLES: u32 = 3;
 
 /// The maximum number of classes that are followed from a class up, counting the class itself.
 const MOST_CLASSES: u32 = 100;
@@ -22,15 +23,22 @@ impl Names<'_> {
     pub fn instance_variables(
         &self,
         class: ObjectIndex,
-    ) -> Result<Option<Vec<ObjectIndex>>, AllocError> {
-        let Some(fixed) = fixed_fields(self.graph.heap, class) else {
+    ) -> Result<Option<Vec<ObjectIndex>>, AllocError>
+        requires { class < object_count self.now.graph.heap.now }
+        ensures texts { IfOk result (λ names. IfSome names (λ names.
+            All (IsTextObject self.now.graph.heap.now) names.items)) }
+        ensures one_each { IfOk result (λ names. IfSome names (λ names.
+            fixed_by self.now.graph.heap.now (Some class) ≡ Some (length names.items))) }
+    {
+        let Some(fixed) = fixed_by(self.graph.heap, Some(class)) else {
             return Ok(None);
         };
-        let Some(arrays) = self.name_arrays(class, fixed)? else {
+        let Some(mut arrays) = self.name_arrays(class, fixed)? else {
             return Ok(None);
         };
+        arrays.reverse(); // those of the highest class first
         let mut names = Vec::new(self.alloc);
-        for array in arrays.iter().rev() {
+        for array in &arrays {
             if !self.push_names(*array, &mut names)? {
                 return Ok(None);
             }
@@ -44,7 +52,11 @@ impl Names<'_> {
         &self,
         class: ObjectIndex,
         most: u32,
-    ) -> Result<Option<Vec<ObjectIndex>>, AllocError> {
+    ) -> Result<Option<Vec<ObjectIndex>>, AllocError>
+        requires { class < object_count self.now.graph.heap.now }
+        ensures { IfOk result (λ arrays. IfSome arrays (λ arrays.
+            All (λ array. array < object_count self.now.graph.heap.now) arrays.items)) }
+    {
         let mut arrays = Vec::new(self.alloc);
         let mut count = 0u32;
         let mut next = Some(class);
@@ -52,7 +64,7 @@ impl Names<'_> {
             let Some(class) = next else {
                 break;
             };
-            if let Some(array) = field_target(self.graph.heap, class, VARIABLES) {
+            if let Some(array) = field_target(self.graph.heap, class, INSTANCE_VARIABLES) {
                 count = count.saturating_add(self.graph.heap.fields(array));
                 arrays.push(array)?;
             }
@@ -69,13 +81,14 @@ impl Names<'_> {
         &self,
         array: ObjectIndex,
         names: &mut Vec<ObjectIndex>,
-    ) -> Result<bool, AllocError> {
-        if array >= self.graph.heap.len() {
-            return Ok(false);
-        }
+    ) -> Result<bool, AllocError>
+        requires inside { array < object_count self.now.graph.heap.now }
+        requires texts { All (IsTextObject self.now.graph.heap.now) names.old.items }
+        ensures { All (IsTextObject self.now.graph.heap.now) names.new.items }
+    {
         for field in 0..self.graph.heap.fields(array) {
             match field_target(self.graph.heap, array, field) {
-                Some(name) if has_bytes(&self.graph.heap.object(name)) => names.push(name)?,
+                Some(name) if is_bytes(self.graph.heap, name) => names.push(name)?,
                 _ => return Ok(false),
             }
         }

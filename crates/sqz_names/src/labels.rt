@@ -1,193 +1,136 @@
-//! The label of an object.
+//! What an object is to a Smalltalker.
 
-use crate::bytes::has_bytes;
-use crate::escape::push_escaped;
-use crate::fields::field_target;
-use crate::names::Names;
-use crate::role::Role;
-use crate::variables::GLOBALS;
-use sqz_histogram::{first_bytes, known_class_name};
-use sqz_object::{ObjectIndex, base_of};
+ghost use Rattle.std.specs.Prelude.{◌≡◌, ◌<◌, IfOk, IfSome, IsTrue};
+ghost use Rattle.sqz_image.specs.Objects.{object_count};
+ghost use Rattle.sqz_names.specs.Known.{IsKnown};
+ghost use Rattle.sqz_names.specs.Labels.{IsInside, IsLabel};
+
+use crate::bytes::is_bytes;
+use crate::class_names::class_name_of;
+use crate::known::Known;
+use crate::label::Label;
+use crate::names::{Names, has_own_name};
+use crate::targets::field_target;
+use sqz_histogram::known_class_name;
+use sqz_object::ObjectIndex;
 use std::alloc::AllocError;
 
-/// The maximum number of bytes of a string, symbol, key or selector in a label.
-const MOST_BYTES: usize = 40;
-
-/// The format of objects that have indexed fields alone.
-const INDEXED: u32 = 2;
-
-/// The objects that every image has: the field of the special objects array that points to each,
-/// the name of its class, and its own name.
-const KNOWN: [(u32, &str, &str); 4] = [
-    (0, "UndefinedObject", "nil"),
-    (1, "False", "false"),
-    (2, "True", "true"),
-    (GLOBALS, "SystemDictionary", "Smalltalk"),
-];
-
 impl Names<'_> {
-    /// Returns what an object is to a Smalltalker.
-    pub fn role(&self, object: ObjectIndex) -> Result<Role, AllocError> {
+    /// Returns what an object is to a Smalltalker. A label that is given is what the image's
+    /// structures state; an object that fits several has the first of them, in the order of
+    /// `Label`.
+    pub fn label_of(&self, object: ObjectIndex) -> Result<Label, AllocError>
+        requires { object < object_count self.now.graph.heap.now }
+        ensures label { IfOk result (λ label.
+            IsLabel self.now.graph.heap.now self.now.graph.weak object label) }
+        ensures inside { IfOk result (λ label.
+            IsInside (object_count self.now.graph.heap.now) label) }
+    {
         if object == self.graph.heap.special() {
-            return Ok(Role::SpecialObjects);
+            return Ok(Label::SpecialObjects);
         }
         if let Some(known) = self.known(object)? {
-            return Ok(Role::Known(known));
+            return Ok(Label::Known(known));
         }
-        if let Some(class) = self.class_role(object)? {
-            return Ok(class);
+        if let Some(label) = self.class_label(object)? {
+            return Ok(label);
         }
-        if let Some(named) = self.named_role(object) {
-            return Ok(named);
+        if let Some(label) = self.named_label(object) {
+            return Ok(label);
         }
-        self.text_role(object)
+        self.text_label(object)
     }
 
-    /// Returns the label of an object: its name if it has one, else the name of its class and its
-    /// address.
-    pub fn label(&self, object: ObjectIndex) -> Result<String, AllocError> {
-        let alloc = self.alloc;
-        match self.role(object)? {
-            Role::SpecialObjects => String::from_str(alloc, "special objects array"),
-            Role::Known(name) => String::from_str(alloc, name),
-            Role::Class => {
-                let name = self.name_of_class(object)?;
-                format!(in alloc; "class {name}")
-            }
-            Role::Metaclass => self.name_of_class(object),
-            Role::Method { class, selector } => {
-                let (class, selector) = (self.name_of_class(class)?, self.text(selector)?);
-                format!(in alloc; "{class}>>{selector}")
-            }
-            Role::Global { key } => {
-                let key = self.text(key)?;
-                format!(in alloc; "Smalltalk at: #{key}")
-            }
-            Role::ClassVariable { class, key } => {
-                let (class, key) = (self.name_of_class(class)?, self.text(key)?);
-                format!(in alloc; "{class} class variable {key}")
-            }
-            Role::String => self.quoted(object),
-            Role::Symbol => {
-                let text = self.text(object)?;
-                format!(in alloc; "#{text}")
-            }
-            Role::Other => self.class_and_address(object),
-        }
-    }
-
-    /// Returns the label of an object for a text that also has its address: its name if it has
-    /// one, else the name of its class, with the number of its fields if all of them are indexed.
-    pub fn short_label(&self, object: ObjectIndex) -> Result<String, AllocError> {
-        if self.role(object)? != Role::Other || object >= self.graph.heap.len() {
-            return self.label(object);
-        }
-        let class = self.name_of_class_of(object)?;
-        if base_of(self.graph.heap.chunk(object).base).format != INDEXED {
-            return Ok(class);
-        }
-        let count = self.graph.heap.fields(object);
-        format!(in self.alloc; "{class}({count})")
-    }
-
-    /// Returns the first bytes of a byte object as text, followed by `..` if there are more. The
-    /// text of any other object is empty.
-    pub fn text(&self, object: ObjectIndex) -> Result<String, AllocError> {
-        self.shown(object, "", false)
-    }
-
-    /// Returns the first bytes of a string in quotes. A quote in it is doubled.
-    fn quoted(&self, object: ObjectIndex) -> Result<String, AllocError> {
-        self.shown(object, "'", true)
-    }
-
-    /// Returns the first bytes of a byte object as text, with `quote` before and after it.
-    fn shown(
-        &self,
-        object: ObjectIndex,
-        quote: &str,
-        doubles_quotes: bool,
-    ) -> Result<String, AllocError> {
-        let mut text = String::from_str(self.alloc, quote)?;
-        if object >= self.graph.heap.len() {
-            return Ok(text);
-        }
-        let chunk = self.graph.heap.object(object);
-        let bytes = first_bytes(self.alloc, self.graph.heap.order(), &chunk, MOST_BYTES + 1)?;
-        let bytes = bytes.unwrap_or(Vec::new(self.alloc));
-        for byte in bytes.iter().take(MOST_BYTES) {
-            if doubles_quotes && *byte == b'\'' {
-                text.push('\'')?;
-            }
-            push_escaped(&mut text, *byte)?;
-        }
-        text.push_str(quote)?;
-        if bytes.len() > MOST_BYTES {
-            text.push_str("..")?;
-        }
-        Ok(text)
-    }
-
-    /// Returns the name of the object's class and its address.
-    fn class_and_address(&self, object: ObjectIndex) -> Result<String, AllocError> {
-        let class = self.name_of_class_of(object)?;
-        if object >= self.graph.heap.len() {
-            return Ok(class);
-        }
-        let address = self.graph.heap.address(object);
-        format!(in self.alloc; "{class} {address:08x}")
-    }
-
-    /// Returns the name of one of the objects that every image has.
-    fn known(&self, object: ObjectIndex) -> Result<Option<&'static str>, AllocError> {
-        for (field, class, name) in KNOWN {
-            let found = field_target(self.graph.heap, self.graph.heap.special(), field);
-            if found == Some(object) && self.name_of_class_of(object)?.as_str() == class {
-                return Ok(Some(name));
+    /// Returns which of the objects that every image has an object is.
+    fn known(&self, object: ObjectIndex) -> Result<Option<Known>, AllocError>
+        requires { object < object_count self.now.graph.heap.now }
+        ensures { IfOk result (λ known. IfSome known (λ known.
+            IsKnown self.now.graph.heap.now self.now.graph.weak known object)) }
+    {
+        for known in Known::ALL {
+            if self.is_known(known, object)? {
+                return Ok(Some(known));
             }
         }
         Ok(None)
     }
 
-    /// Returns the role of a class that has a name.
-    fn class_role(&self, object: ObjectIndex) -> Result<Option<Role>, AllocError> {
-        if !self.is_class(object) || object >= self.graph.heap.len() {
+    /// Returns whether an object is this one of the objects that every image has.
+    fn is_known(&self, known: Known, object: ObjectIndex) -> Result<bool, AllocError>
+        requires { object < object_count self.now.graph.heap.now }
+        ensures { IfOk result (λ is. IsTrue is
+            → IsKnown self.now.graph.heap.now self.now.graph.weak known object) }
+    {
+        let heap = self.graph.heap;
+        if field_target(heap, heap.special(), known.field()) != Some(object) {
+            return Ok(false);
+        }
+        match class_name_of(self.alloc, self.graph, object)? {
+            Some(name) => Ok(name.as_slice() == known.class_name()),
+            None => Ok(false),
+        }
+    }
+
+    /// Returns the label of a class that has a name.
+    fn class_label(&self, object: ObjectIndex) -> Result<Option<Label>, AllocError>
+        requires { object < object_count self.now.graph.heap.now }
+        ensures label { IfOk result (λ label. IfSome label
+            (IsLabel self.now.graph.heap.now self.now.graph.weak object)) }
+        ensures inside { IfOk result (λ label. IfSome label
+            (IsInside (object_count self.now.graph.heap.now))) }
+    {
+        if !self.is_class(object) {
             return Ok(None);
         }
         if known_class_name(self.alloc, self.graph, object)?.is_none() {
             return Ok(None);
         }
-        if self.has_own_name(object) {
-            Ok(Some(Role::Class))
+        if has_own_name(self.graph.heap, object) {
+            Ok(Some(Label::Class))
         } else {
-            Ok(Some(Role::Metaclass))
+            Ok(Some(Label::Metaclass))
         }
     }
 
-    /// Returns the role of a method of a class, or of the association of a variable.
-    fn named_role(&self, object: ObjectIndex) -> Option<Role> {
-        if let Some(method) = self.method_name(object) {
-            let (class, selector) = (method.class, method.selector);
-            return Some(Role::Method { class, selector });
+    /// Returns the label of a method of a class, or of the association of a variable.
+    fn named_label(&self, object: ObjectIndex) -> Option<Label>
+        ensures label { IfSome result
+            (IsLabel self.now.graph.heap.now self.now.graph.weak object) }
+        ensures inside { IfSome result (IsInside (object_count self.now.graph.heap.now)) }
+    {
+        if let Some(name) = self.method_name(object) {
+            let (class, selector) = (name.class, name.selector);
+            return Some(Label::Method { class, selector });
         }
-        let variable = self.variable_name(object)?;
-        let key = variable.key;
-        match variable.class {
-            Some(class) => Some(Role::ClassVariable { class, key }),
-            None => Some(Role::Global { key }),
+        let name = self.variable_name(object)?;
+        let key = name.key;
+        match name.class {
+            Some(class) => Some(Label::ClassVariable { class, key }),
+            None => Some(Label::Global { key }),
         }
     }
 
-    /// Returns the role of a string, a symbol or any other object.
-    fn text_role(&self, object: ObjectIndex) -> Result<Role, AllocError> {
-        if object >= self.graph.heap.len() || !has_bytes(&self.graph.heap.object(object)) {
-            return Ok(Role::Other);
+    /// Returns the label of a string, a symbol or any other object.
+    fn text_label(&self, object: ObjectIndex) -> Result<Label, AllocError>
+        requires { object < object_count self.now.graph.heap.now }
+        ensures label { IfOk result (λ label.
+            IsLabel self.now.graph.heap.now self.now.graph.weak object label) }
+        ensures inside { IfOk result (λ label.
+            IsInside (object_count self.now.graph.heap.now) label) }
+    {
+        if !is_bytes(self.graph.heap, object) {
+            return Ok(Label::Other);
         }
-        let class = self.name_of_class_of(object)?;
-        match class.as_str() {
-            "String" | "ByteString" => Ok(Role::String),
-            "Symbol" | "ByteSymbol" => Ok(Role::Symbol),
-            _ => Ok(Role::Other),
+        let Some(name) = class_name_of(self.alloc, self.graph, object)? else {
+            return Ok(Label::Other);
+        };
+        let name = name.as_slice();
+        if name == b"String".as_slice() || name == b"ByteString".as_slice() {
+            return Ok(Label::String);
         }
+        if name == b"Symbol".as_slice() || name == b"ByteSymbol".as_slice() {
+            return Ok(Label::Symbol);
+        }
+        Ok(Label::Other)
     }
 }

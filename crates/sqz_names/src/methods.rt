@@ -1,98 +1,101 @@
 //! The methods that classes have.
 
-ghost use Rattle.std.specs.Prelude.{◌<◌};
+ghost use Rattle.std.specs.Prelude.{◌≡◌, ◌<◌, ℕ, [], length, All, Bool, IfOk, Some, true};
+ghost use Rattle.sqz_image.specs.declared.slot.Slot.TheVariants.{Field};
 ghost use Rattle.sqz_image.specs.Objects.{object_count};
+ghost use Rattle.sqz_trace.specs.Targets.{target};
+ghost use Rattle.sqz_names.specs.Fields.{method_dictionary_field};
+ghost use Rattle.sqz_names.specs.Structures.{IsClass};
+ghost use Rattle.sqz_names.specs.Names.{AreOfClasses, IsMethodName};
 
-use crate::bytes::has_bytes;
-use crate::fields::field_target;
+use crate::bytes::{is_bytes, is_method};
+use crate::fields::{FIRST_SELECTOR, METHOD_DICTIONARY, METHODS};
+use crate::method_name::MethodName;
 use crate::object_set::ObjectSet;
-use sqz_image::Heap;
-use sqz_object::{Layout, ObjectIndex};
+use crate::targets::field_target;
+use sqz_object::ObjectIndex;
+use sqz_trace::ObjectGraph;
 use std::alloc::{AllocError, Global};
-
-/// The field of a class that points to its method dictionary.
-const METHOD_DICTIONARY: u32 = 1;
-
-/// The field of a method dictionary that points to the array of its methods.
-const METHODS: u32 = 1;
-
-/// The field of a method dictionary with its first selector. The method is at the same place in
-/// the array of methods.
-const FIRST_SELECTOR: u32 = 2;
-
-/// A method of a class under a selector.
-#[derive(Clone, Copy, Debug, PartialEq, Eq)]
-pub struct MethodName {
-    /// The compiled method.
-    pub method: ObjectIndex,
-    /// The class in whose method dictionary it is.
-    pub class: ObjectIndex,
-    /// The byte object with the characters of its selector.
-    pub selector: ObjectIndex,
-}
 
 /// The methods of some classes. The methods of a shared dictionary are listed once, for the first
 /// class that was added with it.
 #[derive(Drop)]
 pub(crate) struct MethodsFound<'a> {
-    heap: &'a Heap,
+    pub(crate) graph: ObjectGraph<'a>,
     /// The method dictionaries whose methods were found.
     dictionaries: ObjectSet,
     pub(crate) names: Vec<MethodName>,
+    ghost one_each: { length dictionaries ≡ object_count graph.heap.now },
+    ghost are_methods: { All (IsMethodName graph.heap.now graph.weak) names.items },
 }
 
 impl<'a> MethodsFound<'a> {
     /// Returns the methods of no class.
-    pub(crate) fn none(alloc: Global, heap: &'a Heap) -> Result<Self, AllocError> {
+    pub(crate) fn none(alloc: Global, graph: ObjectGraph<'a>) -> Result<Self, AllocError>
+        ensures graph { IfOk result (λ found. found.graph ≡ graph.entry) }
+        ensures empty { IfOk result (λ found. found.names.items ≡ []) }
+    {
         Ok(MethodsFound {
-            heap,
-            dictionaries: ObjectSet::empty(alloc, heap)?,
+            graph,
+            dictionaries: ObjectSet::empty(alloc, graph.heap)?,
             names: Vec::new(alloc),
         })
     }
 
     /// Adds the methods of a class, in the order of its method dictionary, unless those of the
     /// dictionary were added before.
-    pub(crate) fn add(&mut self, class: ObjectIndex) -> Result<(), AllocError> {
-        let Some(dictionary) = field_target(self.heap, class, METHOD_DICTIONARY) else {
+    pub(crate) fn add(&mut self, class: ObjectIndex) -> Result<(), AllocError>
+        requires inside { class < object_count self.old.graph.heap.now }
+        requires class { IsClass self.old.graph.heap.now self.old.graph.weak class }
+        ensures graph { self.new.graph ≡ self.old.graph }
+        ensures classes { (test : ℕ → Bool) → test class ≡ true
+            → AreOfClasses test self.old.names.items → AreOfClasses test self.new.names.items }
+    {
+        let Some(dictionary) = field_target(self.graph.heap, class, METHOD_DICTIONARY) else {
             return Ok(());
         };
         if !self.dictionaries.insert(dictionary) {
             return Ok(());
         }
-        push_methods(self.heap, class, dictionary, &mut self.names)
+        push_methods(self.graph, class, dictionary, &mut self.names)
     }
 }
 
-/// Appends the methods of a dictionary of a class, in its order.
+/// Appends the methods of a class, in the order of its method dictionary.
 fn push_methods(
-    heap: &Heap,
+    graph: ObjectGraph<'_>,
     class: ObjectIndex,
     dictionary: ObjectIndex,
     found: &mut Vec<MethodName>,
 ) -> Result<(), AllocError>
-    requires { dictionary < object_count heap.now }
+    requires class_inside { class < object_count graph.heap.now }
+    requires class { IsClass graph.heap.now graph.weak class }
+    requires inside { dictionary < object_count graph.heap.now }
+    requires dictionary { target graph.heap.now class (Field method_dictionary_field)
+        ≡ Some dictionary }
+    requires methods { All (IsMethodName graph.heap.now graph.weak) found.old.items }
+    ensures methods { All (IsMethodName graph.entry.heap.now graph.entry.weak) found.new.items }
+    ensures classes { (test : ℕ → Bool) → test class ≡ true
+        → AreOfClasses test found.old.items → AreOfClasses test found.new.items }
 {
-    let Some(array) = field_target(heap, dictionary, METHODS) else {
+    let heap = graph.heap;
+    let Some(methods) = field_target(heap, dictionary, METHODS) else {
         return Ok(());
     };
     for field in FIRST_SELECTOR..heap.fields(dictionary) {
-        let selector = field_target(heap, dictionary, field);
-        let method = field_target(heap, array, field - FIRST_SELECTOR);
-        if let (Some(selector), Some(method)) = (selector, method) {
-            if has_bytes(&heap.object(selector)) && is_method(heap, method) {
-                found.push(MethodName {
-                    method,
-                    class,
-                    selector,
-                })?;
-            }
+        let Some(selector) = field_target(heap, dictionary, field) else {
+            continue;
+        };
+        let Some(method) = field_target(heap, methods, field - FIRST_SELECTOR) else {
+            continue;
+        };
+        if is_bytes(heap, selector) && is_method(heap, method) {
+            found.push(MethodName {
+                method,
+                class,
+                selector,
+            })?;
         }
     }
     Ok(())
-}
-
-/// Returns whether an object is a compiled method.
-fn is_method(heap: &Heap, object: ObjectIndex) -> bool {
-    object < heap.len() && matches!(heap.object(object).layout(), Layout::Method)
 }

@@ -1,24 +1,25 @@
-//! All names of an image.
+//! The names of an image.
 
-ghost use Rattle.std.specs.Prelude.{◌≡◌, ◌<◌, IfOk, IfSome};
+ghost use Rattle.std.specs.Prelude.{◌≡◌, ◌<◌, length, All, IfOk, IsTrue, true};
+ghost use Rattle.std.proofs.Props.{props};
 ghost use Rattle.sqz_image.specs.Objects.{object_count};
+ghost use Rattle.sqz_trace.specs.Graph.{is_marked};
+ghost use Rattle.sqz_names.specs.Structures.{has_own_name, AreClasses, IsClass};
+ghost use Rattle.sqz_names.specs.Names.{AreOfClasses, IsMethodName, IsVariableName};
 
-use crate::bytes::has_bytes;
-use crate::class_names::{class_at, name_of_class, name_of_class_of};
-use crate::fields::field_target;
-use crate::methods::{MethodName, MethodsFound};
+use crate::bytes::is_bytes;
+use crate::class_names::{name_of_class, name_of_class_of};
+use crate::fields::{INSTANCE, NAME};
+use crate::method_name::MethodName;
+use crate::methods::MethodsFound;
 use crate::object_set::ObjectSet;
-use crate::variables::{VariableName, VariablesFound};
+use crate::targets::field_target;
+use crate::variable_name::VariableName;
+use crate::variables::VariablesFound;
 use sqz_image::Heap;
 use sqz_object::ObjectIndex;
 use sqz_trace::{Live, Marks, ObjectGraph};
 use std::alloc::{AllocError, Global};
-
-/// The field of a metaclass that points to its only instance.
-const INSTANCE: u32 = 5;
-
-/// The field of a class that points to its name.
-const NAME: u32 = 6;
 
 /// The names of what an image holds.
 #[derive(Drop)]
@@ -32,6 +33,10 @@ pub struct Names<'a> {
     pub(crate) methods: Vec<MethodName>,
     /// By association, and global variables first. The associations of an array occur once.
     pub(crate) variables: Vec<VariableName>,
+    ghost one_each: { length classes ≡ object_count graph.heap.now },
+    ghost are_classes: { AreClasses graph.heap.now graph.weak classes },
+    ghost are_methods: { All (IsMethodName graph.heap.now graph.weak) methods.items },
+    ghost are_variables: { All (IsVariableName graph.heap.now graph.weak) variables.items } by { Prim.hlevel props },
 }
 
 impl<'a> Names<'a> {
@@ -41,12 +46,11 @@ impl<'a> Names<'a> {
         ensures { IfOk result (λ names. names.graph ≡ live.now.graph) }
     {
         let graph = live.graph;
-        let heap = graph.heap;
         let classes = classes_in(alloc, live)?;
-        let mut methods = MethodsFound::none(alloc, heap)?;
-        let mut variables = VariablesFound::none(alloc, heap)?;
+        let mut methods = MethodsFound::none(alloc, graph)?;
+        let mut variables = VariablesFound::none(alloc, graph)?;
         variables.add(None)?;
-        for class in 0..heap.len() {
+        for class in 0..graph.heap.len() {
             if classes.contains(class) {
                 methods.add(class)?;
                 variables.add(Some(class))?;
@@ -66,8 +70,13 @@ impl<'a> Names<'a> {
 
     /// Returns the methods of the marked classes, sorted by the address of the class. The methods
     /// of a shared dictionary are listed once, for the first class that has it.
-    pub fn methods_of_marked(&self, marks: &Marks) -> Result<Vec<MethodName>, AllocError> {
-        let mut methods = MethodsFound::none(self.alloc, self.graph.heap)?;
+    pub fn methods_of_marked(&self, marks: &Marks) -> Result<Vec<MethodName>, AllocError>
+        ensures methods { IfOk result (λ found.
+            All (IsMethodName self.now.graph.heap.now self.now.graph.weak) found.items) }
+        ensures marked { IfOk result (λ found.
+            AreOfClasses (is_marked marks.now) found.items) }
+    {
+        let mut methods = MethodsFound::none(self.alloc, self.graph)?;
         for class in 0..self.graph.heap.len() {
             if self.classes.contains(class) && marks.has(class) {
                 methods.add(class)?;
@@ -78,41 +87,42 @@ impl<'a> Names<'a> {
 
     /// Returns the global variables and the class variables, by the address of the association. An
     /// association that is in several arrays occurs once for each.
-    pub fn variables(&self) -> &[VariableName] {
+    pub fn variables(&self) -> &[VariableName]
+        ensures { All (IsVariableName self.now.graph.heap.now self.now.graph.weak) result.now }
+    {
         &self.variables
     }
 
     /// Returns whether the object is a class.
-    pub fn is_class(&self, object: ObjectIndex) -> bool {
-        self.classes.contains(object)
-    }
-
-    /// Returns the class of an object. None also if there is no such object.
-    pub fn class_of(&self, object: ObjectIndex) -> Option<ObjectIndex>
-        ensures inside { IfSome result (λ class. class < object_count self.now.graph.heap.now) }
+    pub fn is_class(&self, object: ObjectIndex) -> bool
+        requires { object < object_count self.now.graph.heap.now }
+        ensures { IsTrue result → IsClass self.now.graph.heap.now self.now.graph.weak object }
     {
-        class_at(self.graph, object)
+        self.classes.contains(object)
     }
 
     /// Returns the name of an object's class as a class histogram prints it, and `compact K` with
     /// the compact index if the object has no class.
-    pub fn name_of_class_of(&self, object: ObjectIndex) -> Result<String, AllocError> {
+    pub fn name_of_class_of(&self, object: ObjectIndex) -> Result<String, AllocError>
+        requires { object < object_count self.now.graph.heap.now }
+    {
         name_of_class_of(self.alloc, self.graph, object)
     }
 
     /// Returns the name of a class as a class histogram prints it.
-    pub fn name_of_class(&self, class: ObjectIndex) -> Result<String, AllocError> {
+    pub fn name_of_class(&self, class: ObjectIndex) -> Result<String, AllocError>
+        requires { class < object_count self.now.graph.heap.now }
+    {
         name_of_class(self.alloc, self.graph, class)
-    }
-
-    /// Returns whether field 6 of an object points to a byte object.
-    pub(crate) fn has_own_name(&self, object: ObjectIndex) -> bool {
-        has_own_name(self.graph.heap, object)
     }
 }
 
 /// Returns the classes of an image.
-fn classes_in(alloc: Global, live: &Live<'_>) -> Result<ObjectSet, AllocError> {
+fn classes_in(alloc: Global, live: &Live<'_>) -> Result<ObjectSet, AllocError>
+    ensures sized { IfOk result (λ classes. length classes ≡ object_count live.now.graph.heap.now) }
+    ensures classes { IfOk result (λ classes.
+        AreClasses live.now.graph.heap.now live.now.graph.weak classes) }
+{
     let graph = live.graph;
     let mut classes = ObjectSet::empty(alloc, graph.heap)?;
     for object in 0..graph.heap.len() {
@@ -130,10 +140,13 @@ fn classes_in(alloc: Global, live: &Live<'_>) -> Result<ObjectSet, AllocError> {
     Ok(classes)
 }
 
-/// Returns whether field 6 of an object points to a byte object.
-fn has_own_name(heap: &Heap, object: ObjectIndex) -> bool {
+/// Returns whether an object has a name of its own: whether its name field points to a byte object.
+pub(crate) fn has_own_name(heap: &Heap, object: ObjectIndex) -> bool
+    requires { object < object_count heap.now }
+    ensures { result ≡ has_own_name heap.now object }
+{
     match field_target(heap, object, NAME) {
-        Some(name) => has_bytes(&heap.object(name)),
+        Some(name) => is_bytes(heap, name),
         None => false,
     }
 }

@@ -1,50 +1,64 @@
 //! Sets of objects.
 
-ghost use Rattle.std.specs.Prelude.{◌≡◌, ◌<◌, All, IfOk, IsTrue, slice_set, true, vec_len};
+ghost use Rattle.std.specs.Prelude.{◌≡◌, ◌<◌, false, length, not, replicate, true};
+ghost use Rattle.std.specs.Prelude.{slice_set, All, IfOk};
 ghost use Rattle.sqz_image.specs.Objects.{object_count};
+ghost use Rattle.sqz_trace.specs.Graph.{is_marked};
 
 use sqz_image::Heap;
 use sqz_object::ObjectIndex;
 use std::alloc::{AllocError, Global};
-use std::mem;
+use std::marker::Model;
 
-/// A set of objects of an image: a flag for each object.
+/// A set of objects of an image: a flag for each object. Contracts see the list of the flags.
 #[derive(Drop)]
 pub(crate) struct ObjectSet {
     flags: Vec<bool>,
 }
 
+impl Model for ObjectSet {
+    ghost use Rattle.std.specs.Prelude.{Bool, List};
+
+    ghost Value = { List Bool };
+
+    ghost view = { λ set. set.flags.items };
+}
+
 impl ObjectSet {
     /// Returns the empty set of objects of an image.
     pub(crate) fn empty(alloc: Global, heap: &Heap) -> Result<Self, AllocError>
-        ensures sized { IfOk result (λ set. vec_len set.flags ≡ object_count heap.now) }
+        ensures { IfOk result (λ set. set ≡ replicate (object_count heap.now) false) }
     {
         let flags = vec![in alloc; false; heap.len() as usize]?;
         Ok(ObjectSet { flags })
     }
 
-    /// Adds an object if there is one with this index, and returns whether it was added: whether
-    /// it was not in the set before.
+    /// Adds an object, and returns whether it was not in the set before.
     pub(crate) fn insert(&mut self, object: ObjectIndex) -> bool
-        ensures adds { self.new.flags.items ≡ slice_set self.old.flags.items object true }
+        requires { object < length self.old }
+        ensures adds { self.new ≡ slice_set self.old object true }
+        ensures new { result ≡ not (is_marked self.old object) }
     {
-        match self.flags.get_mut(object as usize) {
-            Some(flag) => !mem::replace(flag, true),
-            None => false,
-        }
+        let was = self.contains(object);
+        self.flags[object as usize] = true;
+        !was
     }
 
     /// Returns whether an object is in the set.
     pub(crate) fn contains(&self, object: ObjectIndex) -> bool
-        ensures inside { IsTrue result → object < vec_len self.now.flags }
+        requires { object < length self.now }
+        ensures { result ≡ is_marked self.now object }
     {
-        self.flags.get(object as usize) == Some(&true)
+        self.flags[object as usize]
     }
 
     /// Returns the objects of the set, by address.
     pub(crate) fn objects(&self, alloc: Global, heap: &Heap) -> Result<Vec<ObjectIndex>, AllocError>
+        requires { length self.now ≡ object_count heap.now }
         ensures inside { IfOk result (λ found.
             All (λ object. object < object_count heap.now) found.items) }
+        ensures members { IfOk result (λ found.
+            All (λ object. is_marked self.now object ≡ true) found.items) }
     {
         let mut found = Vec::new(alloc);
         for object in 0..heap.len() {

@@ -1,0 +1,65 @@
+-- What the layout of an object says of its bytes and of its strong fields.
+-- Serves `bytes::spells` and `ClassLemmas`.
+use Rattle.std.proofs.Common.{◌≡◌, ℕ, ◌+◌, ◌≤◌, Bool, true, false, cond, List, length, take, Option, Some, refl, sym, ap, ◌∙◌, arith}
+use Rattle.std.proofs.lemmas.List.{length-take, take_all}
+use Rattle.std.proofs.lemmas.Option.{none-some, same_Some}
+use Rattle.std.specs.Prelude.{map, option_map}
+use Rattle.sqz_object.specs.declared.order.Order.{Order}
+use Rattle.sqz_object.specs.declared.layout.Layout.{Layout}
+use Rattle.sqz_object.specs.declared.layout.Layout.TheVariants.{Fields, Weak, Context, Words, Bytes, Method}
+use Rattle.sqz_object.specs.Chunk.{fields}
+use Rattle.sqz_object.specs.Layout.{layout, is_weak_layout}
+use Rattle.sqz_image.specs.Objects.{Memory, chunk_words}
+use Rattle.sqz_trace.specs.Slots.{traced_of}
+use Rattle.sqz_trace.specs.Strong.{unless_above}
+use Rattle.sqz_trace.proofs.StrongLemmas.{unless_above-le}
+use Rattle.sqz_histogram.specs.Bytes.{bytes_in, first_bytes, first_bytes_by}
+use Rattle.sqz_histogram.specs.Names.{shown_byte}
+use Rattle.sqz_names.specs.Structures.{is_byte_layout, HasText}
+
+-- what has a text is a byte object
+pub is_byte_layout-text : (order : Order) (most : ℕ) (laid : Layout) (fields text : List ℕ)
+    → option_map (map shown_byte) (first_bytes_by order most laid fields) ≡ Some text → is_byte_layout laid ≡ true
+is_byte_layout-text order most Fields fields text is = absurd (none-some text is)
+is_byte_layout-text order most Weak fields text is = absurd (none-some text is)
+is_byte_layout-text order most Context fields text is = absurd (none-some text is)
+is_byte_layout-text order most Words fields text is = absurd (none-some text is)
+is_byte_layout-text order most (Bytes unused) fields text is = refl
+is_byte_layout-text order most Method fields text is = absurd (none-some text is)
+
+-- strong fields are traced ones
+pub strong-le : (test : Bool) (laid : Layout) (fields : List ℕ) (stated : Option ℕ)
+    → (test ≡ true → is_weak_layout laid ≡ true)
+    → cond test (unless_above (length fields) stated) (traced_of laid fields) ≤ traced_of laid fields
+strong-le false laid fields stated weak = omega arith
+strong-le true Fields fields stated weak = unless_above-le (length fields) stated
+strong-le true Weak fields stated weak = unless_above-le (length fields) stated
+strong-le true Context fields stated weak = let e : false ≡ true = weak refl in absurd cc
+strong-le true Words fields stated weak = let e : false ≡ true = weak refl in absurd cc
+strong-le true (Bytes unused) fields stated weak = let e : false ≡ true = weak refl in absurd cc
+strong-le true Method fields stated weak = let e : false ≡ true = weak refl in absurd cc
+
+-- a front that is shorter than asked for is the whole list
+front_all : (xs text : List ℕ) → take (length text + 1) xs ≡ text → xs ≡ text
+front_all xs text is =
+    let short : length xs ≤ length text + 1 = omega (arith, length-take (length text + 1) xs, ap length is) in
+    sym (take_all (length text + 1) xs short) ∙ is
+
+-- an object whose first bytes, one more than a text has, are the text
+pub HasText-first : (memory : Memory) (object : ℕ) (text : List ℕ)
+    → first_bytes memory.order (length text + 1) (chunk_words memory object) ≡ Some text → HasText memory text object
+HasText-first memory object text = by_layout (layout (chunk_words memory object)) refl
+  where
+    by_layout : (laid : Layout) → layout (chunk_words memory object) ≡ laid
+        → first_bytes_by memory.order (length text + 1) laid (fields (chunk_words memory object)) ≡ Some text
+        → HasText memory text object
+    by_layout Fields is found = absurd (none-some text found)
+    by_layout Weak is found = absurd (none-some text found)
+    by_layout Context is found = absurd (none-some text found)
+    by_layout Words is found = absurd (none-some text found)
+    by_layout (Bytes unused) is found = record {
+      unused = unused;
+      is_text = is;
+      bytes = front_all (bytes_in memory.order unused (fields (chunk_words memory object))) text (same_Some _ _ found);
+    }
+    by_layout Method is found = absurd (none-some text found)

@@ -1,0 +1,4 @@
+pub mod LayoutLemmas
+pub mod ClassLemmas
+pub mod VariableLemmas
+pub mod MethodLemmas

@@ -1,0 +1,5 @@
+pub mod Fields
+pub mod Structures
+pub mod Known
+pub mod Labels
+pub mod Names
