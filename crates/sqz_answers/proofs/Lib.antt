@@ -1,2 +1,10 @@
 pub mod FindingLemmas
+pub mod HistogramLemmas
 pub mod WhyLemmas
+pub mod DominanceLemmas
+pub mod SplitLemmas
+pub mod LevelLemmas
+pub mod RowLemmas
+pub mod TopRowLemmas
+pub mod ChangeLemmas
+pub mod SizeLemmas

@@ -6,3 +6,12 @@ pub mod CutOff
 pub mod Listings
 pub mod Shown
 pub mod Why
+pub mod Variables
+pub mod Limits
+pub mod Levels
+pub mod TopRows
+pub mod TopTrees
+pub mod Splits
+pub mod Changes
+pub mod Differences
+pub mod Sizes

@@ -1,7 +1,8 @@
 //! Class histograms.
 
-ghost use Rattle.std.specs.Prelude.{◌≡◌, IfOk, length};
+ghost use Rattle.std.specs.Prelude.{◌≡◌, All, IfOk, length};
 ghost use Rattle.sqz_image.specs.Objects.{object_count};
+ghost use Rattle.sqz_histogram.specs.Groups.{IsInside};
 ghost use Rattle.sqz_answers.specs.Histograms.{IsHistogramOf, IsDeadHistogramOf};
 
 use sqz_facts::marked_bytes;
@@ -28,8 +29,10 @@ pub fn live_histogram(
     alloc: Global,
     live: &Live<'_>,
 ) -> Result<Histogram, AllocError>
-    ensures { IfOk result (λ histogram. IsHistogramOf live.now.graph.heap.now
+    ensures histogram { IfOk result (λ histogram. IsHistogramOf live.now.graph.heap.now
         live.now.graph.weak live.now.marks histogram) }
+    ensures inside { IfOk result (λ histogram. All (λ total.
+        IsInside (object_count live.now.graph.heap.now) total.group) histogram.totals.items) }
 {
     histogram_of(rt, alloc, live.graph, &live.marks)
 }
@@ -40,8 +43,10 @@ pub fn dead_histogram(
     alloc: Global,
     live: &Live<'_>,
 ) -> Result<Histogram, AllocError>
-    ensures { IfOk result (λ histogram. IsDeadHistogramOf live.now.graph.heap.now
+    ensures histogram { IfOk result (λ histogram. IsDeadHistogramOf live.now.graph.heap.now
         live.now.graph.weak live.now.marks histogram) }
+    ensures inside { IfOk result (λ histogram. All (λ total.
+        IsInside (object_count live.now.graph.heap.now) total.group) histogram.totals.items) }
 {
     let dead = complement(alloc, live.graph.heap, &live.marks)?;
     histogram_of(rt, alloc, live.graph, &dead)
@@ -55,11 +60,14 @@ fn histogram_of(
     marks: &Marks,
 ) -> Result<Histogram, AllocError>
     requires { length marks.now ≡ object_count graph.heap.now }
-    ensures { IfOk result (λ histogram. IsHistogramOf graph.entry.heap.now
+    ensures histogram { IfOk result (λ histogram. IsHistogramOf graph.entry.heap.now
         graph.entry.weak marks.now histogram) }
+    ensures inside { IfOk result (λ histogram. All (λ total.
+        IsInside (object_count graph.entry.heap.now) total.group) histogram.totals.items) }
 {
+    let totals = histogram(rt, alloc, graph, marks)?;
     Ok(Histogram {
-        totals: histogram(rt, alloc, graph, marks)?,
+        totals,
         objects: marks.count(),
         bytes: marked_bytes(graph.heap, marks),
     })

@@ -2,22 +2,38 @@
 //! what a definition says.
 #![tactic(auto)]
 
+mod changes;
 mod cut_off;
+mod differences;
 mod findings;
 mod histograms;
 pub mod laws;
+mod levels;
+mod limits;
 mod listing;
+mod named;
 mod objects;
 mod references;
+mod rows;
+mod sizes;
 mod slots;
+mod top_tree;
+mod variable_parts;
 mod weakness;
 mod why;
 
+pub use changes::{Change, changes_of};
+pub use differences::sort_by_difference;
 pub use findings::{Findings, findings_of};
 pub use histograms::{Histogram, dead_histogram, live_histogram};
+pub use limits::{MOST_DEPTH, TopLimits};
 pub use listing::{Listed, Listing, listing_of};
+pub use named::{NamedTotal, sizes_by_name};
 pub use objects::{Shown, shown_object};
 pub use references::{Reference, references_to};
+pub use rows::{TopObjects, TopRow, top_rows};
+pub use sizes::{InBytes, Size};
 pub use slots::{ShownSlot, slot_at, slot_count};
+pub use variable_parts::VariableParts;
 pub use weakness::is_weak_slot;
 pub use why::{HoldingPath, WhyStep, why_kept};

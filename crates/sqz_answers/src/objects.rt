@@ -1,6 +1,6 @@
 //! What an object is.
 
-ghost use Rattle.std.specs.Prelude.{◌≡◌, ◌<◌, IfOk, None, true, false};
+ghost use Rattle.std.specs.Prelude.{◌≡◌, ◌<◌, IfOk, IfSome, None, true, false};
 ghost use Rattle.sqz_image.specs.Objects.{object_count};
 ghost use Rattle.sqz_trace.specs.Graph.{is_marked};
 ghost use Rattle.sqz_answers.specs.Shown.{IsRetained, facts_of};
@@ -29,6 +29,8 @@ pub fn shown_object(
     requires { object < object_count live.now.graph.heap.now }
     ensures facts { IfOk result (λ shown.
         shown.facts ≡ facts_of live.now.graph.heap.now live.now.graph.weak object) }
+    ensures inside { IfOk result (λ shown. IfSome shown.facts.class (λ class.
+        class < object_count live.now.graph.heap.now)) }
     ensures dead { is_marked live.now.marks object ≡ false
         → IfOk result (λ shown. shown.retained ≡ None) }
     ensures live { is_marked live.now.marks object ≡ true
