@@ -105,7 +105,7 @@ def fault_of(file, line, header):
     name, _, text = line.decode().rstrip("\n").partition(": ")
     number = int(name.removeprefix("fault "))
     if number == 2:
-        return Fault(number, text, more=cause(file))
+        return Fault(number, text, cause=cause(file))
     if number in (7, 8, 9):
         place = int(text.rsplit(maxsplit=1)[1])
         return Fault(number, text, f"{header[2][3] + 4 * place:08x}", place)

@@ -45,7 +45,8 @@ class FolderTest(SavedImageTest):
                 "flipped.image": Checked(flipped.file(), fault),
                 "truncated.image": Checked(file[:-1000], Fault(6, "data are truncated")),
                 "gzipped.image": Checked(
-                    gzip.compress(file, 1), Fault(2, "version is not 6502", more=" (a gzip file)")
+                    gzip.compress(file, 1),
+                    Fault(2, "version is not 6502", cause={"file": "gzip"}),
                 ),
                 "missing.image": Checked(None, UNREADABLE),
             }
@@ -110,7 +111,7 @@ class SeveralFaultsTest(LookTest):
         return self.printed_by(look("check", *options, "bad.image", folder=self.folder), 1)
 
     def test_some_have_an_object_one_bit_away(self):
-        near = {"one bit from" in fault.more for fault in self.faults}
+        near = {fault.cause and fault.cause["near"] is not None for fault in self.faults}
         self.assertEqual((len(self.faults), near), (BAD, {True, False}))
 
     def test_rows(self):

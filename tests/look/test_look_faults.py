@@ -84,7 +84,7 @@ class LookFaultsTest(PreloadTest):
                 self.assertRegex(outcome.stderr.decode(), rf"\A(sqzlook: )?{NO_MEMORY}\n\Z")
                 printed[outcome.stdout] += 1
         self.assertEqual(set(printed), {b"", first})
-        self.assertGreater(min(printed.values()), 10)
+        self.assertGreater(min(printed.values()), 3)
 
     def test_failed_reads(self):
         for args in QUESTIONS:

@@ -31,13 +31,13 @@ GZIP, ZIP = b"\x1f\x8b", b"PK\x03\x04"
 class Fault(typing.NamedTuple):
     """A fault: its number and text, and the address and the data word that it is about, if any.
 
-    `more` follows the text."""
+    `cause` is what is known of its cause, as JSON has it."""
 
     number: int
     text: str
     address: str | None = None
     place: int | None = None
-    more: str = ""
+    cause: dict | None = None
 
     def byte(self, prefix):
         """The offset of the data word in a file that has `prefix` bytes before the image."""
@@ -47,30 +47,46 @@ class Fault(typing.NamedTuple):
         """What a line of JSON says about the fault."""
         return {
             "number": self.number,
-            "text": self.text + self.more,
+            "text": self.text + text_of(self.cause),
             "address": self.address,
             "byte": self.byte(prefix),
+            "cause": self.cause,
         }
 
     def line(self, prefix):
         """What a text says about the fault."""
         at = "" if self.place is None else f" (byte {self.byte(prefix)})"
-        return f"fault {self.number}: {self.text}{at}{self.more}"
+        return f"fault {self.number}: {self.text}{at}{text_of(self.cause)}"
+
+
+def text_of(cause):
+    """What is printed of a cause after the text of the fault."""
+    match cause:
+        case None:
+            return ""
+        case {"file": kind}:
+            return f" (a {kind} file)"
+        case {"version": version, "name": name}:
+            return f" (version {version}, {name})"
+        case {"word": word, "near": None}:
+            return f": word {word}"
+        case {"word": word, "near": {"address": address, "class": name}}:
+            return f": word {word}, one bit from {address} {name}"
 
 
 def cause(file):
-    """What is printed after the text of fault 2: why the version of a file is not 6502."""
+    """The cause of fault 2: why the version of a file is not 6502."""
     if file.startswith(GZIP):
-        return " (a gzip file)"
+        return {"file": "gzip"}
     if file.startswith(ZIP):
-        return " (a zip file)"
+        return {"file": "zip"}
     for begin in (0, 512):
         for order in ("little", "big"):
             word = file[begin : begin + 4]
             version = int.from_bytes(word, order) if len(word) == 4 else None
             if version in OTHER_VERSIONS:
-                return f" (version {version}, {OTHER_VERSIONS[version]})"
-    return ""
+                return {"version": version, "name": OTHER_VERSIONS[version]}
+    return None
 
 
 class Defects:
@@ -121,8 +137,8 @@ class Defects:
             if not word & 1 and word not in self.image.numbers:
                 slot = "class" if place < it.base else f"field {place - it.base - 1}"
                 text = f"bad pointer in object {address}, {slot}"
-                more = f": word {word:08x}{self.neighbour(word)}"
-                return Fault(14, text, address, place, more)
+                cause = {"word": f"{word:08x}", "near": self.neighbour(word)}
+                return Fault(14, text, address, place, cause)
         return None
 
     def slots(self, it):
@@ -134,9 +150,10 @@ class Defects:
             yield place, words[place]
 
     def neighbour(self, word):
-        """The object whose address differs from a word in one bit, if there is exactly one."""
+        """The object whose address differs from a word in one bit, if there is exactly one, with
+        the name of its class."""
         near = [word ^ 1 << bit for bit in range(32) if word ^ 1 << bit in self.image.numbers]
         if len(near) != 1:
-            return ""
+            return None
         number = self.image.numbers[near[0]]
-        return f", one bit from {near[0]:08x} {self.names.class_name(number)}"
+        return {"address": f"{near[0]:08x}", "class": self.names.class_name(number)}

@@ -1,23 +1,56 @@
 //! A class histogram.
 
-use crate::out::Out;
-use crate::print_error::PrintError;
-use crate::subject::Subject;
-use crate::texts::digits_if;
+ghost use Rattle.std.specs.Prelude.{All};
+ghost use Rattle.sqz_image.specs.Objects.{object_count};
+ghost use Rattle.sqz_histogram.specs.Groups.{IsInside};
+
 use serde::Serialize;
 use sqz_answers::{Histogram, dead_histogram, live_histogram};
 use sqz_histogram::{Group, GroupTotal};
 use sqz_image::Sink;
+use sqz_look_view::{Hex, Out, PrintError, Subject};
 use std::alloc::AllocError;
+use std::fmt;
 use std::thread::Threads;
 
-/// A row of a class histogram as JSON. The totals have no class.
+/// A row of a class histogram. The totals have no class.
 #[derive(Drop, Serialize)]
-struct GroupRow {
+struct GroupView {
     class: Option<String>,
-    address: Option<String>,
+    address: Option<Hex>,
     objects: u32,
     bytes: u64,
+}
+
+impl GroupView {
+    /// Returns the row of a group.
+    fn of(subject: &Subject<'_>, total: GroupTotal) -> Result<Self, AllocError>
+        requires { IsInside (object_count subject.now.live.graph.heap.now) total.group }
+    {
+        let (class, address) = match total.group {
+            Group::Class(class) => { (subject.name_of_class(class)?, Some(subject.address(class))) }
+            Group::Compact(index) => (format!(in subject.alloc; "compact {index}")?, None),
+        };
+        Ok(GroupView {
+            class: Some(class),
+            address,
+            objects: total.count,
+            bytes: total.bytes,
+        })
+    }
+}
+
+/// The columns are those that `sqzcompact --census` prints.
+impl fmt::Display for GroupView {
+    fn fmt<W: fmt::Write>(&self, f: &mut fmt::Formatter<W>) -> fmt::Result {
+        let (objects, bytes) = (self.objects, self.bytes);
+        write!(f, "{objects:>10} {bytes:>12} ")?;
+        match (&self.class, self.address) {
+            (Some(class), Some(address)) => write!(f, "{address} {class}"),
+            (Some(class), None) => write!(f, "-------- {class}"),
+            (None, _) => f.write_str("total"),
+        }
+    }
 }
 
 /// Prints a class histogram of the live objects, with the addresses of the classes.
@@ -45,59 +78,19 @@ fn print_histogram<C: Sink>(
     subject: &Subject<'_>,
     histogram: &Histogram,
     out: &mut Out<'_, C>,
-) -> Result<(), PrintError> {
+) -> Result<(), PrintError>
+    requires { All (λ total. IsInside (object_count subject.now.live.graph.heap.now) total.group)
+        histogram.now.totals.items }
+{
     let totals = histogram.totals.as_slice();
-    for total in totals.iter().take(out.shown(totals.len())) {
-        let row = group_row(subject, *total)?;
-        print_row(subject, &row, out)?;
+    for total in &totals[..out.shown(totals.len())] {
+        out.emit(&GroupView::of(subject, *total)?)?;
     }
     out.rest(totals.len(), "row")?;
-    let sums = GroupRow {
+    out.emit(&GroupView {
         class: None,
         address: None,
         objects: histogram.objects,
         bytes: histogram.bytes,
-    };
-    print_row(subject, &sums, out)
-}
-
-/// Returns a row as JSON.
-fn group_row(subject: &Subject<'_>, total: GroupTotal) -> Result<GroupRow, AllocError> {
-    let alloc = subject.alloc;
-    let (class, address) = match total.group {
-        Group::Class(class) => (subject.name_of_class(class)?, Some(subject.address(class))),
-        Group::Compact(index) => (format!(in alloc; "compact {index}")?, None),
-    };
-    Ok(GroupRow {
-        class: Some(class),
-        address: digits_if(alloc, address)?,
-        objects: total.count,
-        bytes: total.bytes,
     })
-}
-
-/// Prints a row.
-fn print_row<C: Sink>(
-    subject: &Subject<'_>,
-    row: &GroupRow,
-    out: &mut Out<'_, C>,
-) -> Result<(), PrintError> {
-    if out.is_json() {
-        return out.json(row);
-    }
-    let line = row_line(subject, row)?;
-    out.line(line.as_str())
-}
-
-/// Returns the line of a row, in the columns that `sqzcompact --census` prints.
-fn row_line(subject: &Subject<'_>, row: &GroupRow) -> Result<String, AllocError> {
-    let (objects, bytes) = (row.objects, row.bytes);
-    let Some(class) = &row.class else {
-        return format!(in subject.alloc; "{objects:>10} {bytes:>12} total");
-    };
-    let address = row
-        .address
-        .as_ref()
-        .map_or("--------", |address| address.as_str());
-    format!(in subject.alloc; "{objects:>10} {bytes:>12} {address} {class}")
 }

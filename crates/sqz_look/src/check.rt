@@ -3,26 +3,79 @@
 ghost use Rattle.std.specs.Prelude.{IfOk, IsTrue, ◌≡◌, ◌↔◌};
 ghost use Rattle.sqz_trace.specs.Faults.{first_fault};
 
-use crate::faults::{FaultReport, FaultRow};
-use crate::out::Out;
-use crate::print_error::PrintError;
-use crate::subject::Subject;
-use crate::texts::counted;
+use crate::faults::FaultView;
 use crate::unreadable::Unreadable;
 use serde::Serialize;
 use sqz_answers::{Findings, findings_of};
 use sqz_image::{Fault, Sink};
+use sqz_look_view::{Counted, Hex, Out, PrintError, Subject};
 use std::alloc::{AllocError, Global};
+use std::fmt;
 use std::thread::Threads;
 
-/// What was found about an image, as JSON.
+/// What was found about an image. What could not be read is `None`.
 #[derive(Drop, Serialize)]
-struct CheckRow<'a> {
+struct CheckView<'a> {
     image: &'a str,
     sound: bool,
     objects: Option<u32>,
     live_bytes: Option<u64>,
-    faults: Vec<FaultRow>,
+    faults: Vec<FaultView>,
+    /// The address of the last object before a chunk that cannot be read.
+    #[serde(skip)]
+    last_object: Option<Hex>,
+}
+
+impl<'a> CheckView<'a> {
+    /// Returns what was found about an image.
+    fn of(subject: &Subject<'_>, path: &'a str, findings: &Findings) -> Result<Self, AllocError> {
+        let mut faults = Vec::new(subject.alloc);
+        for fault in &findings.faults {
+            faults.push(FaultView::in_image(subject, *fault)?)?;
+        }
+        Ok(CheckView {
+            image: path,
+            sound: findings.is_sound(),
+            objects: Some(findings.objects),
+            live_bytes: Some(findings.live_bytes),
+            faults,
+            last_object: None,
+        })
+    }
+
+    /// Returns what was found about a file from which no image could be read.
+    fn unread(alloc: Global, path: &'a str, fault: FaultView) -> Result<Self, AllocError> {
+        let mut faults = Vec::new(alloc);
+        faults.push(fault)?;
+        Ok(CheckView {
+            image: path,
+            sound: false,
+            objects: None,
+            live_bytes: None,
+            faults,
+            last_object: None,
+        })
+    }
+}
+
+impl fmt::Display for CheckView<'_> {
+    fn fmt<W: fmt::Write>(&self, f: &mut fmt::Formatter<W>) -> fmt::Result {
+        let path = self.image;
+        if let (Some(objects), Some(bytes), true) = (self.objects, self.live_bytes, self.sound) {
+            let objects = Counted(u64::from(objects), "object");
+            return write!(f, "{path}: sound, {objects}, {bytes} bytes live");
+        }
+        for (index, fault) in self.faults.iter().enumerate() {
+            if index > 0 {
+                f.write_str("\n")?;
+            }
+            write!(f, "{path}: {fault}")?;
+        }
+        match self.last_object {
+            Some(address) => write!(f, ", after object {address}"),
+            None => Ok(()),
+        }
+    }
 }
 
 /// Prints whether an image is sound: its first fault, or all if `all`, or its objects and live
@@ -38,7 +91,7 @@ pub fn print_check<C: Sink>(
         subject.now.live.graph.weak subject.now.live.marks ≡ None)) }
 {
     let findings = findings_of(rt, subject.alloc, &subject.live, all)?;
-    print_findings(subject, path, &findings, out)?;
+    out.emit(&CheckView::of(subject, path, &findings)?)?;
     Ok(findings.is_sound())
 }
 
@@ -49,16 +102,9 @@ pub fn print_check_unreadable<C: Sink>(
     path: &str,
     out: &mut Out<'_, C>,
 ) -> Result<(), PrintError> {
-    let report = unreadable.report(alloc)?;
-    if out.is_json() {
-        return print_unread(alloc, path, report, out);
-    }
-    let line = report.line(alloc)?;
-    let line = match unreadable.last_object {
-        Some(address) => format!(in alloc; "{path}: {line}, after object {address:08x}")?,
-        None => format!(in alloc; "{path}: {line}")?,
-    };
-    out.line(line.as_str())
+    let mut view = CheckView::unread(alloc, path, unreadable.view(alloc)?)?;
+    view.last_object = unreadable.last_object.map(Hex);
+    out.emit(&view)
 }
 
 /// Prints that a file could not be read.
@@ -67,85 +113,6 @@ pub fn print_check_missing<C: Sink>(
     path: &str,
     out: &mut Out<'_, C>,
 ) -> Result<(), PrintError> {
-    let report = FaultReport::plain(alloc, Fault::ReadFailed);
-    if out.is_json() {
-        return print_unread(alloc, path, report, out);
-    }
-    let line = report.line(alloc)?;
-    let line = format!(in alloc; "{path}: {line}")?;
-    out.line(line.as_str())
-}
-
-/// Prints the fault of a file that holds no image as JSON.
-fn print_unread<C: Sink>(
-    alloc: Global,
-    path: &str,
-    report: FaultReport,
-    out: &mut Out<'_, C>,
-) -> Result<(), PrintError> {
-    let mut reports = Vec::new(alloc);
-    reports.push(report)?;
-    let row = CheckRow {
-        image: path,
-        sound: false,
-        objects: None,
-        live_bytes: None,
-        faults: fault_rows(alloc, &reports)?,
-    };
-    out.json(&row)
-}
-
-/// Prints the faults of an image, or that it is sound if there are none.
-fn print_findings<C: Sink>(
-    subject: &Subject<'_>,
-    path: &str,
-    findings: &Findings,
-    out: &mut Out<'_, C>,
-) -> Result<(), PrintError> {
-    let alloc = subject.alloc;
-    let mut reports = Vec::new(alloc);
-    for fault in &findings.faults {
-        reports.push(FaultReport::in_image(subject, *fault)?)?;
-    }
-    if out.is_json() {
-        let row = CheckRow {
-            image: path,
-            sound: reports.is_empty(),
-            objects: Some(findings.objects),
-            live_bytes: Some(findings.live_bytes),
-            faults: fault_rows(alloc, &reports)?,
-        };
-        return out.json(&row);
-    }
-    if !reports.is_empty() {
-        return print_faults(alloc, path, &reports, out);
-    }
-    let objects = counted(alloc, findings.objects as usize, "object")?;
-    let bytes = findings.live_bytes;
-    let line = format!(in alloc; "{path}: sound, {objects}, {bytes} bytes live")?;
-    out.line(line.as_str())
-}
-
-/// Returns faults as JSON.
-fn fault_rows(alloc: Global, reports: &[FaultReport]) -> Result<Vec<FaultRow>, AllocError> {
-    let mut rows = Vec::new(alloc);
-    for report in reports {
-        rows.push(report.row(alloc)?)?;
-    }
-    Ok(rows)
-}
-
-/// Prints a line for each fault of an image.
-fn print_faults<C: Sink>(
-    alloc: Global,
-    path: &str,
-    reports: &[FaultReport],
-    out: &mut Out<'_, C>,
-) -> Result<(), PrintError> {
-    for report in reports {
-        let line = report.line(alloc)?;
-        let line = format!(in alloc; "{path}: {line}")?;
-        out.line(line.as_str())?;
-    }
-    Ok(())
+    let fault = FaultView::of(alloc, Fault::ReadFailed, None)?;
+    out.emit(&CheckView::unread(alloc, path, fault)?)
 }

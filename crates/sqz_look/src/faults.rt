@@ -1,84 +1,89 @@
 //! A fault, and where it is.
 
-use crate::opening::HEADER_SIZE;
-use crate::subject::Subject;
-use crate::texts::{digits, digits_if};
+ghost use Rattle.std.specs.Prelude.{◌<◌, IfSome};
+ghost use Rattle.sqz_image.specs.Objects.{object_count};
+
+use crate::causes::{BadWord, Cause, NearObject};
 use serde::Serialize;
 use sqz_facts::slot_facts;
-use sqz_image::{Fault, Heap, Slot};
+use sqz_image::{Fault, HEADER_SIZE, Heap, Slot};
+use sqz_look_view::{Hex, Subject, object_at};
 use sqz_object::{Address, ObjectIndex, WordIndex};
 use std::alloc::{AllocError, Global};
+use std::fmt;
 
 /// A fault, and where it is.
-#[derive(Drop)]
-pub(crate) struct FaultReport {
-    pub(crate) fault: Fault,
+#[derive(Drop, Serialize)]
+pub(crate) struct FaultView {
+    #[serde(skip)]
+    fault: Fault,
+    number: u32,
+    /// The text of the fault and its cause.
+    text: String,
     /// The address of the object or the word that is at fault.
-    pub(crate) address: Option<Address>,
+    pub(crate) address: Option<Hex>,
     /// Where this is in the file, in bytes.
     pub(crate) byte: Option<u64>,
-    /// What follows the text of the fault.
-    pub(crate) detail: String,
+    cause: Option<Cause>,
 }
 
-/// A fault as JSON.
-#[derive(Drop, Serialize)]
-pub(crate) struct FaultRow {
-    number: u32,
-    text: String,
-    address: Option<String>,
-    byte: Option<u64>,
-}
-
-impl FaultReport {
+impl FaultView {
     /// Returns a fault that has no place.
-    pub(crate) fn plain(alloc: Global, fault: Fault) -> Self {
-        FaultReport {
+    pub(crate) fn of(
+        alloc: Global,
+        fault: Fault,
+        cause: Option<Cause>,
+    ) -> Result<Self, AllocError> {
+        let text = match &cause {
+            Some(cause) => format!(in alloc; "{fault}{cause}")?,
+            None => format!(in alloc; "{fault}")?,
+        };
+        Ok(FaultView {
             fault,
+            number: fault.number(),
+            text,
             address: None,
             byte: None,
-            detail: String::new(alloc),
-        }
+            cause,
+        })
     }
 
     /// Returns a fault of an object of an image.
     pub(crate) fn in_image(subject: &Subject<'_>, fault: Fault) -> Result<Self, AllocError> {
-        let mut report = FaultReport::plain(subject.alloc, fault);
-        report.address = address_of(&fault);
         let heap = subject.live.graph.heap;
-        let Some(object) = report.address.and_then(|address| heap.find(address)) else {
-            return Ok(report);
+        let Some(address) = address_of(&fault) else {
+            return FaultView::of(subject.alloc, fault, None);
+        };
+        let Some(object) = object_at(heap, address) else {
+            return FaultView::of(subject.alloc, fault, None);
         };
         let slot = match fault {
             Fault::BadPointer { slot, .. } => Some(slot),
             _ => None,
         };
-        let before = subject.image.prefix().len() as u64 + HEADER_SIZE as u64;
-        report.byte = Some(before + 4 * u64::from(word_of(heap, object, slot)));
-        if let Some(slot) = slot {
-            report.detail = pointer_detail(subject, object, slot)?;
-        }
-        Ok(report)
+        let cause = match slot {
+            Some(slot) => bad_word(subject, object, slot)?.map(Cause::Pointer),
+            None => None,
+        };
+        let mut view = FaultView::of(subject.alloc, fault, cause)?;
+        let start = subject.image.prefix().len() as u64 + HEADER_SIZE as u64;
+        view.byte = Some(start + 4 * u64::from(word_of(heap, object, slot)));
+        view.address = Some(Hex(address));
+        Ok(view)
     }
+}
 
-    /// Returns the fault as text: its number, its text, and where it is.
-    pub(crate) fn line(&self, alloc: Global) -> Result<String, AllocError> {
-        let (number, fault, detail) = (self.fault.number(), self.fault, self.detail.as_str());
-        match self.byte {
-            Some(byte) => format!(in alloc; "fault {number}: {fault} (byte {byte}){detail}"),
-            None => format!(in alloc; "fault {number}: {fault}{detail}"),
+impl fmt::Display for FaultView {
+    fn fmt<W: fmt::Write>(&self, f: &mut fmt::Formatter<W>) -> fmt::Result {
+        let (number, fault) = (self.number, self.fault);
+        write!(f, "fault {number}: {fault}")?;
+        if let Some(byte) = self.byte {
+            write!(f, " (byte {byte})")?;
         }
-    }
-
-    /// Returns the fault as JSON.
-    pub(crate) fn row(&self, alloc: Global) -> Result<FaultRow, AllocError> {
-        let (fault, detail) = (self.fault, self.detail.as_str());
-        Ok(FaultRow {
-            number: fault.number(),
-            text: format!(in alloc; "{fault}{detail}")?,
-            address: digits_if(alloc, self.address)?,
-            byte: self.byte,
-        })
+        match &self.cause {
+            Some(cause) => write!(f, "{cause}"),
+            None => Ok(()),
+        }
     }
 }
 
@@ -95,10 +100,9 @@ fn address_of(fault: &Fault) -> Option<Address> {
 }
 
 /// Returns the data word of a slot of an object, or of its base header.
-fn word_of(heap: &Heap, object: ObjectIndex, slot: Option<Slot>) -> WordIndex {
-    if object >= heap.len() {
-        return 0;
-    }
+fn word_of(heap: &Heap, object: ObjectIndex, slot: Option<Slot>) -> WordIndex
+    requires { object < object_count heap.now }
+{
     let header = heap.first(object).saturating_add(heap.chunk(object).before);
     match slot {
         Some(Slot::ClassWord) => header.saturating_sub(1),
@@ -107,34 +111,37 @@ fn word_of(heap: &Heap, object: ObjectIndex, slot: Option<Slot>) -> WordIndex {
     }
 }
 
-/// Returns what a bad slot holds, and the object whose address is one bit away.
-fn pointer_detail(
+/// Returns what a bad slot holds, and the object whose address is one bit away. None if the object
+/// has no such slot.
+fn bad_word(
     subject: &Subject<'_>,
     object: ObjectIndex,
     slot: Slot,
-) -> Result<String, AllocError> {
-    let (alloc, heap) = (subject.alloc, subject.live.graph.heap);
-    if object >= heap.len() {
-        return Ok(String::new(alloc));
-    }
+) -> Result<Option<BadWord>, AllocError>
+    requires { object < object_count subject.now.live.graph.heap.now }
+{
+    let heap = subject.live.graph.heap;
     let Some(held) = slot_facts(heap, object, slot) else {
-        return Ok(String::new(alloc));
+        return Ok(None);
     };
-    let mut detail = format!(in alloc; ": word {:08x}", held.word)?;
-    if let Some(near) = one_bit_from(heap, held.word) {
-        let address = digits(alloc, subject.address(near))?;
-        let class = subject.name_of_class_of(near)?;
-        let near = format!(in alloc; ", one bit from {address} {class}")?;
-        detail.push_str(near.as_str())?;
-    }
-    Ok(detail)
+    let near = match one_bit_from(heap, held.word) {
+        Some(near) => Some(NearObject {
+            address: subject.address(near),
+            class: subject.name_of_class_of(near)?,
+        }),
+        None => None,
+    };
+    let word = Hex(held.word);
+    Ok(Some(BadWord { word, near }))
 }
 
 /// Returns the object whose address differs from a word in one bit, if there is exactly one.
-fn one_bit_from(heap: &Heap, word: u32) -> Option<ObjectIndex> {
+fn one_bit_from(heap: &Heap, word: u32) -> Option<ObjectIndex>
+    ensures { IfSome result (λ found. found < object_count heap.now) }
+{
     let mut found = None;
     for bit in 0..32u32 {
-        if let Some(object) = heap.find(word ^ (1 << bit)) {
+        if let Some(object) = object_at(heap, word ^ (1 << bit)) {
             if found.is_some() {
                 return None;
             }

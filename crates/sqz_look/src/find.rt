@@ -1,15 +1,15 @@
 //! What the words of a command line stand for.
 
-ghost use Rattle.std.specs.Prelude.{Contains, IfOk, ◌≡◌, ◌<◌};
+ghost use Rattle.std.specs.Prelude.{All, Contains, IfOk, ◌≡◌, ◌<◌};
 ghost use Rattle.sqz_image.specs.Objects.{object_count};
 ghost use Rattle.sqz_look.specs.Found.{IfOne};
 
-use crate::inspector::Inspector;
-use crate::texts::digits;
 use sqz_facts::{Site, site_of};
 use sqz_histogram::Group;
+use sqz_look_view::{Hex, Inspector};
 use sqz_object::{Address, ObjectIndex};
 use std::alloc::AllocError;
+use std::fmt::Write;
 
 /// The maximum number of hexadecimal digits of an address.
 const MOST_DIGITS: usize = 8;
@@ -64,7 +64,7 @@ pub fn find_class(inspector: &Inspector<'_>, word: &str) -> Result<Found<Group>,
     };
     match object_at(inspector, address)? {
         Found::One(object) if !inspector.names.is_class(object) => {
-            let message = format!(in inspector.alloc; "{address:08x} is not a class")?;
+            let message = format!(in inspector.alloc; "{} is not a class", Hex(address))?;
             Ok(Found::Nothing(message))
         }
         found => Ok(class_of(found)),
@@ -104,6 +104,7 @@ fn the_one(
     name: &str,
     objects: &[ObjectIndex],
 ) -> Result<Found<ObjectIndex>, AllocError>
+    requires { All (λ object. object < object_count inspector.now.live.graph.heap.now) objects.now }
     ensures { IfOk result (λ found. IfOne found (Contains objects.now)) }
 {
     let mut live = Vec::new(inspector.alloc);
@@ -123,11 +124,13 @@ fn ambiguous(
     inspector: &Inspector<'_>,
     name: &str,
     objects: &[ObjectIndex],
-) -> Result<String, AllocError> {
+) -> Result<String, AllocError>
+    requires { All (λ object. object < object_count inspector.now.live.graph.heap.now) objects.now }
+{
     let mut message = format!(in inspector.alloc; "{name} is ambiguous")?;
     for (index, object) in objects.iter().enumerate() {
         message.push_str(if index == 0 { ": " } else { ", " })?;
-        message.push_str(digits(inspector.alloc, inspector.address(*object))?.as_str())?;
+        write!(message, "{}", inspector.address(*object))?;
     }
     Ok(message)
 }
@@ -149,17 +152,19 @@ fn object_at(inspector: &Inspector<'_>, address: Address) -> Result<Found<Object
             format!(in alloc; "field {field} of {object}")?
         }
         Site::FreeChunk { address, bytes } => {
-            format!(in alloc; "inside a free chunk of {bytes} bytes at {address:08x}")?
+            format!(in alloc; "inside a free chunk of {bytes} bytes at {}", Hex(address))?
         }
         Site::Outside => String::from_str(alloc, "outside the data")?,
     };
-    let message = format!(in alloc; "no object at {address:08x}: {what}")?;
+    let message = format!(in alloc; "no object at {}: {what}", Hex(address))?;
     Ok(Found::Nothing(message))
 }
 
 /// Returns the address of an object and the name of its class.
-fn address_and_class(inspector: &Inspector<'_>, object: ObjectIndex) -> Result<String, AllocError> {
+fn address_and_class(inspector: &Inspector<'_>, object: ObjectIndex) -> Result<String, AllocError>
+    requires { object < object_count inspector.now.live.graph.heap.now }
+{
     let address = inspector.address(object);
     let class = inspector.names.name_of_class_of(object)?;
-    format!(in inspector.alloc; "{address:08x} {class}")
+    format!(in inspector.alloc; "{address} {class}")
 }

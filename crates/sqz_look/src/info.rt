@@ -1,40 +1,48 @@
 //! What the file of an image holds.
 
-use crate::faults::{FaultReport, FaultRow};
-use crate::opening::Header;
-use crate::out::Out;
-use crate::print_error::PrintError;
-use crate::subject::Subject;
-use crate::texts::{counted, digits, digits_if};
-use crate::unreadable::{BASE_WORD, SPECIAL_WORD, Unreadable};
+use crate::faults::FaultView;
+use crate::unreadable::Unreadable;
 use serde::Serialize;
 use sqz_facts::{FileFacts, file_facts};
-use sqz_image::{DATA_SIZE_WORD, Sink};
+use sqz_image::{Header, Sink};
+use sqz_look_view::{Counted, Hex, Out, PrintError, Subject};
 use sqz_object::Order;
 use sqz_trace::first_fault;
-use std::alloc::{AllocError, Global};
+use std::alloc::Global;
+use std::fmt;
 use std::thread::Threads;
 
-/// The number of words of a header, and how many are printed in a line.
-const HEADER_WORDS: usize = 16;
-
-const WORDS_PER_LINE: usize = 4;
-
-/// What a file holds, as JSON. What could not be read is `None`.
+/// What a file holds. What could not be read is `None`.
 #[derive(Drop, Serialize)]
-struct InfoRow<'a> {
+struct InfoView<'a> {
     image: &'a str,
     order: Option<&'static str>,
     offset: Option<usize>,
-    base: Option<String>,
+    base: Option<Hex>,
     data_bytes: Option<u64>,
-    special_objects: Option<String>,
+    special_objects: Option<Hex>,
     objects: Option<u32>,
     live_objects: Option<u32>,
     live_bytes: Option<u64>,
     dead_bytes: Option<u64>,
     free_chunks: Option<u32>,
-    fault: Option<FaultRow>,
+    fault: Option<FaultView>,
+    /// What the text form has in place of these numbers.
+    #[serde(skip)]
+    text: InfoText,
+}
+
+/// What the text form prints of a file.
+#[derive(Clone, Copy, Drop)]
+enum InfoText {
+    /// The facts about an image.
+    Facts(FileFacts),
+    /// The header of a file that cannot be read, if it has one, and the last object before a chunk
+    /// that cannot be read.
+    Unreadable {
+        header: Option<Header>,
+        last_object: Option<Hex>,
+    },
 }
 
 /// Prints what the file of an image holds, and its first fault.
@@ -44,19 +52,26 @@ pub fn print_info<C: Sink>(
     path: &str,
     out: &mut Out<'_, C>,
 ) -> Result<(), PrintError> {
-    let alloc = subject.alloc;
     let facts = file_facts(subject.image, &subject.live.marks);
-    let fault = first_fault(rt, &subject.live);
-    let report = match fault {
-        Some(fault) => Some(FaultReport::in_image(subject, fault)?),
+    let fault = match first_fault(rt, &subject.live) {
+        Some(fault) => Some(FaultView::in_image(subject, fault)?),
         None => None,
     };
-    if out.is_json() {
-        let row = info_row(alloc, path, facts, &report)?;
-        return out.json(&row);
-    }
-    print_facts(alloc, facts, out)?;
-    print_fault(alloc, &report, out)
+    out.emit(&InfoView {
+        image: path,
+        order: Some(name_of(facts.order)),
+        offset: Some(facts.offset as usize),
+        base: Some(Hex(facts.base)),
+        data_bytes: Some(facts.data_bytes),
+        special_objects: Some(Hex(facts.special_objects)),
+        objects: Some(facts.objects),
+        live_objects: Some(facts.live_objects),
+        live_bytes: Some(facts.live_bytes),
+        dead_bytes: Some(facts.dead_bytes),
+        free_chunks: Some(facts.free_chunks),
+        fault,
+        text: InfoText::Facts(facts),
+    })
 }
 
 /// Prints what could be read of a file from which no image could be read, and why not.
@@ -66,82 +81,25 @@ pub fn print_info_unreadable<C: Sink>(
     path: &str,
     out: &mut Out<'_, C>,
 ) -> Result<(), PrintError> {
-    let report = Some(unreadable.report(alloc)?);
-    let header = unreadable.opening.header();
-    if out.is_json() {
-        let row = unreadable_row(alloc, unreadable, path, &report)?;
-        return out.json(&row);
-    }
-    if let Some(header) = header {
-        print_header(alloc, unreadable, header, out)?;
-    }
-    if let Some(address) = unreadable.last_object {
-        print_line(alloc, "last object", &digits(alloc, address)?, out)?;
-    }
-    print_fault(alloc, &report, out)
-}
-
-/// Returns what an image holds, as JSON.
-fn info_row<'a>(
-    alloc: Global,
-    path: &'a str,
-    facts: FileFacts,
-    report: &Option<FaultReport>,
-) -> Result<InfoRow<'a>, AllocError> {
-    Ok(InfoRow {
+    let header = unreadable.header;
+    out.emit(&InfoView {
         image: path,
-        order: Some(name_of(facts.order)),
-        offset: Some(facts.offset as usize),
-        base: Some(digits(alloc, facts.base)?),
-        data_bytes: Some(facts.data_bytes),
-        special_objects: Some(digits(alloc, facts.special_objects)?),
-        objects: Some(facts.objects),
-        live_objects: Some(facts.live_objects),
-        live_bytes: Some(facts.live_bytes),
-        dead_bytes: Some(facts.dead_bytes),
-        free_chunks: Some(facts.free_chunks),
-        fault: fault_row(alloc, report)?,
-    })
-}
-
-/// Returns what could be read of a file, as JSON.
-fn unreadable_row<'a>(
-    alloc: Global,
-    unreadable: &Unreadable,
-    path: &'a str,
-    report: &Option<FaultReport>,
-) -> Result<InfoRow<'a>, AllocError> {
-    let opening = &unreadable.opening;
-    let mut row = InfoRow {
-        image: path,
-        order: None,
-        offset: None,
-        base: None,
-        data_bytes: None,
-        special_objects: None,
+        order: header.map(|header| name_of(header.order)),
+        offset: header.map(|header| header.offset),
+        base: header.map(|header| Hex(header.base())),
+        data_bytes: header.map(|header| u64::from(header.data_size())),
+        special_objects: header.map(|header| Hex(header.special())),
         objects: None,
         live_objects: None,
         live_bytes: None,
         dead_bytes: None,
         free_chunks: None,
-        fault: fault_row(alloc, report)?,
-    };
-    if let Some(header) = opening.header() {
-        row.order = Some(name_of(header.order));
-        row.offset = Some(header.offset);
-        row.base = digits_if(alloc, opening.header_word(header, BASE_WORD))?;
-        row.data_bytes = opening.header_word(header, DATA_SIZE_WORD).map(u64::from);
-        row.special_objects = digits_if(alloc, opening.header_word(header, SPECIAL_WORD))?;
-    }
-    Ok(row)
-}
-
-/// Returns a fault as JSON.
-fn fault_row(alloc: Global, report: &Option<FaultReport>) -> Result<Option<FaultRow>, AllocError> {
-    match report {
-        Some(report) => Ok(Some(report.row(alloc)?)),
-        None => Ok(None),
-    }
+        fault: Some(unreadable.view(alloc)?),
+        text: InfoText::Unreadable {
+            header,
+            last_object: unreadable.last_object.map(Hex),
+        },
+    })
 }
 
 /// Returns the name of a byte order.
@@ -152,97 +110,74 @@ fn name_of(order: Order) -> &'static str {
     }
 }
 
-/// Prints a line with a name and a value.
-fn print_line<C: Sink>(
-    alloc: Global,
-    name: &str,
-    value: &str,
-    out: &mut Out<'_, C>,
-) -> Result<(), PrintError> {
-    let line = format!(in alloc; "{name:<16}{value}")?;
-    out.line(line.as_str())
-}
-
-/// Prints what an image holds.
-fn print_facts<C: Sink>(
-    alloc: Global,
-    facts: FileFacts,
-    out: &mut Out<'_, C>,
-) -> Result<(), PrintError> {
-    print_place(alloc, facts.order, facts.offset as usize, out)?;
-    print_line(alloc, "base", &digits(alloc, facts.base)?, out)?;
-    let data = format!(in alloc; "{} bytes", facts.data_bytes)?;
-    print_line(alloc, "data", &data, out)?;
-    print_line(
-        alloc,
-        "special objects",
-        &digits(alloc, facts.special_objects)?,
-        out,
-    )?;
-    let objects = format!(in alloc; "{}", facts.objects)?;
-    print_line(alloc, "objects", &objects, out)?;
-    let live = sum_text(alloc, facts.live_objects, "object", facts.live_bytes)?;
-    print_line(alloc, "live", &live, out)?;
-    let dead_objects = facts.objects.saturating_sub(facts.live_objects);
-    let dead = sum_text(alloc, dead_objects, "object", facts.dead_bytes)?;
-    print_line(alloc, "dead", &dead, out)?;
-    let free = sum_text(alloc, facts.free_chunks, "chunk", facts.free_bytes)?;
-    print_line(alloc, "free", &free, out)
-}
-
-/// Returns a number of objects or chunks, and their bytes.
-fn sum_text(alloc: Global, count: u32, what: &str, bytes: u64) -> Result<String, AllocError> {
-    let count = counted(alloc, count as usize, what)?;
-    format!(in alloc; "{count}, {bytes} bytes")
-}
-
-/// Prints the byte order of an image, and where its header begins.
-fn print_place<C: Sink>(
-    alloc: Global,
-    order: Order,
-    offset: usize,
-    out: &mut Out<'_, C>,
-) -> Result<(), PrintError> {
-    print_line(alloc, "order", name_of(order), out)?;
-    let offset = format!(in alloc; "byte {offset}")?;
-    print_line(alloc, "header at", &offset, out)
-}
-
-/// Prints the header of a file from which no image could be read.
-fn print_header<C: Sink>(
-    alloc: Global,
-    unreadable: &Unreadable,
-    header: Header,
-    out: &mut Out<'_, C>,
-) -> Result<(), PrintError> {
-    print_place(alloc, header.order, header.offset, out)?;
-    let mut line = String::new(alloc);
-    for index in 0..HEADER_WORDS {
-        let word = unreadable.opening.header_word(header, index).unwrap_or(0);
-        line.push_str(digits(alloc, word)?.as_str())?;
-        if index % WORDS_PER_LINE == WORDS_PER_LINE - 1 {
-            let name = if index < WORDS_PER_LINE {
-                "header words"
-            } else {
-                ""
-            };
-            print_line(alloc, name, &line, out)?;
-            line.clear();
-        } else {
-            line.push(' ')?;
+impl fmt::Display for InfoView<'_> {
+    fn fmt<W: fmt::Write>(&self, f: &mut fmt::Formatter<W>) -> fmt::Result {
+        match self.text {
+            InfoText::Facts(facts) => write_facts(f, facts)?,
+            InfoText::Unreadable {
+                header,
+                last_object,
+            } => {
+                if let Some(header) = header {
+                    write_header(f, &header)?;
+                }
+                if let Some(address) = last_object {
+                    writeln!(f, "{:<16}{address}", "last object")?;
+                }
+            }
+        }
+        match &self.fault {
+            Some(fault) => write!(f, "{fault}"),
+            None => f.write_str("no fault"),
         }
     }
-    Ok(())
 }
 
-/// Prints the line of the first fault.
-fn print_fault<C: Sink>(
-    alloc: Global,
-    report: &Option<FaultReport>,
-    out: &mut Out<'_, C>,
-) -> Result<(), PrintError> {
-    match report {
-        Some(report) => out.line(report.line(alloc)?.as_str()),
-        None => out.line("no fault"),
+/// Writes what an image holds, a line for each fact.
+fn write_facts<W: fmt::Write>(f: &mut fmt::Formatter<W>, facts: FileFacts) -> fmt::Result {
+    write_place(f, facts.order, facts.offset as usize)?;
+    let (base, special) = (Hex(facts.base), Hex(facts.special_objects));
+    let (data, objects) = (facts.data_bytes, facts.objects);
+    let (live_bytes, dead_bytes, free_bytes) = (
+        facts.live_bytes,
+        facts.dead_bytes,
+        facts.free_bytes,
+    );
+    let live = Counted(u64::from(facts.live_objects), "object");
+    let dead = objects.saturating_sub(facts.live_objects);
+    let dead = Counted(u64::from(dead), "object");
+    let free = Counted(u64::from(facts.free_chunks), "chunk");
+    writeln!(f, "{:<16}{base}", "base")?;
+    writeln!(f, "{:<16}{data} bytes", "data")?;
+    writeln!(f, "{:<16}{special}", "special objects")?;
+    writeln!(f, "{:<16}{objects}", "objects")?;
+    writeln!(f, "{:<16}{live}, {live_bytes} bytes", "live")?;
+    writeln!(f, "{:<16}{dead}, {dead_bytes} bytes", "dead")?;
+    writeln!(f, "{:<16}{free}, {free_bytes} bytes", "free")
+}
+
+/// Writes the byte order of an image, and where its header begins.
+fn write_place<W: fmt::Write>(
+    f: &mut fmt::Formatter<W>,
+    order: Order,
+    offset: usize,
+) -> fmt::Result {
+    let order = name_of(order);
+    writeln!(f, "{:<16}{order}", "order")?;
+    writeln!(f, "{:<16}byte {offset}", "header at")
+}
+
+/// Writes the header of a file from which no image could be read, four words in a line.
+fn write_header<W: fmt::Write>(f: &mut fmt::Formatter<W>, header: &Header) -> fmt::Result {
+    write_place(f, header.order, header.offset)?;
+    for (index, words) in header.words.chunks(4).enumerate() {
+        let name = if index == 0 { "header words" } else { "" };
+        write!(f, "{name:<16}")?;
+        for (place, word) in words.iter().enumerate() {
+            let (space, word) = (if place == 0 { "" } else { " " }, Hex(*word));
+            write!(f, "{space}{word}")?;
+        }
+        f.write_str("\n")?;
     }
+    Ok(())
 }

@@ -3,39 +3,31 @@
 //! points to it.
 #![tactic(auto)]
 
+mod causes;
 mod census;
 mod check;
 mod faults;
+mod file_kinds;
 mod find;
 mod info;
-mod inspector;
 mod list;
-mod opening;
-mod out;
+mod path_rows;
 mod paths;
-mod print_error;
 mod refs;
 mod show;
 mod slot_rows;
 mod slots;
-mod subject;
-mod texts;
 mod unreadable;
 mod versions;
+mod weak_note;
 mod why;
 
 pub use census::{print_census, print_dead_census};
 pub use check::{print_check, print_check_missing, print_check_unreadable};
 pub use find::{Found, find_class, find_object};
 pub use info::{print_info, print_info_unreadable};
-pub use inspector::Inspector;
 pub use list::print_list;
-pub use opening::Opening;
-pub use out::{Format, Out};
-pub use print_error::PrintError;
 pub use refs::print_refs;
 pub use show::print_show;
-pub use subject::Subject;
-pub use texts::{counted, digits, digits_if};
 pub use unreadable::Unreadable;
 pub use why::print_why;

@@ -1,18 +1,62 @@
-//! Which steps of a path a person reads.
+//! Which steps of a path are rows.
 
-use crate::inspector::Inspector;
+ghost use Rattle.std.specs.Prelude.{◌<◌, All, IfOk};
+ghost use Rattle.sqz_image.specs.Objects.{object_count};
+ghost use Rattle.sqz_look.specs.Paths.{IsInside};
+
 use sqz_answers::WhyStep;
 use sqz_image::Slot;
-use sqz_names::{VALUE, Variable};
+use sqz_look_view::Inspector;
+use sqz_names::Variable;
+use sqz_names::fields::VALUE;
 use sqz_object::ObjectIndex;
 use std::alloc::AllocError;
 
-/// Returns for each step of a path whether it only leads to the value of a global or of a class
-/// variable: the step to the association, and the steps to the dictionary and its array before it.
-pub(crate) fn hidden_steps(
+/// A step of a path that is a row.
+#[derive(Clone, Copy, Debug, PartialEq, Eq)]
+pub(crate) struct PathStep {
+    /// The object before the step.
+    pub(crate) owner: ObjectIndex,
+    pub(crate) step: WhyStep,
+    /// Whether the owner is the association of a variable that has no row of its own.
+    pub(crate) is_variable: bool,
+}
+
+/// Returns the steps of a path that are rows: each, or all but those to the associations of
+/// variables and to the dictionaries that hold them unless `raw`.
+pub(crate) fn visible_steps(
     inspector: &Inspector<'_>,
     steps: &[WhyStep],
-) -> Result<Vec<bool>, AllocError> {
+    raw: bool,
+) -> Result<Vec<PathStep>, AllocError>
+    requires { All (λ step. step.object < object_count inspector.now.live.graph.heap.now) steps.now }
+    ensures { IfOk result (λ visible.
+        All (IsInside (object_count inspector.now.live.graph.heap.now)) visible.items) }
+{
+    let hidden = hidden_steps(inspector, steps)?;
+    let mut visible = Vec::new(inspector.alloc);
+    let mut owner = inspector.live.graph.heap.special();
+    let mut is_variable = false;
+    for (index, step) in steps.iter().enumerate() {
+        let is_hidden = !raw && hidden.get(index) == Some(&true);
+        if !is_hidden {
+            visible.push(PathStep {
+                owner,
+                step: *step,
+                is_variable,
+            })?;
+        }
+        is_variable = is_hidden;
+        owner = step.object;
+    }
+    Ok(visible)
+}
+
+/// Returns for each step of a path whether it only leads to the value of a global or of a class
+/// variable: the step to the association, and the steps to the dictionary and its array before it.
+fn hidden_steps(inspector: &Inspector<'_>, steps: &[WhyStep]) -> Result<Vec<bool>, AllocError>
+    requires { All (λ step. step.object < object_count inspector.now.live.graph.heap.now) steps.now }
+{
     let mut hidden = vec![in inspector.alloc; false; steps.len()]?;
     for (index, step) in steps.iter().enumerate() {
         let Some(next) = index.checked_add(1).and_then(|next| steps.get(next)) else {
@@ -34,7 +78,9 @@ fn hide_variable(steps: &[WhyStep], index: usize, variable: Variable, hidden: &m
     let dictionary = Some(variable.dictionary);
     let places = (index.checked_sub(1), index.checked_sub(2));
     if let (Some(at_array), Some(at_dictionary)) = places {
-        if leads_to(steps, at_array, variable.array) && leads_to(steps, at_dictionary, dictionary) {
+        if leads_to(steps, at_array, Some(variable.array))
+            && leads_to(steps, at_dictionary, dictionary)
+        {
             hide(hidden, at_array);
             hide(hidden, at_dictionary);
         }

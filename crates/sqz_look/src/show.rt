@@ -1,33 +1,31 @@
 //! What an object is.
 
-ghost use Rattle.std.specs.Prelude.{◌<◌};
-ghost use Rattle.sqz_image.specs.Objects.{object_count};
+ghost use Rattle.std.specs.Prelude.{◌<◌, ◌≤◌};
+ghost use Rattle.sqz_image.specs.Objects.{object_count, chunk_words};
+ghost use Rattle.sqz_answers.specs.Shown.{shown_count};
 
-use crate::inspector::Inspector;
-use crate::out::Out;
-use crate::print_error::PrintError;
-use crate::slot_rows::{SlotRow, slot_line, slot_rows};
+use crate::slot_rows::SlotView;
 use crate::slots::SlotNames;
-use crate::texts::{counted, digits, digits_if};
 use serde::Serialize;
 use sqz_answers::{Shown, shown_object, slot_at, slot_count};
-use sqz_facts::ObjectFacts;
 use sqz_histogram::first_bytes;
 use sqz_image::Sink;
+use sqz_look_view::{Counted, Hex, Inspector, More, ObjectLabel, Out, PrintError};
 use sqz_names::escaped;
 use sqz_object::ObjectIndex;
 use std::alloc::AllocError;
+use std::fmt;
 
 /// The maximum number of bytes of a byte object in the text form, unless all are requested.
 const MOST_BYTES: usize = 400;
 
-/// An object as JSON.
+/// An object.
 #[derive(Drop, Serialize)]
-struct ObjectRow {
-    address: String,
+struct ObjectView {
+    address: Hex,
     class: String,
-    class_address: Option<String>,
-    label: String,
+    class_address: Option<Hex>,
+    label: ObjectLabel,
     live: bool,
     bytes: u64,
     retained: Option<u64>,
@@ -35,48 +33,53 @@ struct ObjectRow {
     format: u32,
     hash: u32,
     compact_index: u32,
-    slots: Vec<SlotRow>,
+    /// The first slots, or all.
+    slots: Vec<SlotView>,
+    /// The number of slots that are left out.
+    #[serde(skip)]
+    more_slots: usize,
+    /// The first bytes of a byte object as text, or all.
     text: Option<String>,
+    /// The number of bytes of which only the first are there.
+    #[serde(skip)]
+    cut_of: Option<usize>,
+}
+
+/// The bytes of a byte object as text.
+#[derive(Drop)]
+struct ByteText {
+    /// The first bytes, or all.
+    text: String,
+    /// The number of bytes, if some are left out.
+    cut_of: Option<usize>,
 }
 
 /// Prints what an object is: its class, its size and what it retains, its header, what its slots
-/// hold, and its bytes as text if it has any. Prints nothing if there is no such object.
+/// hold, and its bytes as text if it has any.
 pub fn print_show<C: Sink>(
     inspector: &Inspector<'_>,
     object: ObjectIndex,
     out: &mut Out<'_, C>,
-) -> Result<(), PrintError> {
-    if object >= inspector.live.graph.heap.len() {
-        return Ok(());
-    }
-    let shown = shown_object(inspector.alloc, &inspector.live, object)?;
-    if out.is_json() {
-        let row = object_row(inspector, object, shown)?;
-        return out.json(&row);
-    }
-    for line in &head_lines(inspector, object, shown)? {
-        out.line(line.as_str())?;
-    }
-    print_slots(inspector, object, out)?;
-    print_text(inspector, object, out)
-}
-
-/// Returns an object as JSON.
-fn object_row(
-    inspector: &Inspector<'_>,
-    object: ObjectIndex,
-    shown: Shown,
-) -> Result<ObjectRow, AllocError>
+) -> Result<(), PrintError>
     requires { object < object_count inspector.now.live.graph.heap.now }
 {
-    let alloc = inspector.alloc;
-    let Shown { facts, retained } = shown;
-    let class = facts.class.map(|class| inspector.address(class));
-    Ok(ObjectRow {
-        address: digits(alloc, facts.address)?,
+    let Shown { facts, retained } = shown_object(inspector.alloc, &inspector.live, object)?;
+    let count = slot_count(inspector.live.graph.heap, object);
+    let shown = out.shown_of(count);
+    let class_address = match facts.class {
+        Some(class) => Some(inspector.address(class)),
+        None => None,
+    };
+    let bytes = bytes_of(inspector, object, out.is_cut())?;
+    let (text, cut_of) = match bytes {
+        Some(ByteText { text, cut_of }) => (Some(text), cut_of),
+        None => (None, None),
+    };
+    out.emit(&ObjectView {
+        address: Hex(facts.address),
         class: inspector.names.name_of_class_of(object)?,
-        class_address: digits_if(alloc, class)?,
-        label: inspector.names.label(object)?,
+        class_address,
+        label: ObjectLabel::of(inspector, object)?,
         live: retained.is_some(),
         bytes: facts.bytes,
         retained,
@@ -84,117 +87,110 @@ fn object_row(
         format: facts.format,
         hash: facts.hash,
         compact_index: facts.compact_index,
-        slots: slot_rows(inspector, object)?,
-        text: text_of(inspector, object)?,
+        slots: slots_of(inspector, object, shown)?,
+        more_slots: (count - shown) as usize,
+        text,
+        cut_of,
     })
 }
 
-/// Returns the lines about an object before its slots.
-fn head_lines(
+/// Returns the first slots of an object and what they hold.
+fn slots_of(
     inspector: &Inspector<'_>,
     object: ObjectIndex,
-    shown: Shown,
-) -> Result<Vec<String>, AllocError> {
-    let alloc = inspector.alloc;
-    let Shown { facts, retained } = shown;
-    let label = inspector.names.short_label(object)?;
-    let class = class_text(inspector, object, facts)?;
-    let size = match retained {
-        Some(retained) => format!(in alloc; "{} bytes, retains {retained}", facts.bytes)?,
-        None => format!(in alloc; "{} bytes, not reachable", facts.bytes)?,
-    };
-    let words = counted(alloc, facts.header_words as usize, "word")?;
-    let (format, hash, compact) = (facts.format, facts.hash, facts.compact_index);
-    let mut lines = Vec::new(alloc);
-    lines.push(format!(in alloc; "{label} {:08x}", facts.address)?)?;
-    lines.push(format!(in alloc; "  {:<10}{class}", "class")?)?;
-    lines.push(format!(in alloc; "  {:<10}{size}", "size")?)?;
-    lines.push(format!(in alloc;
-        "  {:<10}{words}, format {format}, hash {hash}, compact index {compact}",
-        "header"
-    )?)?;
-    Ok(lines)
-}
-
-/// Returns the name and the address of an object's class.
-fn class_text(
-    inspector: &Inspector<'_>,
-    object: ObjectIndex,
-    facts: ObjectFacts,
-) -> Result<String, AllocError> {
-    let name = inspector.names.name_of_class_of(object)?;
-    match facts.class {
-        Some(class) => {
-            let address = inspector.address(class);
-            format!(in inspector.alloc; "{name} {address:08x}")
-        }
-        None => Ok(name),
-    }
-}
-
-/// Prints a line for each slot of an object.
-fn print_slots<C: Sink>(
-    inspector: &Inspector<'_>,
-    object: ObjectIndex,
-    out: &mut Out<'_, C>,
-) -> Result<(), PrintError>
-    requires { object < object_count inspector.now.live.graph.heap.now }
+    count: u32,
+) -> Result<Vec<SlotView>, AllocError>
+    requires inside { object < object_count inspector.now.live.graph.heap.now }
+    requires count { count ≤ shown_count (chunk_words inspector.now.live.graph.heap.now object) }
 {
     let heap = inspector.live.graph.heap;
-    let count = slot_count(heap, object);
-    if count > 0 {
-        out.line("slots")?;
-    }
     let names = SlotNames::of(inspector, object)?;
-    for place in 0..out.shown_of(count) {
-        let line = slot_line(inspector, &names, slot_at(heap, object, place))?;
-        out.line(line.as_str())?;
+    let mut slots = Vec::new(inspector.alloc);
+    for place in 0..count {
+        slots.push(SlotView::of(inspector, &names, slot_at(heap, object, place))?)?;
     }
-    out.rest(count as usize, "slot")
+    Ok(slots)
 }
 
-/// Prints the bytes of an object as text, if it has any.
-fn print_text<C: Sink>(
+/// Returns the bytes of a byte object as text, of many only the first if `is_cut`.
+fn bytes_of(
     inspector: &Inspector<'_>,
     object: ObjectIndex,
-    out: &mut Out<'_, C>,
-) -> Result<(), PrintError>
+    is_cut: bool,
+) -> Result<Option<ByteText>, AllocError>
     requires { object < object_count inspector.now.live.graph.heap.now }
 {
-    let alloc = inspector.alloc;
-    let heap = inspector.live.graph.heap;
+    let (alloc, heap) = (inspector.alloc, inspector.live.graph.heap);
     let Some(bytes) = first_bytes(alloc, heap.order(), &heap.object(object), usize::MAX)? else {
-        return Ok(());
+        return Ok(None);
     };
     let count = bytes.len();
-    let (shown, _) = bytes.split_at(if out.is_cut() {
-        count.min(MOST_BYTES)
-    } else {
-        count
-    });
-    let text = escaped(alloc, shown)?;
-    let line = format!(in alloc; "  {text}")?;
-    out.line("text")?;
-    out.line(line.as_str())?;
-    if shown.len() < count {
-        let line = format!(in alloc;
-            "... cut after {} of {count} bytes; --all prints all",
-            shown.len()
-        )?;
-        out.line(line.as_str())?;
+    if !is_cut || count <= MOST_BYTES {
+        let text = escaped(alloc, &bytes)?;
+        return Ok(Some(ByteText { text, cut_of: None }));
     }
-    Ok(())
+    let (first, _) = bytes.split_at(MOST_BYTES);
+    let text = escaped(alloc, first)?;
+    let cut_of = Some(count);
+    Ok(Some(ByteText { text, cut_of }))
 }
 
-/// Returns the bytes of a byte object as text.
-fn text_of(inspector: &Inspector<'_>, object: ObjectIndex) -> Result<Option<String>, AllocError>
-    requires { object < object_count inspector.now.live.graph.heap.now }
-{
-    let heap = inspector.live.graph.heap;
-    let chunk = heap.object(object);
-    let bytes = first_bytes(inspector.alloc, heap.order(), &chunk, usize::MAX)?;
-    match bytes {
-        Some(bytes) => Ok(Some(escaped(inspector.alloc, &bytes)?)),
-        None => Ok(None),
+impl fmt::Display for ObjectView {
+    fn fmt<W: fmt::Write>(&self, f: &mut fmt::Formatter<W>) -> fmt::Result {
+        self.write_head(f)?;
+        self.write_slots(f)?;
+        let Some(text) = &self.text else {
+            return Ok(());
+        };
+        let text = text.as_str();
+        write!(f, "\ntext\n  {text}")?;
+        match self.cut_of {
+            Some(count) => {
+                write!(
+                    f,
+                    "\n... cut after {MOST_BYTES} of {count} bytes; --all prints all"
+                )
+            }
+            None => Ok(()),
+        }
+    }
+}
+
+impl ObjectView {
+    /// Writes the lines about the object before its slots.
+    fn write_head<W: fmt::Write>(&self, f: &mut fmt::Formatter<W>) -> fmt::Result {
+        let (label, address, class) = (&self.label, self.address, self.class.as_str());
+        write!(f, "{label} {address}\n  {:<10}{class}", "class")?;
+        if let Some(address) = self.class_address {
+            write!(f, " {address}")?;
+        }
+        let bytes = self.bytes;
+        write!(f, "\n  {:<10}{bytes} bytes, ", "size")?;
+        match self.retained {
+            Some(retained) => write!(f, "retains {retained}")?,
+            None => f.write_str("not reachable")?,
+        }
+        let words = Counted(u64::from(self.header_words), "word");
+        let (format, hash, compact) = (self.format, self.hash, self.compact_index);
+        write!(
+            f,
+            "\n  {:<10}{words}, format {format}, hash {hash}, compact index {compact}",
+            "header"
+        )
+    }
+
+    /// Writes a line for each slot.
+    fn write_slots<W: fmt::Write>(&self, f: &mut fmt::Formatter<W>) -> fmt::Result {
+        if self.slots.is_empty() {
+            return Ok(());
+        }
+        f.write_str("\nslots")?;
+        for slot in &self.slots {
+            write!(f, "\n{slot}")?;
+        }
+        match self.more_slots {
+            0 => Ok(()),
+            count => write!(f, "\n{}", More(count, "slot")),
+        }
     }
 }

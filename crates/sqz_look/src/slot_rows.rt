@@ -2,103 +2,116 @@
 
 ghost use Rattle.std.specs.Prelude.{◌<◌};
 ghost use Rattle.sqz_image.specs.Objects.{object_count};
+ghost use Rattle.sqz_facts.specs.Held.{PointsBelow};
 
-use crate::inspector::Inspector;
-use crate::slots::{SlotName, SlotNames, slot_name};
-use crate::texts::digits;
+use crate::slots::{SlotName, SlotNames};
 use serde::Serialize;
-use sqz_answers::{ShownSlot, slot_at, slot_count};
-use sqz_facts::Held;
-use sqz_object::ObjectIndex;
+use sqz_answers::ShownSlot;
+use sqz_facts::{Held, SlotFacts};
+use sqz_look_view::{Hex, Inspector, ObjectLabel};
 use std::alloc::AllocError;
+use std::fmt;
 
-/// What a slot holds as JSON: a SmallInteger, or an address or a word in digits.
-#[derive(Drop, Serialize)]
+/// What a slot holds: a SmallInteger, or a word.
+#[derive(Clone, Copy, Drop, Serialize)]
 #[serde(untagged)]
-pub(crate) enum SlotValue {
+enum SlotValue {
     Number(i32),
-    Word(String),
+    Word(Hex),
 }
 
-/// A slot and what it holds, as JSON.
+/// What the word of a slot is.
+#[derive(Clone, Copy, Drop, Serialize)]
+#[serde(rename_all = "lowercase")]
+enum SlotKind {
+    Integer,
+    Pointer,
+    Weak,
+    Untraced,
+    Bad,
+}
+
+/// A slot and what it holds.
 #[derive(Drop, Serialize)]
-pub(crate) struct SlotRow {
+pub(crate) struct SlotView {
     slot: SlotName,
     name: Option<String>,
-    kind: &'static str,
+    kind: SlotKind,
     value: SlotValue,
-    label: Option<String>,
+    label: Option<ObjectLabel>,
+    /// The slot as text.
+    #[serde(skip)]
+    text: String,
 }
 
-/// Returns the slots of an object and what they hold, as JSON.
-pub(crate) fn slot_rows(
-    inspector: &Inspector<'_>,
-    object: ObjectIndex,
-) -> Result<Vec<SlotRow>, AllocError>
-    requires { object < object_count inspector.now.live.graph.heap.now }
-{
-    let heap = inspector.live.graph.heap;
-    let names = SlotNames::of(inspector, object)?;
-    let mut rows = Vec::new(inspector.alloc);
-    for place in 0..slot_count(heap, object) {
-        rows.push(slot_row(inspector, &names, slot_at(heap, object, place))?)?;
+impl SlotView {
+    /// Returns the row of a slot of the object whose slots these names are of.
+    pub(crate) fn of(
+        inspector: &Inspector<'_>,
+        names: &SlotNames,
+        shown: ShownSlot,
+    ) -> Result<Self, AllocError>
+        requires { PointsBelow (object_count inspector.now.live.graph.heap.now) shown.facts.held }
+    {
+        let ShownSlot { slot, facts } = shown;
+        Ok(SlotView {
+            slot: SlotName::from(slot),
+            name: names.name(slot)?,
+            kind: kind_of(facts.held),
+            value: value_of(facts),
+            label: label_of(inspector, facts.held)?,
+            text: names.text(slot)?,
+        })
     }
-    Ok(rows)
 }
 
-/// Returns a slot and what it holds, as JSON.
-fn slot_row(
-    inspector: &Inspector<'_>,
-    names: &SlotNames,
-    shown: ShownSlot,
-) -> Result<SlotRow, AllocError> {
-    let ShownSlot { slot, facts } = shown;
-    let (kind, value, target) = match facts.held {
-        Held::Integer(number) => ("integer", SlotValue::Number(number), None),
-        Held::Pointer(target) => ("pointer", word_value(inspector, facts.word)?, Some(target)),
-        Held::Weak(target) => ("weak", word_value(inspector, facts.word)?, Some(target)),
-        Held::Untraced => ("untraced", word_value(inspector, facts.word)?, None),
-        Held::Bad => ("bad", word_value(inspector, facts.word)?, None),
-    };
-    let label = match target {
-        Some(target) => Some(inspector.names.label(target)?),
-        None => None,
-    };
-    Ok(SlotRow {
-        slot: slot_name(slot),
-        name: names.name(inspector, slot)?,
-        kind,
-        value,
-        label,
-    })
+impl fmt::Display for SlotView {
+    fn fmt<W: fmt::Write>(&self, f: &mut fmt::Formatter<W>) -> fmt::Result {
+        let text = self.text.as_str();
+        write!(f, "  {text:<26}  ")?;
+        match self.value {
+            SlotValue::Number(number) => write!(f, "{number}")?,
+            SlotValue::Word(word) => write!(f, "{word}")?,
+        }
+        if let Some(label) = &self.label {
+            write!(f, " {label}")?;
+        }
+        match self.kind {
+            SlotKind::Weak => f.write_str(" (weak)"),
+            SlotKind::Untraced => f.write_str(" (not traced)"),
+            SlotKind::Bad => f.write_str(" (no object)"),
+            SlotKind::Integer | SlotKind::Pointer => Ok(()),
+        }
+    }
 }
 
-/// Returns a word as JSON.
-fn word_value(inspector: &Inspector<'_>, word: u32) -> Result<SlotValue, AllocError> {
-    Ok(SlotValue::Word(digits(inspector.alloc, word)?))
+/// Returns what the word of a slot is.
+fn kind_of(held: Held) -> SlotKind {
+    match held {
+        Held::Integer(_) => SlotKind::Integer,
+        Held::Pointer(_) => SlotKind::Pointer,
+        Held::Weak(_) => SlotKind::Weak,
+        Held::Untraced => SlotKind::Untraced,
+        Held::Bad => SlotKind::Bad,
+    }
 }
 
-/// Returns the line of a slot and what it holds.
-pub(crate) fn slot_line(
-    inspector: &Inspector<'_>,
-    names: &SlotNames,
-    shown: ShownSlot,
-) -> Result<String, AllocError> {
-    let alloc = inspector.alloc;
-    let ShownSlot { slot, facts } = shown;
-    let name = names.text(inspector, slot)?;
-    let word = facts.word;
+/// Returns what a slot holds.
+fn value_of(facts: SlotFacts) -> SlotValue {
     match facts.held {
-        Held::Integer(number) => format!(in alloc; "  {name:<26}  {number}"),
-        Held::Untraced => format!(in alloc; "  {name:<26}  {word:08x} (not traced)"),
-        Held::Bad => format!(in alloc; "  {name:<26}  {word:08x} (no object)"),
-        Held::Pointer(target) => {
-            let label = inspector.names.short_label(target)?;
-            format!(in alloc; "  {name:<26}  {word:08x} {label}")
+        Held::Integer(number) => SlotValue::Number(number),
+        _ => SlotValue::Word(Hex(facts.word)),
+    }
+}
+
+/// Returns the label of the object that a slot points to, if it points to one.
+fn label_of(inspector: &Inspector<'_>, held: Held) -> Result<Option<ObjectLabel>, AllocError>
+    requires { PointsBelow (object_count inspector.now.live.graph.heap.now) held }
+{
+    match held {
+        Held::Pointer(target) | Held::Weak(target) => {
+            Ok(Some(ObjectLabel::of(inspector, target)?))
         }
-        Held::Weak(target) => {
-            let label = inspector.names.short_label(target)?;
-            format!(in alloc; "  {name:<26}  {word:08x} {label} (weak)")
-        }
+        Held::Integer(_) | Held::Untraced | Held::Bad => Ok(None),
     }
 }

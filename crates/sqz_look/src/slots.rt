@@ -1,23 +1,16 @@
 //! What the slots of an object are called.
 
-ghost use Rattle.std.specs.Prelude.{◌<◌};
+ghost use Rattle.std.specs.Prelude.{◌<◌, IfSome};
 ghost use Rattle.sqz_image.specs.Objects.{object_count};
 
-use crate::inspector::Inspector;
 use serde::Serialize;
 use sqz_facts::object_facts;
 use sqz_image::Slot;
-use sqz_names::fixed_fields;
+use sqz_look_view::Inspector;
+use sqz_names::formats::{FIXED_AND_INDEXED, FIXED_AND_WEAK, INDEXED};
 use sqz_object::{Layout, ObjectIndex};
+use sqz_trace::fixed_by;
 use std::alloc::{AllocError, Global};
-
-/// The format of objects that have indexed fields alone.
-const INDEXED: u32 = 2;
-
-/// The formats of objects that have fixed fields and then indexed ones: strong and weak.
-const FIXED_AND_INDEXED: u32 = 3;
-
-const FIXED_AND_WEAK: u32 = 4;
 
 /// A slot as JSON: `"class"`, or the number of a field.
 #[derive(Clone, Copy, Drop, Serialize)]
@@ -27,21 +20,23 @@ pub(crate) enum SlotName {
     Field(u32),
 }
 
-/// Returns a slot as JSON.
-pub(crate) fn slot_name(slot: Slot) -> SlotName {
-    match slot {
-        Slot::ClassWord => SlotName::Class("class"),
-        Slot::Field(index) => SlotName::Field(index),
+impl From<Slot> for SlotName {
+    fn from(slot: Slot) -> SlotName {
+        match slot {
+            Slot::ClassWord => SlotName::Class("class"),
+            Slot::Field(index) => SlotName::Field(index),
+        }
     }
 }
 
 /// The names of the slots of an object.
 #[derive(Drop)]
 pub(crate) struct SlotNames {
+    alloc: Global,
     /// The class whose instance variables were found last.
     class: Option<ObjectIndex>,
-    /// The names of these instance variables, as byte objects.
-    variables: Vec<ObjectIndex>,
+    /// The names of these instance variables.
+    variables: Vec<String>,
     /// Whether the fields of the object are these instance variables.
     has_variables: bool,
     /// The first indexed field, if the object has such fields.
@@ -52,6 +47,7 @@ impl SlotNames {
     /// Returns names of slots, none of which is that of an instance variable.
     pub(crate) fn none(alloc: Global) -> Self {
         SlotNames {
+            alloc,
             class: None,
             variables: Vec::new(alloc),
             has_variables: false,
@@ -83,11 +79,7 @@ impl SlotNames {
         self.has_variables = !matches!(layout, Layout::Bytes { .. } | Layout::Method);
         self.first_indexed = match facts.format {
             INDEXED => Some(0),
-            FIXED_AND_INDEXED | FIXED_AND_WEAK => {
-                facts
-                    .class
-                    .and_then(|class| fixed_fields(graph.heap, class))
-            }
+            FIXED_AND_INDEXED | FIXED_AND_WEAK => fixed_by(graph.heap, facts.class),
             _ => None,
         };
         if self.has_variables && self.class != facts.class {
@@ -98,25 +90,21 @@ impl SlotNames {
     }
 
     /// Returns the name of the instance variable that a slot is.
-    pub(crate) fn name(
-        &self,
-        inspector: &Inspector<'_>,
-        slot: Slot,
-    ) -> Result<Option<String>, AllocError> {
+    pub(crate) fn name(&self, slot: Slot) -> Result<Option<String>, AllocError> {
         let Slot::Field(index) = slot else {
             return Ok(None);
         };
         match self.variables.get(index as usize) {
-            Some(variable) if self.has_variables => Ok(Some(inspector.names.text(*variable)?)),
+            Some(variable) if self.has_variables => Ok(Some(variable.clone()?)),
             _ => Ok(None),
         }
     }
 
     /// Returns a slot as text: `.NAME`, `[K]` with the index of an indexed field counted from 1,
     /// `class`, or `field K`.
-    pub(crate) fn text(&self, inspector: &Inspector<'_>, slot: Slot) -> Result<String, AllocError> {
-        let alloc = inspector.alloc;
-        if let Some(name) = self.name(inspector, slot)? {
+    pub(crate) fn text(&self, slot: Slot) -> Result<String, AllocError> {
+        let alloc = self.alloc;
+        if let Some(name) = self.name(slot)? {
             return format!(in alloc; ".{name}");
         }
         let Slot::Field(index) = slot else {
@@ -132,15 +120,23 @@ impl SlotNames {
     }
 }
 
-/// Returns the names of the instance variables of a class, as byte objects; none if they are not
-/// known.
+/// Returns the names of the instance variables of a class; none if they are not known.
 fn variables_of(
     inspector: &Inspector<'_>,
     class: Option<ObjectIndex>,
-) -> Result<Vec<ObjectIndex>, AllocError> {
+) -> Result<Vec<String>, AllocError>
+    requires { IfSome class (λ class. class < object_count inspector.now.live.graph.heap.now) }
+{
+    let mut texts = Vec::new(inspector.alloc);
     let names = match class {
         Some(class) => inspector.names.instance_variables(class)?,
         None => None,
     };
-    Ok(names.unwrap_or(Vec::new(inspector.alloc)))
+    let Some(names) = names else {
+        return Ok(texts);
+    };
+    for name in &names {
+        texts.push(inspector.names.text(*name)?)?;
+    }
+    Ok(texts)
 }

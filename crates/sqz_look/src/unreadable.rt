@@ -1,69 +1,67 @@
 //! A file from which no image could be read.
 
-use crate::faults::FaultReport;
-use crate::opening::{HEADER_SIZE, Header, Opening};
-use sqz_image::{DATA_SIZE_WORD, Fault};
+use crate::causes::{Cause, FileKind};
+use crate::faults::FaultView;
+use crate::file_kinds::kind_of;
+use sqz_image::{Fault, HEADER_SIZE, Header, UnreadFile};
+use sqz_look_view::Hex;
 use sqz_object::{Address, Kind, WordIndex, Words, chunk_in};
 use std::alloc::{AllocError, Global};
-
-/// The header words with the address of the first data word, and that of the special objects array.
-pub(crate) const BASE_WORD: usize = 3;
-
-pub(crate) const SPECIAL_WORD: usize = 4;
 
 /// An image has fewer data words than this.
 const MOST_WORDS: usize = 1 << 30;
 
-/// A file from which no image could be read: its fault, its first bytes, and the last object
-/// before the fault.
+/// A file from which no image could be read: its fault, and what could be read of it.
 #[derive(Drop)]
 pub struct Unreadable {
     pub(crate) fault: Fault,
-    pub(crate) opening: Opening,
+    pub(crate) header: Option<Header>,
+    kind: Option<FileKind>,
     /// The address of the last object before a chunk that cannot be read.
     pub(crate) last_object: Option<Address>,
 }
 
 impl Unreadable {
-    /// Returns a file with its fault. `file` has its bytes, or none if they could not be read
-    /// again.
-    pub fn of(fault: Fault, opening: Opening, file: &[u8]) -> Self {
-        let last_object = match word_of(&fault) {
-            Some(word) => last_object(&opening, file, word),
-            None => None,
+    /// Returns what could be read of a file.
+    pub fn of(file: &UnreadFile) -> Self {
+        let (fault, header) = (file.fault, file.header);
+        let kind = match fault {
+            Fault::BadVersion => kind_of(&file.bytes),
+            _ => None,
+        };
+        let last_object = match (header, word_of(&fault)) {
+            (Some(header), Some(word)) => last_object(&header, &file.bytes, word),
+            _ => None,
         };
         Unreadable {
             fault,
-            opening,
+            header,
+            kind,
             last_object,
         }
     }
 
     /// Returns the fault with its place in the file.
-    pub(crate) fn report(&self, alloc: Global) -> Result<FaultReport, AllocError> {
-        let fault = self.fault;
-        let mut report = FaultReport::plain(alloc, fault);
-        if fault == Fault::BadVersion {
-            report.detail = self.opening.cause(alloc)?;
-        }
-        let Some(header) = self.opening.header() else {
-            return Ok(report);
+    pub(crate) fn view(&self, alloc: Global) -> Result<FaultView, AllocError> {
+        let mut view = FaultView::of(alloc, self.fault, self.kind.map(Cause::File))?;
+        let Some(header) = self.header else {
+            return Ok(view);
         };
-        if let Some(word) = word_of(&fault) {
-            let base = self.opening.header_word(header, BASE_WORD).unwrap_or(0);
-            report.address = Some(base.wrapping_add(word.wrapping_mul(4)));
+        if let Some(word) = word_of(&self.fault) {
+            let address = header.base().wrapping_add(word.wrapping_mul(4));
             let start = header.offset.saturating_add(HEADER_SIZE) as u64;
-            report.byte = Some(start.saturating_add(4 * u64::from(word)));
+            view.address = Some(Hex(address));
+            view.byte = Some(start.saturating_add(4 * u64::from(word)));
         }
-        if fault == Fault::BadSpecialObjects {
-            report.address = self.opening.header_word(header, SPECIAL_WORD);
+        if self.fault == Fault::BadSpecialObjects {
+            view.address = Some(Hex(header.special()));
         }
-        Ok(report)
+        Ok(view)
     }
 
     /// Returns the fault as a message, with its place in the file.
     pub fn message(&self, alloc: Global) -> Result<String, AllocError> {
-        self.report(alloc)?.line(alloc)
+        self.view(alloc)?.to_string(alloc)
     }
 }
 
@@ -78,10 +76,8 @@ fn word_of(fault: &Fault) -> Option<WordIndex> {
 }
 
 /// Returns the address of the last object before a data word.
-fn last_object(opening: &Opening, file: &[u8], end: WordIndex) -> Option<Address> {
-    let header = opening.header()?;
-    let base = opening.header_word(header, BASE_WORD)?;
-    let words = data_words(opening, header, file)?;
+fn last_object(header: &Header, file: &[u8], end: WordIndex) -> Option<Address> {
+    let words = data_words(header, file)?;
     if words.len() >= MOST_WORDS {
         return None;
     }
@@ -92,7 +88,7 @@ fn last_object(opening: &Opening, file: &[u8], end: WordIndex) -> Option<Address
         let chunk = chunk_in(&words, at).ok()?;
         if chunk.kind != Kind::Free {
             let offset = (at as u32).wrapping_add(chunk.before).wrapping_mul(4);
-            last = Some(base.wrapping_add(offset));
+            last = Some(header.base().wrapping_add(offset));
         }
         at = at.saturating_add((chunk.length as usize).max(1));
     }
@@ -100,9 +96,8 @@ fn last_object(opening: &Opening, file: &[u8], end: WordIndex) -> Option<Address
 }
 
 /// Returns the data words of a file.
-fn data_words<'a>(opening: &Opening, header: Header, file: &'a [u8]) -> Option<Words<'a>> {
+fn data_words<'a>(header: &Header, file: &'a [u8]) -> Option<Words<'a>> {
     let start = header.offset.checked_add(HEADER_SIZE)?;
-    let size = opening.header_word(header, DATA_SIZE_WORD)? as usize;
-    let data = file.get(start..start.checked_add(size)?)?;
+    let data = file.get(start..start.checked_add(header.data_size() as usize)?)?;
     Some(Words::of(header.order, data))
 }

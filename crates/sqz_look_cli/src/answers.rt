@@ -6,15 +6,16 @@ use crate::checks::check_all;
 use crate::comparison::compare;
 use crate::failure::Failure;
 use crate::loading::{Loaded, load};
-use crate::requests::{ImageQuestion, NamedQuestion, ObjectQuestion, Question};
 use crate::session::Session;
 use sqz_cli::{BAD_IMAGE, DONE};
 use sqz_image::Sink;
 use sqz_look::{
-    Found, Inspector, Out, Subject, find_class, find_object, print_census, print_dead_census,
-    print_info, print_info_unreadable, print_list, print_refs, print_show, print_why,
+    Found, find_class, find_object, print_census, print_dead_census, print_info,
+    print_info_unreadable, print_list, print_refs, print_show, print_why,
 };
-use sqz_top::print_top;
+use sqz_look_args::{ImageQuestion, NamedQuestion, ObjectQuestion, Question};
+use sqz_look_top::print_top;
+use sqz_look_view::{Inspector, Out, Subject};
 use std::rt::Files;
 use std::thread::Threads;
 

@@ -3,15 +3,15 @@
 ghost use Rattle.std.specs.Prelude.{◌≡◌, ◌<◌, ◌≤◌};
 
 use crate::answers::answer;
-use crate::commands::{Name, command};
 use crate::failure::Failure;
-use crate::requests::Request;
 use crate::session::Session;
 use clap::error::ErrorKind;
 use clap::{ArgMatches, Error};
 use sqz_cli::{BAD_ARGUMENTS, BAD_IMAGE, DONE, explain, print, refuse};
 use sqz_image::{Fault, Sink};
-use sqz_look::Out;
+use sqz_look_args::{BadRequest, Request, command};
+use sqz_look_view::{Format, Out};
+use sqz_trace::Weak;
 use std::alloc::Global;
 use std::rt::Files;
 use std::thread::Threads;
@@ -71,22 +71,39 @@ fn answer_matches<T: Files + Threads + Sync, C: Sink, E: Sink>(
     ensures exits { result ≤ 4 }
     ensures silent { result ≡ 0 → err.new ≡ err.old }
 {
-    let Some((word, matches)) = matches.subcommand() else {
-        return BAD_ARGUMENTS;
-    };
-    let Some(name) = Name::of(word) else {
-        return BAD_ARGUMENTS;
-    };
-    let request = match Request::of(alloc, name, matches) {
+    let request = match Request::of(alloc, matches) {
         Ok(request) => request,
-        Err(failure) => return explain_failure(&failure, None, err),
+        Err(bad) => return explain_request(alloc, bad, err),
     };
-    let weak = request.weak;
+    let weak = Weak::clear_if(request.clear_weak);
     let session = Session { rt, alloc, weak };
-    let mut out = Out::new(alloc, out, request.format);
+    let format = if request.json {
+        Format::Json
+    } else {
+        Format::Text { all: request.all }
+    };
+    let mut out = Out::new(alloc, out, format);
     match answer(&session, &request.question, &mut out) {
         Ok(exit) => exit,
         Err(failure) => explain_failure(&failure, request.image(), err),
+    }
+}
+
+/// Prints why words that were parsed are no request, and returns the exit.
+fn explain_request<E: Sink>(alloc: Global, bad: BadRequest<'_>, err: &mut E) -> u8
+    ensures exits { result ≤ 4 }
+    ensures failed { 0 < result }
+{
+    let message = match bad {
+        BadRequest::OutOfMemory => return fail(&Fault::OutOfMemory, err),
+        _ => bad.to_string(alloc),
+    };
+    match message {
+        Ok(message) => {
+            print_message(None, message.as_str(), err);
+            BAD_ARGUMENTS
+        }
+        Err(_) => fail(&Fault::OutOfMemory, err),
     }
 }
 
@@ -109,10 +126,6 @@ fn explain_failure<E: Sink>(failure: &Failure, path: Option<&str>, err: &mut E) 
         Failure::NotThere(message) => {
             print_message(path, message.as_str(), err);
             BAD_IMAGE
-        }
-        Failure::BadWords(message) => {
-            print_message(None, message.as_str(), err);
-            BAD_ARGUMENTS
         }
     }
 }

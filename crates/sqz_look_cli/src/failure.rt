@@ -1,7 +1,7 @@
 //! Why there is no answer.
 
 use sqz_image::Fault;
-use sqz_look::PrintError;
+use sqz_look_view::PrintError;
 use std::alloc::AllocError;
 
 /// Why a question has no answer.
@@ -13,8 +13,6 @@ pub(crate) enum Failure {
     NotRead(String),
     /// What is asked about is not there, or no image could be read.
     NotThere(String),
-    /// The command line is at fault.
-    BadWords(String),
 }
 
 impl From<Fault> for Failure {

@@ -3,13 +3,11 @@
 
 mod answers;
 mod checks;
-mod commands;
 mod comparison;
 mod entry_point;
 mod failure;
 mod loading;
 mod quiet_pipe;
-mod requests;
 mod session;
 
 pub use entry_point::look;

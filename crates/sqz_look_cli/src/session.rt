@@ -1,7 +1,7 @@
 //! What questions are answered with.
 
 use sqz_image::Image;
-use sqz_look::Subject;
+use sqz_look_view::Subject;
 use sqz_trace::Weak;
 use std::alloc::{AllocError, Global};
 

@@ -1,0 +1,64 @@
+//! What is known of the cause of a fault.
+
+use serde::Serialize;
+use sqz_look_view::Hex;
+use std::fmt;
+
+/// What is known of the cause of a fault.
+#[derive(Drop, Serialize)]
+#[serde(untagged)]
+pub(crate) enum Cause {
+    File(FileKind),
+    Pointer(BadWord),
+}
+
+/// What a file is that is no supported image.
+#[derive(Clone, Copy, Debug, PartialEq, Eq, Drop, Serialize)]
+#[serde(untagged)]
+pub(crate) enum FileKind {
+    /// A file that begins as those of an archiver do: `gzip` or `zip`.
+    Archive { file: &'static str },
+    /// An image of another version, and what such images are called.
+    Image { version: u32, name: &'static str },
+}
+
+/// A word that is no pointer to an object.
+#[derive(Drop, Serialize)]
+pub(crate) struct BadWord {
+    pub(crate) word: Hex,
+    /// The only object whose address differs from the word in one bit.
+    pub(crate) near: Option<NearObject>,
+}
+
+/// An object whose address is near.
+#[derive(Drop, Serialize)]
+pub(crate) struct NearObject {
+    pub(crate) address: Hex,
+    pub(crate) class: String,
+}
+
+impl fmt::Display for Cause {
+    fn fmt<W: fmt::Write>(&self, f: &mut fmt::Formatter<W>) -> fmt::Result {
+        match self {
+            Cause::File(FileKind::Archive { file }) => write!(f, " (a {file} file)"),
+            Cause::File(FileKind::Image { version, name }) => {
+                write!(f, " (version {version}, {name})")
+            }
+            Cause::Pointer(bad) => write!(f, "{bad}"),
+        }
+    }
+}
+
+impl fmt::Display for BadWord {
+    fn fmt<W: fmt::Write>(&self, f: &mut fmt::Formatter<W>) -> fmt::Result {
+        let word = self.word;
+        write!(f, ": word {word}")?;
+        match &self.near {
+            Some(near) => {
+                let (address, class) = (near.address, near.class.as_str());
+                write!(f, ", one bit from {address} {class}")
+            }
+            None => Ok(()),
+        }
+    }
+}

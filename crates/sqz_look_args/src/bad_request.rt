@@ -1,0 +1,36 @@
+//! Why words are no request.
+
+use std::alloc::AllocError;
+use std::fmt;
+
+/// Why the words of a command line are no request.
+#[derive(Clone, Copy, Debug)]
+pub enum BadRequest<'a> {
+    /// Memory ran out.
+    OutOfMemory,
+    /// There is no command.
+    NoCommand,
+    /// The command takes this argument.
+    Missing(&'static str),
+    /// The value of `--min` is no percentage.
+    NoPercentage(&'a str),
+}
+
+impl From<AllocError> for BadRequest<'_> {
+    fn from(_error: AllocError) -> Self {
+        BadRequest::OutOfMemory
+    }
+}
+
+impl fmt::Display for BadRequest<'_> {
+    fn fmt<W: fmt::Write>(&self, f: &mut fmt::Formatter<W>) -> fmt::Result {
+        match self {
+            BadRequest::OutOfMemory => f.write_str("out of memory"),
+            BadRequest::NoCommand => f.write_str("no command"),
+            BadRequest::Missing(id) => write!(f, "this command takes {id}"),
+            BadRequest::NoPercentage(text) => {
+                write!(f, "--min takes 0 to 100 percent, as 0.2: {text}")
+            }
+        }
+    }
+}

@@ -1,0 +1,86 @@
+//! What changed between two images.
+
+use crate::differences::Differences;
+use crate::methods::MethodChanges;
+use crate::variables::VariableChanges;
+use crate::views::{ClassView, MethodView, TotalView, VariableView};
+use sqz_answers::{Change, Size};
+use sqz_image::Sink;
+use sqz_look_view::{Inspector, Out, PrintError};
+use std::alloc::{AllocError, Global};
+use std::thread::Threads;
+
+/// Prints what changed from the old image to the new one: the number of live objects and their
+/// bytes, the classes whose instances differ in number or size, the variables that retain more or
+/// less, and the methods that came, went or changed. Returns whether the images are alike.
+pub fn print_diff<C: Sink>(
+    rt: &(impl Threads + Sync),
+    old: &Inspector<'_>,
+    new: &Inspector<'_>,
+    out: &mut Out<'_, C>,
+) -> Result<bool, PrintError> {
+    let alloc = old.alloc;
+    let differences = Differences::between(rt, old, new)?;
+    out.emit(&TotalView::of(alloc, differences.old, differences.new)?)?;
+    print_classes(alloc, &differences.classes, out)?;
+    print_variables(alloc, &differences.variables, out)?;
+    print_methods(alloc, &differences.methods, out)?;
+    Ok(differences.is_empty())
+}
+
+/// Prints the classes that differ.
+fn print_classes<C: Sink>(
+    alloc: Global,
+    changes: &[Change<Size>],
+    out: &mut Out<'_, C>,
+) -> Result<(), PrintError> {
+    let count = changes.len();
+    out.text(&format!(in alloc; "classes   {count} changed")?)?;
+    for change in &changes[..out.shown(count)] {
+        out.emit(&ClassView::of(alloc, change)?)?;
+    }
+    out.rest(count, "row")
+}
+
+/// Prints the variables that retain more or less.
+fn print_variables<C: Sink>(
+    alloc: Global,
+    variables: &VariableChanges,
+    out: &mut Out<'_, C>,
+) -> Result<(), PrintError> {
+    let changes = variables.changes.as_slice();
+    let count = changes.len();
+    out.text(&format!(in alloc; "retained  {count} changed")?)?;
+    for change in &changes[..out.shown(count)] {
+        out.emit(&VariableView::of(alloc, variables, change)?)?;
+    }
+    out.rest(count, "row")
+}
+
+/// Prints the methods that came, went or changed.
+fn print_methods<C: Sink>(
+    alloc: Global,
+    methods: &MethodChanges,
+    out: &mut Out<'_, C>,
+) -> Result<(), PrintError> {
+    out.text(&methods_line(alloc, methods)?)?;
+    let changes = methods.changes.as_slice();
+    for change in &changes[..out.shown(changes.len())] {
+        out.emit(&MethodView::of(methods.name(alloc, *change)?, *change))?;
+    }
+    out.rest(changes.len(), "row")
+}
+
+/// Returns the line about all methods.
+fn methods_line(alloc: Global, methods: &MethodChanges) -> Result<String, AllocError> {
+    let (mut added, mut removed, mut changed) = (0u64, 0u64, 0u64);
+    for change in &methods.changes {
+        match (change.old, change.new) {
+            (None, _) => added = added.saturating_add(1),
+            (_, None) => removed = removed.saturating_add(1),
+            _ => changed = changed.saturating_add(1),
+        }
+    }
+    let count = methods.count;
+    format!(in alloc; "methods   {added} added, {removed} removed, {changed} changed of {count}")
+}

@@ -1,0 +1,56 @@
+//! What differs between two images.
+
+use crate::classes::class_changes;
+use crate::methods::{MethodChanges, method_changes};
+use crate::variables::{VariableChanges, variable_changes};
+use sqz_answers::{Change, Size};
+use sqz_facts::marked_bytes;
+use sqz_look_view::Inspector;
+use std::alloc::AllocError;
+use std::thread::Threads;
+
+/// What differs between two images.
+#[derive(Drop)]
+pub(crate) struct Differences {
+    /// The live objects of the old image.
+    pub(crate) old: Size,
+    /// The live objects of the new image.
+    pub(crate) new: Size,
+    pub(crate) classes: Vec<Change<Size>>,
+    pub(crate) variables: VariableChanges,
+    pub(crate) methods: MethodChanges,
+}
+
+impl Differences {
+    /// Returns what differs between two images.
+    pub(crate) fn between(
+        rt: &(impl Threads + Sync),
+        old: &Inspector<'_>,
+        new: &Inspector<'_>,
+    ) -> Result<Self, AllocError> {
+        Ok(Differences {
+            old: size_of(old),
+            new: size_of(new),
+            classes: class_changes(rt, old, new)?,
+            variables: variable_changes(old, new)?,
+            methods: method_changes(old, new)?,
+        })
+    }
+
+    /// Returns whether the images are alike.
+    pub(crate) fn is_empty(&self) -> bool {
+        self.old == self.new
+            && self.classes.is_empty()
+            && self.variables.changes.is_empty()
+            && self.methods.changes.is_empty()
+    }
+}
+
+/// Returns the number of the live objects of an image, and their bytes.
+fn size_of(inspector: &Inspector<'_>) -> Size {
+    let live = &inspector.live;
+    Size {
+        objects: u64::from(live.marks.count()),
+        bytes: marked_bytes(live.graph.heap, &live.marks),
+    }
+}

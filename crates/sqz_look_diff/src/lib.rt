@@ -1,0 +1,17 @@
+//! What changed between two images: objects and bytes, classes, what variables retain, and methods,
+//! printed as text or as lines of JSON. Everything is compared by its name, and nothing by address.
+#![tactic(auto)]
+
+mod bytecodes;
+mod classes;
+mod contents;
+mod diff;
+mod differences;
+mod literals;
+mod method_names;
+mod methods;
+mod numbers;
+mod variables;
+mod views;
+
+pub use diff::print_diff;

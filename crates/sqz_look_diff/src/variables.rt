@@ -1,0 +1,96 @@
+//! The variables that retain more or less.
+
+ghost use Rattle.std.specs.Prelude.{◌<◌, IfSome};
+ghost use Rattle.sqz_image.specs.Objects.{object_count};
+
+use sqz_answers::{Change, changes_of, sort_by_difference};
+use sqz_dominators::dominators_of;
+use sqz_look_view::Inspector;
+use sqz_names::{Known, Label};
+use sqz_object::ObjectIndex;
+use std::alloc::AllocError;
+use std::collections::{BTreeMap, BTreeSet};
+
+/// What the variables of an image hold.
+#[derive(Drop)]
+struct Holdings {
+    /// By name, the bytes that the associations retain.
+    bytes: BTreeMap<String, u64>,
+    /// The names whose values are not all nil.
+    set: BTreeSet<String>,
+}
+
+/// The variables that came, went, or retain more or less.
+#[derive(Drop)]
+pub(crate) struct VariableChanges {
+    /// Those that changed most first.
+    pub(crate) changes: Vec<Change<u64>>,
+    /// The names whose values are not nil in the old image, and in the new one.
+    old_set: BTreeSet<String>,
+    new_set: BTreeSet<String>,
+}
+
+impl VariableChanges {
+    /// Returns whether the value of a variable was nil.
+    pub(crate) fn was_nil(&self, name: &str) -> bool {
+        !self.old_set.contains(name)
+    }
+
+    /// Returns whether the value of a variable is nil now.
+    pub(crate) fn is_nil(&self, name: &str) -> bool {
+        !self.new_set.contains(name)
+    }
+}
+
+/// Returns the variables that came, went, or retain more or less, those that changed most first.
+pub(crate) fn variable_changes(
+    old: &Inspector<'_>,
+    new: &Inspector<'_>,
+) -> Result<VariableChanges, AllocError> {
+    let alloc = old.alloc;
+    let (old, new) = (held_in(old)?, held_in(new)?);
+    let mut changes = changes_of(alloc, &old.bytes, &new.bytes)?;
+    sort_by_difference(&mut changes)?;
+    Ok(VariableChanges {
+        changes,
+        old_set: old.set,
+        new_set: new.set,
+    })
+}
+
+/// Returns what the variables of an image hold, by their names. Variables with one name are added
+/// up.
+fn held_in(inspector: &Inspector<'_>) -> Result<Holdings, AllocError> {
+    let dominators = dominators_of(inspector.alloc, inspector.live.graph)?;
+    let mut held = Holdings {
+        bytes: BTreeMap::new(inspector.alloc),
+        set: BTreeSet::new(inspector.alloc),
+    };
+    let mut last = None;
+    for name in inspector.names.variables() {
+        let association = name.association;
+        if last == Some(association) || !inspector.live.marks.has(association) {
+            continue;
+        }
+        last = Some(association);
+        if let Some(variable) = inspector.names.variable(association)? {
+            let label = inspector.names.label(association)?;
+            if !is_nil(inspector, variable.value)? {
+                held.set.insert(label.clone()?)?;
+            }
+            let bytes = held.bytes.entry(label)?.or_insert(0);
+            *bytes = bytes.saturating_add(dominators.retained(association).bytes);
+        }
+    }
+    Ok(held)
+}
+
+/// Returns whether the value of a variable is nil.
+fn is_nil(inspector: &Inspector<'_>, value: Option<ObjectIndex>) -> Result<bool, AllocError>
+    requires { IfSome value (λ value. value < object_count inspector.now.live.graph.heap.now) }
+{
+    match value {
+        Some(value) => Ok(inspector.names.label_of(value)? == Label::Known(Known::Nil)),
+        None => Ok(false),
+    }
+}

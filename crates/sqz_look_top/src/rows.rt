@@ -1,0 +1,144 @@
+//! Rows with their labels.
+
+ghost use Rattle.std.specs.Prelude.{◌<◌, All};
+ghost use Rattle.sqz_image.specs.Objects.{object_count};
+ghost use Rattle.sqz_answers.specs.TopRows.{IsRowInside};
+
+use sqz_answers::{TopObjects, TopRow};
+use sqz_look_view::{Hex, Inspector};
+use sqz_names::Label;
+use sqz_object::ObjectIndex;
+use std::alloc::AllocError;
+use std::collections::BTreeMap;
+
+/// A row with its label. One that stands for several smaller objects has no address and no class.
+#[derive(Drop)]
+pub(crate) struct Row {
+    pub(crate) label: String,
+    /// The address of its object.
+    pub(crate) address: Option<Hex>,
+    /// The name of its object's class.
+    pub(crate) class: Option<String>,
+    /// The number of rows above it.
+    pub(crate) depth: usize,
+    /// The address of the object of the row above it.
+    pub(crate) parent: Option<Hex>,
+    /// The bytes of the objects that the row itself stands for.
+    pub(crate) own: u64,
+    /// The bytes that no row below it retains.
+    pub(crate) apart: u64,
+    /// The bytes that it retains.
+    pub(crate) retained: u64,
+    /// The number of objects that it retains.
+    pub(crate) objects: u64,
+}
+
+/// Returns rows with their labels. Rows below one row that would read the same have their
+/// addresses in their labels.
+pub(crate) fn labelled(inspector: &Inspector<'_>, rows: &[TopRow]) -> Result<Vec<Row>, AllocError>
+    requires { All (IsRowInside (object_count inspector.now.live.graph.heap.now)) rows.now }
+{
+    let mut labelled = Vec::with_capacity(inspector.alloc, rows.len())?;
+    let mut path = Vec::new(inspector.alloc);
+    for row in rows {
+        path.truncate(row.depth as usize);
+        let label = label_of(inspector, path.last().copied(), *row)?;
+        path.push(*row)?;
+        labelled.push(Row::of(inspector, *row, label)?)?;
+    }
+    make_distinct(inspector, &mut labelled)?;
+    Ok(labelled)
+}
+
+impl Row {
+    /// Returns a row with a label.
+    fn of(inspector: &Inspector<'_>, row: TopRow, label: String) -> Result<Self, AllocError>
+        requires { IsRowInside (object_count inspector.now.live.graph.heap.now) row }
+    {
+        let (address, class) = match row.what {
+            TopObjects::One { object, .. } => {
+                let class = inspector.names.name_of_class_of(object)?;
+                (Some(inspector.address(object)), Some(class))
+            }
+            TopObjects::Smaller { .. } => (None, None),
+        };
+        let parent = match row.parent {
+            Some(parent) => Some(inspector.address(parent)),
+            None => None,
+        };
+        Ok(Row {
+            label,
+            address,
+            class,
+            depth: row.depth as usize,
+            parent,
+            own: row.own,
+            apart: row.apart,
+            retained: row.retained,
+            objects: row.objects,
+        })
+    }
+}
+
+/// Returns the label of a row below another one.
+fn label_of(
+    inspector: &Inspector<'_>,
+    above: Option<TopRow>,
+    row: TopRow,
+) -> Result<String, AllocError>
+    requires { IsRowInside (object_count inspector.now.live.graph.heap.now) row }
+{
+    match row.what {
+        TopObjects::One { object, .. } => label_below(inspector, above, object),
+        TopObjects::Smaller { count } => format!(in inspector.alloc; "{count} smaller"),
+    }
+}
+
+/// Returns the label of an object below a row: a class variable below its class has no class in
+/// its label.
+fn label_below(
+    inspector: &Inspector<'_>,
+    above: Option<TopRow>,
+    object: ObjectIndex,
+) -> Result<String, AllocError>
+    requires { object < object_count inspector.now.live.graph.heap.now }
+{
+    if let Label::ClassVariable { class, key } = inspector.names.label_of(object)? {
+        if stands_for(above, class) {
+            let key = inspector.names.text(key)?;
+            return format!(in inspector.alloc; "class variable {key}");
+        }
+    }
+    inspector.names.short_label(object)
+}
+
+/// Returns whether a row stands for an object, or for a variable that holds it.
+fn stands_for(row: Option<TopRow>, class: ObjectIndex) -> bool {
+    match row.map(|row| row.what) {
+        Some(TopObjects::One { object, value }) => object == class || value == Some(class),
+        Some(TopObjects::Smaller { .. }) | None => false,
+    }
+}
+
+/// Adds the addresses to the labels of rows below one row that read the same.
+fn make_distinct(inspector: &Inspector<'_>, rows: &mut [Row]) -> Result<(), AllocError> {
+    let alloc = inspector.alloc;
+    let mut counts = BTreeMap::new(alloc);
+    for row in rows.iter() {
+        let count = counts.entry(key_of(row)?)?.or_insert(0u32);
+        *count = count.saturating_add(1);
+    }
+    for row in rows.iter_mut() {
+        let count = counts.get(&key_of(row)?).copied().unwrap_or(1);
+        if let (Some(address), true) = (row.address, count > 1) {
+            row.label = format!(in alloc; "{} {address}", row.label)?;
+        }
+    }
+    Ok(())
+}
+
+/// Returns what rows below one row that read the same have in common.
+fn key_of(row: &Row) -> Result<(u32, String), AllocError> {
+    let parent = row.parent.map_or(0, |parent| parent.0);
+    Ok((parent, row.label.clone()?))
+}

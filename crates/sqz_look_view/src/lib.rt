@@ -1,0 +1,23 @@
+//! What every view of an answer is made with: an image with its names, and the output that prints a
+//! view as text for a person or as a line of JSON.
+#![tactic(auto)]
+
+mod counted;
+mod hex;
+mod inspector;
+mod more;
+mod object_label;
+mod out;
+mod places;
+mod print_error;
+mod subject;
+
+pub use counted::Counted;
+pub use hex::Hex;
+pub use inspector::Inspector;
+pub use more::More;
+pub use object_label::ObjectLabel;
+pub use out::{Format, Out};
+pub use places::object_at;
+pub use print_error::PrintError;
+pub use subject::Subject;
