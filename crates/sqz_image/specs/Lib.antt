@@ -10,3 +10,4 @@ pub mod Ranks
 pub mod Index
 pub mod Unread
 pub mod MemoryDevices
+pub mod Readable

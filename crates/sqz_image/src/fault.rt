@@ -3,6 +3,7 @@
 ghost use Rattle.std.specs.Prelude.{◌≡◌};
 ghost use Rattle.sqz_image.specs.declared.fault.Fault.TheVariants.{OutOfMemory};
 ghost use Rattle.sqz_image.specs.Numbers.{number_of_fault};
+ghost use Rattle.sqz_image.specs.Readable.{unread_word};
 
 use crate::slot::Slot;
 use sqz_object::{Address, WordIndex};
@@ -84,6 +85,18 @@ impl Fault {
             Fault::BadCut => 19,
             Fault::BadWeak { .. } => 20,
             Fault::NoNil => 21,
+        }
+    }
+
+    /// Returns the index of the first word of a chunk that cannot be read. None for other faults.
+    pub fn unread_word(&self) -> Option<WordIndex>
+        ensures { result ≡ unread_word self.now }
+    {
+        match *self {
+            Fault::ZeroSize { word } => Some(word),
+            Fault::HeaderMismatch { word } => Some(word),
+            Fault::Overrun { word } => Some(word),
+            _ => None,
         }
     }
 }

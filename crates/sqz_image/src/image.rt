@@ -1,7 +1,7 @@
 //! An image: the bytes before its header, its header, and the object memory after it.
 
 ghost use Rattle.std.specs.Prelude.{◌≡◌, ◌⊎◌, ◌<◌, length, slice_index};
-ghost use Rattle.sqz_image.specs.File.{prefix_size, renewed};
+ghost use Rattle.sqz_image.specs.File.{prefix_size, data_size, renewed};
 
 use crate::header::{DATA_SIZE_WORD, HEADER_WORDS, SPECIAL_WORD};
 use crate::heap::Heap;
@@ -72,6 +72,13 @@ impl Image {
         ensures { result.now ≡ self.now.memory }
     {
         &self.heap
+    }
+
+    /// Returns the size of the data in bytes that the header states.
+    pub fn data_size(&self) -> u32
+        ensures { result ≡ data_size self.now.header }
+    {
+        self.header[DATA_SIZE_WORD]
     }
 
     /// Returns header word `k` of the sixteen, as it was read.

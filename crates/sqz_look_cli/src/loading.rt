@@ -24,7 +24,7 @@ pub(crate) fn load<T: Files>(rt: &T, alloc: Global, path: &str) -> Result<Loaded
         Ok(image) => Ok(Loaded::Image(image)),
         Err(unread) => match unread.fault {
             Fault::OutOfMemory => Err(Fault::OutOfMemory),
-            _ => Ok(Loaded::Unreadable(Unreadable::of(&unread))),
+            _ => Ok(Loaded::Unreadable(Unreadable::of(alloc, &unread)?)),
         },
     }
 }

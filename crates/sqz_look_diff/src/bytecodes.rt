@@ -5,9 +5,6 @@ use sqz_object::{Order, Words, base_of, put_word};
 use sqz_trace::traced_fields;
 use std::alloc::{AllocError, Global};
 
-/// The format of a method without padding. The formats above it have one to three bytes of it.
-const METHOD: u32 = 12;
-
 /// A last byte of at least this says that the last four bytes are a source pointer.
 const SOURCE_FLAG: u8 = 252;
 
@@ -52,8 +49,7 @@ fn bytecodes_in(
     for word in code.iter() {
         bytes.extend_from_slice(&put_word(order, word))?;
     }
-    let format = base_of(method.header().base).format;
-    let padding = format.saturating_sub(METHOD) as usize;
+    let padding = base_of(method.header().base).padding() as usize;
     bytes.truncate(bytes.len().saturating_sub(padding));
     bytes.truncate(code_end(&bytes));
     Ok(bytes)

@@ -23,3 +23,7 @@ base_of word =
       compact = word / 2 ^ 12 % 32;
       hash = word / 2 ^ 17 % 2 ^ 12;
     }
+
+-- the number of padding bytes in the last word of a byte object or a method, by its format
+abbrev pub padding : Base → ℕ
+padding base = if nat_lt base.format 8 then 0 else base.format % 4

@@ -1,7 +1,7 @@
 //! The bit fields of a base header word.
 
 ghost use Rattle.std.specs.Prelude.{◌≡◌};
-ghost use Rattle.sqz_object.specs.Value.{base_of};
+ghost use Rattle.sqz_object.specs.Value.{base_of, padding};
 
 use crate::bit_field::BitField;
 
@@ -45,6 +45,16 @@ pub struct Base {
     pub compact: u32,
     /// Bits 17 to 28.
     pub hash: u32,
+}
+
+impl Base {
+    /// Returns the number of padding bytes in the last word of a byte object or a method: the low
+    /// two bits of its format. 0 for the other formats.
+    pub fn padding(&self) -> u32
+        ensures { result ≡ padding self.now }
+    {
+        if self.format < 8 { 0 } else { self.format % 4 }
+    }
 }
 
 /// Returns the bit fields of a base header word.

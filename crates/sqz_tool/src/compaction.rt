@@ -27,9 +27,6 @@ use sqz_workers::{Gate, Marked, mark};
 use std::alloc::Global;
 use std::thread::Threads;
 
-/// The index of the header word that holds the size of the data in bytes.
-const DATA_SIZE_WORD: u32 = 2;
-
 /// The data of a compacted image, and what its header states about them.
 #[derive(Drop)]
 pub(crate) struct Compaction {
@@ -152,7 +149,7 @@ fn move_live_objects<T: Threads + Sync, G: Gate, O: StageObserver>(
     let summary = Summary {
         objects: heap.len(),
         kept: marked.marks.count(),
-        data_before: image.header(DATA_SIZE_WORD),
+        data_before: image.data_size(),
         data_after: 4 * total(&marked.live_words),
     };
     Ok(Compaction {
