@@ -2,7 +2,7 @@
 -- Serves `entry_point::program`.
 use Rattle.std.proofs.Common.{◌≡◌, ◌≢◌, ℕ, ◌<◌, ◌⊎◌, Bool, List, Result, Ok, Err, arith, inl, inr}
 use Rattle.std.proofs.lemmas.Bool.Decides.{nat_tests}
-use Rattle.std.specs.Prelude.{IfOk, IfErr, MatchResult}
+use Rattle.std.specs.Prelude.{IfErr, MatchResult}
 use Rattle.clap.specs.Words.{Text}
 use Rattle.sqz_image.specs.declared.fault.Fault.{Fault}
 use Rattle.sqz_image.specs.declared.fault.Fault.TheVariants.{OutOfMemory, ReadFailed, WriteFailed, BadWorkers, BadCut}
@@ -11,7 +11,7 @@ use Rattle.sqz_image.specs.Numbers.{number_of_fault}
 use Rattle.sqz_tool.specs.declared.summary.Summary.{Summary}
 use Rattle.sqz_tool.specs.Endings.{AsksFor, EndsWhole, EndsRefused, MayStopEarly, EndsFaulty}
 use Rattle.sqz_cli.specs.Exits.{exit_of, exit_of_number}
-use Rattle.sqz_tool.specs.FileRuns.{Views, CompactsFiles, StopsFiles}
+use Rattle.sqz_tool.specs.FileRuns.{Views, StopsFiles, EndsFiles}
 use Rattle.sqz_cli.specs.Lines.{PrintsFault}
 use Rattle.sqz_trace.specs.WeakSlots.{weak_of}
 
@@ -34,7 +34,7 @@ early_or_late _ = inr ((λ e. absurd (cc e)), (λ e. absurd (cc e)), (λ e. absu
 module _ {F S : Type 0} (views : Views F S) (words : List Text) (out new_out : SinkState) (exit : ℕ) where
   module _ (path : Text) (clear census : Bool) (asked : AsksFor words path clear census) where
     pub ends_whole : (outcome : Result Summary Fault) → MatchResult outcome (λ _. exit ≡ 0) (λ fault. exit ≡ exit_of fault)
-        → IfOk outcome (λ summary. CompactsFiles views path (weak_of clear) census out new_out summary) → exit ≡ 0
+        → EndsFiles views path (weak_of clear) census out new_out outcome → exit ≡ 0
         → EndsWhole views words out new_out
     ends_whole (Ok summary) is compacts done = record {
       path = path;
@@ -61,8 +61,7 @@ module _ {F S : Type 0} (views : Views F S) (words : List Text) (out new_out : S
         → MatchResult outcome (λ _. exit ≡ 0) (λ fault. exit ≡ exit_of fault)
         → IfErr outcome (λ fault. PrintsFault err new_err fault)
         → IfErr outcome (λ fault. fault ≢ WriteFailed → new_out ≡ out)
-        → IfErr outcome (λ fault. fault ≢ BadWorkers → fault ≢ BadCut
-        → StopsFiles views path (weak_of clear) census out new_out fault)
+        → EndsFiles views path (weak_of clear) census out new_out outcome
         → 0 < exit → EndsFaulty views words exit out new_out err new_err
     ends_faulty err new_err (Ok summary) is printed untouched stops some = absurd (omega arith)
     ends_faulty err new_err (Err fault) is printed untouched stops some =

@@ -1,6 +1,6 @@
 -- How the program ends, by the words of its command line: its exit code, and what standard output
 -- and standard error took.
-use Rattle.std.specs.Prelude.{◌≡◌, ◌≢◌, ◌⊎◌, ◌↔◌, ℕ, Bool, true, List, [], Some, codes}
+use Rattle.std.specs.Prelude.{◌≡◌, ◌≢◌, ◌<◌, ◌⊎◌, ◌↔◌, ℕ, Bool, true, List, [], Some, codes}
 use Rattle.clap.specs.Words.{Text, fault_of, first_of, matches_of}
 use Rattle.sqz_image.specs.declared.fault.Fault.{Fault}
 use Rattle.sqz_image.specs.declared.fault.Fault.TheVariants.{OutOfMemory, ReadFailed, WriteFailed, BadWorkers, BadCut}
@@ -59,3 +59,9 @@ pub record EndsFaulty {F S : Type 0} (views : Views F S) (words : List Text) (ex
   pub printed : PrintsFault err new_err fault
   pub untouched : fault ≢ WriteFailed → new_out ≡ out
   pub refuses : MayStopEarly fault ⊎ EndsRefused views words out new_out fault
+
+-- how the program ends if the words are accepted: with 0 after a run that succeeded, and with more
+-- after a fault
+pub record Ends {F S : Type 0} (views : Views F S) (words : List Text) (exit : ℕ) (out new_out err new_err : SinkState) : Type 0 where
+  pub whole : exit ≡ 0 → EndsWhole views words out new_out
+  pub faulty : 0 < exit → EndsFaulty views words exit out new_out err new_err

@@ -1,8 +1,8 @@
 -- Runs from one file to another. Contracts see no bytes unless the files show them.
-use Rattle.std.specs.Prelude.{◌≡◌, ◌⊎◌, ℕ, Bool, true, List, Option}
+use Rattle.std.specs.Prelude.{◌≡◌, ◌≢◌, ◌⊎◌, ℕ, Bool, true, List, Option, Result, MatchResult}
 use Rattle.clap.specs.Words.{Text}
 use Rattle.sqz_image.specs.declared.fault.Fault.{Fault}
-use Rattle.sqz_image.specs.declared.fault.Fault.TheVariants.{ReadFailed}
+use Rattle.sqz_image.specs.declared.fault.Fault.TheVariants.{ReadFailed, BadWorkers, BadCut}
 use Rattle.sqz_image.specs.Devices.{SourceState, SinkState, new_source}
 use Rattle.sqz_cli.specs.OutputFiles.{new_output}
 use Rattle.sqz_trace.specs.declared.weak.Weak.{Weak}
@@ -47,3 +47,10 @@ pub record IsUnopened (old new : SinkState) (fault : Fault) : Type 0 where
 abbrev pub StopsFiles : {F S : Type 0} → Views F S → Text → Weak → Bool → SinkState → SinkState → Fault → Type 0
 StopsFiles views path weak census old new fault =
     IsUnopened old new fault ⊎ RefusesFiles views path weak census old new fault
+
+-- how a call on files ended: with a run that succeeded, or with a fault, which says what was done
+-- if the plan is valid
+abbrev pub EndsFiles : {F S : Type 0} → Views F S → Text → Weak → Bool → SinkState → SinkState → Result Summary Fault → Type 0
+EndsFiles views path weak census old new outcome =
+    MatchResult outcome (CompactsFiles views path weak census old new)
+    (λ fault. fault ≢ BadWorkers → fault ≢ BadCut → StopsFiles views path weak census old new fault)

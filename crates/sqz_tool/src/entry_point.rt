@@ -6,7 +6,7 @@ ghost use Rattle.clap.specs.Words.{fault_of, matches_of};
 ghost use Rattle.sqz_compact_args.specs.CommandLine.{command_line};
 ghost use Rattle.sqz_cli.specs.Exits.{IsExitBy, exit_of};
 ghost use Rattle.sqz_cli.specs.Lines.{PrintsFault};
-ghost use Rattle.sqz_tool.specs.Endings.{AreTaken, EndsFaulty, EndsWhole};
+ghost use Rattle.sqz_tool.specs.Endings.{AreTaken, Ends};
 ghost use Rattle.sqz_tool.specs.Plans.{AsksForCensus, AsksForPlan};
 
 use crate::compact_files::compact;
@@ -45,13 +45,10 @@ pub fn program<'a, T: Files + Threads + Sync, C: Sink, E: Sink>(
     ensures wrong { AreTaken (map string_bytes words.now)
         → (AsksForPlan (matches_of command_line (map string_bytes words.now)) → ⊥) → (result ≡ 2)
         ⊎ (result ≡ 4) }
-    ensures whole { AreTaken (map string_bytes words.now) → result ≡ 0
-        → EndsWhole ⟦<OutputFile<'a, T> as FileViews<T::File>>⟧.views
-        (map string_bytes words.now) (C.state out.old) (C.state out.new) }
-    ensures faulty { AreTaken (map string_bytes words.now) → 0 < result
-        → EndsFaulty ⟦<OutputFile<'a, T> as FileViews<T::File>>⟧.views
-        (map string_bytes words.now) result (C.state out.old) (C.state out.new) (E.state err.old)
-        (E.state err.new) }
+    ensures ends { let views = ⟦<OutputFile<'a, T> as FileViews<T::File>>⟧.views in
+        AreTaken (map string_bytes words.now)
+        → Ends views (map string_bytes words.now) result (C.state out.old) (C.state out.new)
+        (E.state err.old) (E.state err.new) }
     ensures unused { AreTaken (map string_bytes words.now)
         → (AsksForCensus (matches_of command_line (map string_bytes words.now)) → ⊥)
         → C.state out.new ≡ C.state out.old }

@@ -1,34 +1,28 @@
 //! What a command line refers to, opened for a run.
 
-ghost use Rattle.std.specs.Prelude.{◌≡◌, ◌⊎◌, true, IfOk, IfErr};
+ghost use Rattle.std.specs.Prelude.{◌≡◌, ◌⊎◌, IfOk, IfErr};
 ghost use Rattle.sqz_image.specs.declared.fault.Fault.TheVariants.{ReadFailed, BadWorkers, BadCut};
 ghost use Rattle.sqz_image.specs.Devices.{new_source};
 ghost use Rattle.sqz_regions.specs.Regions.{Every};
 ghost use Rattle.sqz_cli.specs.OutputFiles.{new_output};
-ghost use Rattle.sqz_tool.specs.Headline.{Compacts, Refuses, sinks};
 ghost use Rattle.sqz_tool.specs.Plans.{IsWorkers, IsRegion};
 ghost use Rattle.sqz_trace.specs.WeakSlots.{weak_of};
 
 use crate::plan::Plan;
-use crate::running::run;
-use crate::summary::Summary;
 use sqz_cli::OutputFile;
 use sqz_compact_args::Arguments;
 use sqz_image::{Fault, ReadSource, Sink, Source};
-use sqz_workers::Gate;
-use std::alloc::Global;
 use std::fs::File;
 use std::io::Read;
 use std::rt::Files;
-use std::thread::Threads;
 
 /// The plan of a command line, the image that it refers to, and the output file. Only `run` reads
 /// the image and writes the file.
 #[derive(Drop)]
 pub(crate) struct Opened<'a, T: Files> {
-    plan: Plan,
-    source: ReadSource<T::File>,
-    sink: OutputFile<'a, T>,
+    pub(crate) plan: Plan,
+    pub(crate) source: ReadSource<T::File>,
+    pub(crate) sink: OutputFile<'a, T>,
 }
 
 impl<'a, T: Files> Opened<'a, T> {
@@ -64,38 +58,5 @@ impl<'a, T: Files> Opened<'a, T> {
         let source = ReadSource::new(file);
         let sink = OutputFile::new(rt, arguments.output);
         Ok(Opened { plan, source, sink })
-    }
-}
-
-impl<'a, T: Files + Threads + Sync> Opened<'a, T> {
-    /// Runs the plan over all that the image's file has left, to the output file, with the census
-    /// to `out`. Fails as the free function `run` does.
-    pub(crate) fn run<C: Sink, G: Gate>(
-        &mut self,
-        rt: &T,
-        alloc: Global,
-        out: &mut C,
-        gate: &G,
-    ) -> Result<Summary, Fault>
-        ensures compacts { IfOk result (λ summary.
-            Compacts true self.old.plan.weak self.old.plan.census
-            (⟦<ReadSource<T::File> as Source>⟧.state self.old.source) (⟦<ReadSource<T::File> as Source>⟧.state self.new.source)
-            (sinks (⟦<OutputFile<'a, T> as Sink>⟧.state self.old.sink) (C.state out.old))
-            (sinks (⟦<OutputFile<'a, T> as Sink>⟧.state self.new.sink) (C.state out.new)) summary) }
-        ensures refuses { IfErr result (λ fault.
-            Refuses true self.old.plan.weak self.old.plan.census
-            (⟦<ReadSource<T::File> as Source>⟧.state self.old.source) (⟦<ReadSource<T::File> as Source>⟧.state self.new.source)
-            (sinks (⟦<OutputFile<'a, T> as Sink>⟧.state self.old.sink) (C.state out.old))
-            (sinks (⟦<OutputFile<'a, T> as Sink>⟧.state self.new.sink) (C.state out.new)) fault) }
-    {
-        run(
-            rt,
-            alloc,
-            &self.plan,
-            &mut self.source,
-            &mut self.sink,
-            out,
-            gate,
-        )
     }
 }

@@ -42,6 +42,6 @@ returns-clause-compaction g c =
       bytes = bytes_are image weak marks c.in_ok-pieces.pieces c.requires.chunks words c.unwrap-special.result c.special.result reachable found
           (same_Some _ _ (sym c.unwrap-special.ensures ∙ c.place.ensures.place ∙ special));
       few = few_words image weak marks c.in_ok-pieces.pieces c.requires.chunks words (omega (arith, le, rw is at c.heap_bounds.ensures.words));
-      counted = same_summary (c.len.ensures.objects ∙ ap object_count is) kept c.header.ensures (ap (λ (n : ℕ). 4 * n) live);
+      counted = same_summary (c.len.ensures.objects ∙ ap object_count is) kept c.data_size.ensures (ap (λ (n : ℕ). 4 * n) live);
       reported = report;
     }
