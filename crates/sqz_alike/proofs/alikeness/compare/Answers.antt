@@ -1,0 +1,44 @@
+use Rattle.std.proofs.Common.{◌<◌, ◌∙◌, refl, length, arith}
+use Rattle.std.proofs.Math.Logic.{∥∥₁_elim, ∥∥₁_map, ∥∥₁_prop}
+use Rattle.std.proofs.lemmas.List.{get_or_read}
+use Rattle.sqz_alike.specs.Seen.{seen}
+use Rattle.sqz_alike.proofs.CorrespondenceLemmas.{corresponds}
+use Rattle.sqz_alike.proofs.WalkLemmas.{pair_of, none_prop, IsWalked-start, IsWalked-more}
+use Rattle.sqz_alike.proofs.alikeness.compare.Goals as goal
+
+pub loop-next-init : goal.loop-next-init
+loop-next-init c =
+    IsWalked-start c.args.old.now c.args.new.now c.join.new.self c.special.result c.special-2.result c.in_ok-join.field-0
+    c.special.ensures.special c.special-2.ensures.special (rw c.in_ok-matching.ensures.none at c.in_ok-join.ensures.joins)
+    c.in_ok-join.ensures.matching (c.in_ok-join.ensures.old ∙ c.in_ok-matching.ensures.old ∙ c.len.ensures.objects)
+    (c.in_ok-join.ensures.new ∙ c.in_ok-matching.ensures.new ∙ c.len-2.ensures.objects)
+
+pub returns-then-not-branch : goal.returns-then-not-branch
+returns-then-not-branch c = (
+  (λ e. absurd cc),
+  (λ alike. absurd (∥∥₁_elim alike none_prop (λ a.
+      c.in_ok-objects_match.ensures.finds.refuted c.if-not-branch.true a.pairs a.correspond
+      (c.loop-next.invariant.forced a.pairs a.correspond)))),
+)
+
+pub loop-next-preserved : goal.loop-next-preserved
+loop-next-preserved c =
+    let inside : c.loop-next.next < length c.loop-next.matching.pairs.items =
+    omega (arith, c.loop-next-test.true, c.len-in-loop-next.ensures, c.loop-next.matching.pairs.ok.0) in
+    IsWalked-more c.args.old.now c.args.new.now c.loop-next.matching c.objects_match.new.matching c.loop-next.next c.index-pair.result.now
+    c.loop-next.invariant inside (get_or_read c.loop-next.matching.pairs.items _ _ inside c.index-pair.ensures (pair_of 0 0))
+    c.in_ok-objects_match.ensures.walk c.in_ok-objects_match.ensures.finds c.if-not-branch.false
+
+pub returns : goal.returns
+returns c = (
+  (λ e. ∥∥₁_elim c.args.old.now.reachable ∥∥₁_prop (λ one. ∥∥₁_map c.args.new.now.reachable (λ other.
+      let walked = c.loop-next.invariant in
+      let matching = c.loop-next.matching in
+      record {
+        pairs = matching.pairs.items;
+        correspond = corresponds (seen c.args.old.now) (seen c.args.new.now) matching.pairs.items matching.new_of.items matching.old_of.items
+            walked.walk.matched walked.roots.roots walked.roots.old_is walked.roots.new_is walked.roots.paired walked.walk.live
+            (λ index early lt. walked.matched index (omega (arith, early, c.loop-next-test.false, c.len-in-loop-next.ensures, c.loop-next.matching.pairs.ok.0)) lt) one other;
+      }))),
+  (λ alike. refl),
+)

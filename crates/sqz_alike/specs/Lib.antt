@@ -1,0 +1,4 @@
+pub mod Seen
+pub mod Alike
+pub mod Matching
+pub mod Walk

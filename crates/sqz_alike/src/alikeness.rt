@@ -1,0 +1,50 @@
+//! Whether two images are alike.
+
+ghost use Rattle.std.specs.Prelude.{◌≡◌, ◌↔◌, IfOk};
+ghost use Rattle.sqz_alike.specs.declared.alikeness.Alikeness.TheVariants.{Alike};
+ghost use Rattle.sqz_alike.specs.Alike.{AreAlike};
+ghost use Rattle.sqz_alike.specs.Seen.{seen};
+
+use crate::matching::{Matching, Pair};
+use crate::objects::objects_match;
+use sqz_trace::Live;
+use std::alloc::{AllocError, Global};
+
+/// Whether two images are alike.
+#[derive(Clone, Copy, Debug, PartialEq, Eq)]
+pub enum Alikeness {
+    /// The live objects correspond one to one.
+    Alike,
+    /// They do not: these objects, which must correspond, differ.
+    Differ(Pair),
+}
+
+/// Returns whether the live objects of two images correspond one to one: the special objects array
+/// to that of the other image, and the object that a slot points to to the one that the same slot
+/// of the corresponding object points to. Corresponding objects have the same kind of header,
+/// format, compact class index, hash and size; the same SmallIntegers; and the same untraced words,
+/// which are compared as bytes in byte objects and methods. Slots that point to dead objects count as
+/// nil. The addresses, the byte orders and dead objects do not matter.
+///
+/// Both images are walked at once, breadth first, in time and memory linear in the live objects.
+pub fn compare(alloc: Global, old: &Live<'_>, new: &Live<'_>) -> Result<Alikeness, AllocError>
+    ensures { IfOk result (λ found.
+        (found ≡ Alike) ↔ ∥ AreAlike (seen old.now) (seen new.now) ∥₁) }
+{
+    let (heap, other) = (old.graph.heap, new.graph.heap);
+    let mut matching = Matching::new(alloc, heap.len(), other.len())?;
+    let roots = Pair {
+        old: heap.special(),
+        new: other.special(),
+    };
+    matching.join(roots)?;
+    let mut next = 0;
+    while next < matching.pairs.len() {
+        let pair = matching.pairs[next];
+        if !objects_match(old, new, pair, &mut matching)? {
+            return Ok(Alikeness::Differ(pair));
+        }
+        next += 1;
+    }
+    Ok(Alikeness::Alike)
+}

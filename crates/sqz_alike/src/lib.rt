@@ -1,0 +1,11 @@
+//! Whether two images are alike: whether their live objects correspond one to one.
+#![tactic(auto)]
+
+mod alikeness;
+mod matching;
+mod objects;
+mod seen;
+mod words;
+
+pub use alikeness::{Alikeness, compare};
+pub use matching::Pair;

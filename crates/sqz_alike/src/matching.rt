@@ -1,0 +1,70 @@
+//! The pairs of objects that must correspond, as far as they were found.
+
+ghost use Rattle.std.specs.Prelude.{◌≡◌, ◌<◌, length, [], IfOk, OnOk};
+ghost use Rattle.sqz_alike.specs.Matching.{IsMatching, Joins};
+
+use sqz_object::ObjectIndex;
+use std::alloc::{AllocError, Global};
+
+/// An object of the old image, and one of the new image.
+#[derive(Clone, Copy, Debug, PartialEq, Eq)]
+pub struct Pair {
+    pub old: ObjectIndex,
+    pub new: ObjectIndex,
+}
+
+/// Pairs of objects: no object is in two of them.
+#[derive(Drop)]
+pub(crate) struct Matching {
+    /// The pairs, in the order in which they were found.
+    pub(crate) pairs: Vec<Pair>,
+    /// The partner of each object of the old image.
+    new_of: Vec<Option<ObjectIndex>>,
+    /// The partner of each object of the new image.
+    old_of: Vec<Option<ObjectIndex>>,
+}
+
+impl Matching {
+    /// Returns no pairs of images with so many objects.
+    pub(crate) fn new(alloc: Global, old: u32, new: u32) -> Result<Self, AllocError>
+        ensures none { IfOk result (λ matching. matching.pairs.items ≡ []) }
+        ensures matching { IfOk result (λ matching. IsMatching matching.pairs.items
+            matching.new_of.items matching.old_of.items) }
+        ensures old { IfOk result (λ matching. length matching.new_of.items ≡ old) }
+        ensures new { IfOk result (λ matching. length matching.old_of.items ≡ new) }
+    {
+        let pairs = Vec::new(alloc);
+        let new_of = vec![in alloc; None; old as usize]?;
+        let old_of = vec![in alloc; None; new as usize]?;
+        Ok(Matching {
+            pairs,
+            new_of,
+            old_of,
+        })
+    }
+
+    /// Makes two objects a pair if both have no partner. Returns whether they are a pair.
+    pub(crate) fn join(&mut self, pair: Pair) -> Result<bool, AllocError>
+        requires matching { IsMatching self.old.pairs.items self.old.new_of.items
+            self.old.old_of.items }
+        requires old { pair.old < length self.old.new_of.items }
+        requires new { pair.new < length self.old.old_of.items }
+        ensures joins { IfOk result (Joins pair self.old.pairs.items self.new.pairs.items) }
+        ensures matching { OnOk result (IsMatching self.new.pairs.items self.new.new_of.items
+            self.new.old_of.items) }
+        ensures old { OnOk result (length self.new.new_of.items ≡ length self.old.new_of.items) }
+        ensures new { OnOk result (length self.new.old_of.items ≡ length self.old.old_of.items) }
+    {
+        let (old, new) = (pair.old as usize, pair.new as usize);
+        match (self.new_of[old], self.old_of[new]) {
+            (None, None) => {
+                self.pairs.push(pair)?;
+                self.new_of[old] = Some(pair.new);
+                self.old_of[new] = Some(pair.old);
+                Ok(true)
+            }
+            (Some(partner), _) => Ok(partner == pair.new),
+            (None, Some(_)) => Ok(false),
+        }
+    }
+}
