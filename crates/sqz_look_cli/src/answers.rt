@@ -10,10 +10,11 @@ use crate::session::Session;
 use sqz_cli::{BAD_IMAGE, DONE};
 use sqz_image::Sink;
 use sqz_look::{
-    Found, find_class, find_object, print_census, print_dead_census, print_info,
-    print_info_unreadable, print_list, print_refs, print_show, print_why,
+    Found, find_class, find_object, print_census, print_dead_census, print_list, print_refs,
+    print_show, print_why,
 };
 use sqz_look_args::{ImageQuestion, NamedQuestion, ObjectQuestion, Question};
+use sqz_look_check::{print_info, print_info_unreadable};
 use sqz_look_top::print_top;
 use sqz_look_view::{Inspector, Out, Subject};
 use std::rt::Files;

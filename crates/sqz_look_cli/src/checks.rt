@@ -8,7 +8,7 @@ use crate::loading::{Loaded, load};
 use crate::session::Session;
 use sqz_cli::{BAD_IMAGE, DEVICE_FAILED, DONE};
 use sqz_image::{Fault, Sink};
-use sqz_look::{print_check, print_check_missing, print_check_unreadable};
+use sqz_look_check::{print_check, print_check_missing, print_check_unreadable};
 use sqz_look_view::{Out, PrintError, Subject};
 use std::rt::Files;
 use std::thread::Threads;

@@ -1,7 +1,7 @@
 //! Reading images from files.
 
 use sqz_image::{Fault, Image, ReadSource, image_or_file, read_all};
-use sqz_look::Unreadable;
+use sqz_look_check::Unreadable;
 use std::alloc::Global;
 use std::fs::File;
 use std::rt::Files;

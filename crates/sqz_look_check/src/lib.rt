@@ -1,0 +1,15 @@
+//! Whether an image is sound and what its file holds, printed as text for a person or as lines of
+//! JSON; also for files from which no image can be read.
+#![tactic(auto)]
+
+mod causes;
+mod check;
+mod faults;
+mod file_kinds;
+mod info;
+mod unreadable;
+mod versions;
+
+pub use check::{print_check, print_check_missing, print_check_unreadable};
+pub use info::{print_info, print_info_unreadable};
+pub use unreadable::Unreadable;
