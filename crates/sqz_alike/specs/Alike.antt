@@ -1,5 +1,5 @@
 -- When two images are alike.
-use Rattle.std.specs.Prelude.{◌≡◌, ◌↔◌, ℕ, true, List, map, drop, length, Option, Some, None, Contains}
+use Rattle.std.specs.Prelude.{◌≡◌, ◌↔◌, ◌<◌, ℕ, true, List, map, drop, length, Option, Some, None, Contains}
 use Rattle.sqz_object.specs.declared.layout.Layout.{Layout}
 use Rattle.sqz_object.specs.declared.layout.Layout.TheVariants.{Fields, Weak, Context, Words, Bytes, Method}
 use Rattle.sqz_object.specs.declared.order.Order.{Order}
@@ -11,6 +11,8 @@ use Rattle.sqz_image.specs.declared.slot.Slot.{Slot}
 use Rattle.sqz_image.specs.Objects.{chunk_words, find}
 use Rattle.sqz_trace.specs.Graph.{is_marked}
 use Rattle.sqz_trace.specs.Slots.{slot_word, traced}
+use Rattle.sqz_alike.specs.declared.alikeness.Alikeness.{Alikeness}
+use Rattle.sqz_alike.specs.declared.alikeness.Alikeness.TheVariants.{Alike, Differ}
 use Rattle.sqz_alike.specs.declared.matching.Pair.{Pair}
 use Rattle.sqz_alike.specs.Seen.{Seen, seen_target}
 
@@ -92,3 +94,8 @@ pub record IsCorrespondence (old new : Seen) (pairs : List Pair) : Type 0 where
 pub record AreAlike (old new : Seen) : Type 0 where
   pub pairs : List Pair
   pub correspond : IsCorrespondence old new pairs
+
+-- the objects that differ are objects of the images, of which they have so many
+abbrev pub IsInside : ℕ → ℕ → Alikeness → Type 0
+IsInside old new Alike = Unit {0}
+IsInside old new (Differ pair) = (pair.old < old) × (pair.new < new)

@@ -1,8 +1,9 @@
 //! Whether two images are alike.
 
 ghost use Rattle.std.specs.Prelude.{◌≡◌, ◌↔◌, IfOk};
+ghost use Rattle.sqz_image.specs.Objects.{object_count};
 ghost use Rattle.sqz_alike.specs.declared.alikeness.Alikeness.TheVariants.{Alike};
-ghost use Rattle.sqz_alike.specs.Alike.{AreAlike};
+ghost use Rattle.sqz_alike.specs.Alike.{AreAlike, IsInside};
 ghost use Rattle.sqz_alike.specs.Seen.{seen};
 
 use crate::matching::{Matching, Pair};
@@ -28,8 +29,10 @@ pub enum Alikeness {
 ///
 /// Both images are walked at once, breadth first, in time and memory linear in the live objects.
 pub fn compare(alloc: Global, old: &Live<'_>, new: &Live<'_>) -> Result<Alikeness, AllocError>
-    ensures { IfOk result (λ found.
+    ensures alike { IfOk result (λ found.
         (found ≡ Alike) ↔ ∥ AreAlike (seen old.now) (seen new.now) ∥₁) }
+    ensures inside { IfOk result (IsInside (object_count old.now.graph.heap.now)
+        (object_count new.now.graph.heap.now)) }
 {
     let (heap, other) = (old.graph.heap, new.graph.heap);
     let mut matching = Matching::new(alloc, heap.len(), other.len())?;

@@ -1,9 +1,16 @@
 //! What changed between two images.
 
+ghost use Rattle.std.specs.Prelude.{IfOk, IsTrue, ◌↔◌};
+ghost use Rattle.sqz_image.specs.Objects.{object_count};
+ghost use Rattle.sqz_alike.specs.Alike.{AreAlike, IsInside};
+ghost use Rattle.sqz_alike.specs.Seen.{seen};
+
 use crate::differences::Differences;
+use crate::first_difference::{DifferenceView, ObjectView};
 use crate::methods::MethodChanges;
 use crate::variables::VariableChanges;
 use crate::views::{ClassView, MethodView, TotalView, VariableView};
+use sqz_alike::{Alikeness, compare};
 use sqz_answers::{Change, Size};
 use sqz_image::Sink;
 use sqz_look_view::{Inspector, Out, PrintError};
@@ -12,20 +19,50 @@ use std::thread::Threads;
 
 /// Prints what changed from the old image to the new one: the number of live objects and their
 /// bytes, the classes whose instances differ in number or size, the variables that retain more or
-/// less, and the methods that came, went or changed. Returns whether the images are alike.
+/// less, and the methods that came, went or changed; if none did, the first objects that differ.
+/// Returns whether the images are alike.
 pub fn print_diff<C: Sink>(
     rt: &(impl Threads + Sync),
     old: &Inspector<'_>,
     new: &Inspector<'_>,
     out: &mut Out<'_, C>,
-) -> Result<bool, PrintError> {
+) -> Result<bool, PrintError>
+    ensures { IfOk result (λ is_alike. IsTrue is_alike
+        ↔ ∥ AreAlike (seen old.now.live) (seen new.now.live) ∥₁) }
+{
     let alloc = old.alloc;
+    let alikeness = compare(alloc, &old.live, &new.live)?;
     let differences = Differences::between(rt, old, new)?;
     out.emit(&TotalView::of(alloc, differences.old, differences.new)?)?;
     print_classes(alloc, &differences.classes, out)?;
     print_variables(alloc, &differences.variables, out)?;
     print_methods(alloc, &differences.methods, out)?;
-    Ok(differences.is_empty())
+    print_alikeness(old, new, alikeness, differences.is_empty(), out)?;
+    Ok(alikeness == Alikeness::Alike)
+}
+
+/// Prints that the images are alike; or the first objects that differ, if nothing by name does.
+fn print_alikeness<C: Sink>(
+    old: &Inspector<'_>,
+    new: &Inspector<'_>,
+    alikeness: Alikeness,
+    is_nameless: bool,
+    out: &mut Out<'_, C>,
+) -> Result<(), PrintError>
+    requires { IsInside (object_count old.now.live.graph.heap.now)
+        (object_count new.now.live.graph.heap.now) alikeness }
+{
+    match alikeness {
+        Alikeness::Alike => out.text(&"the images are alike"),
+        Alikeness::Differ(pair) if is_nameless => {
+            let (old, new) = (
+                ObjectView::of(old, pair.old)?,
+                ObjectView::of(new, pair.new)?,
+            );
+            out.emit(&DifferenceView::of(old, new))
+        }
+        Alikeness::Differ(_) => Ok(()),
+    }
 }
 
 /// Prints the classes that differ.

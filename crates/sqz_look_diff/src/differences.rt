@@ -37,7 +37,7 @@ impl Differences {
         })
     }
 
-    /// Returns whether the images are alike.
+    /// Returns whether nothing differs by name.
     pub(crate) fn is_empty(&self) -> bool {
         self.old == self.new
             && self.classes.is_empty()

@@ -7,6 +7,7 @@ mod classes;
 mod contents;
 mod diff;
 mod differences;
+mod first_difference;
 mod literals;
 mod method_names;
 mod methods;

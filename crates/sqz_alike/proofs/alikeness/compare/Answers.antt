@@ -1,9 +1,10 @@
-use Rattle.std.proofs.Common.{◌<◌, ◌∙◌, refl, length, arith}
+use Rattle.std.proofs.Common.{◌<◌, ◌∙◌, refl, length, arith, sym}
+use Rattle.std.specs.Prelude.{Contains}
 use Rattle.std.proofs.Math.Logic.{∥∥₁_elim, ∥∥₁_map, ∥∥₁_prop}
 use Rattle.std.proofs.lemmas.List.{get_or_read}
 use Rattle.sqz_alike.specs.Seen.{seen}
 use Rattle.sqz_alike.proofs.CorrespondenceLemmas.{corresponds}
-use Rattle.sqz_alike.proofs.WalkLemmas.{pair_of, none_prop, IsWalked-start, IsWalked-more}
+use Rattle.sqz_alike.proofs.WalkLemmas.{old_inside, new_inside, pair_of, none_prop, IsWalked-start, IsWalked-more}
 use Rattle.sqz_alike.proofs.alikeness.compare.Goals as goal
 
 pub loop-next-init : goal.loop-next-init
@@ -13,8 +14,8 @@ loop-next-init c =
     c.in_ok-join.ensures.matching (c.in_ok-join.ensures.old ∙ c.in_ok-matching.ensures.old ∙ c.len.ensures.objects)
     (c.in_ok-join.ensures.new ∙ c.in_ok-matching.ensures.new ∙ c.len-2.ensures.objects)
 
-pub returns-then-not-branch : goal.returns-then-not-branch
-returns-then-not-branch c = (
+pub returns-then-not-branch-clause-alike : goal.returns-then-not-branch-clause-alike
+returns-then-not-branch-clause-alike c = (
   (λ e. absurd cc),
   (λ alike. absurd (∥∥₁_elim alike none_prop (λ a.
       c.in_ok-objects_match.ensures.finds.refuted c.if-not-branch.true a.pairs a.correspond
@@ -29,8 +30,8 @@ loop-next-preserved c =
     c.loop-next.invariant inside (get_or_read c.loop-next.matching.pairs.items _ _ inside c.index-pair.ensures (pair_of 0 0))
     c.in_ok-objects_match.ensures.walk c.in_ok-objects_match.ensures.finds c.if-not-branch.false
 
-pub returns : goal.returns
-returns c = (
+pub returns-clause-alike : goal.returns-clause-alike
+returns-clause-alike c = (
   (λ e. ∥∥₁_elim c.args.old.now.reachable ∥∥₁_prop (λ one. ∥∥₁_map c.args.new.now.reachable (λ other.
       let walked = c.loop-next.invariant in
       let matching = c.loop-next.matching in
@@ -42,3 +43,14 @@ returns c = (
       }))),
   (λ alike. refl),
 )
+
+pub returns-then-not-branch-clause-inside : goal.returns-then-not-branch-clause-inside
+returns-then-not-branch-clause-inside c =
+    let inside : c.loop-next.next < length c.loop-next.matching.pairs.items =
+    omega (arith, c.loop-next-test.true, c.len-in-loop-next.ensures, c.loop-next.matching.pairs.ok.0) in
+    let paired : Contains c.loop-next.matching.pairs.items c.index-pair.result.now =
+    (c.loop-next.next, inside, sym c.index-pair.ensures) in
+    let walk = c.loop-next.invariant.walk in (
+      old_inside c.args.old.now c.args.new.now c.loop-next.matching walk c.index-pair.result.now paired,
+      new_inside c.args.old.now c.args.new.now c.loop-next.matching walk c.index-pair.result.now paired,
+    )
