@@ -11,7 +11,7 @@ from tests.harness.failed_outputs import FailedOutputs
 from tests.harness.json_rows import rows_of
 from tests.harness.known_image import NAME, KnownImageTest
 from tests.harness.outcomes import Outcome
-from tests.harness.sqzlook import look, look_at_all
+from tests.harness.sqzlook import CLEAR, look, look_at_all
 from tests.harness.worked_images import (
     IMAGES,
     DeadArrayTest,
@@ -24,6 +24,7 @@ from tests.making.changed_images import (
     at_another_base,
     in_reverse,
     named_image,
+    with_changed_word,
     with_flipped_bit,
     with_other_hashes,
     with_random_words,
@@ -54,6 +55,8 @@ OLD_METHOD, NEW_METHOD = "ChangeSet>>superclasses", "ChangeSet>>ruperclasses"
 # The depth and the number of elements of arrays, each element of which is the array one level
 # below: a comparison of all elements in turn would take minutes.
 DEEP, WIDTHS = 4, (1000, 1001)
+# The copies in which one word was changed, and the random images that are compacted.
+CHANGED_COPIES, COMPACTED = 300, 300
 
 
 class TrailerTest(unittest.TestCase):
@@ -129,12 +132,11 @@ class MadeImagesTest(DiffTest):
         self.assertEqual(names, [METHOD_NAME] if is_changed else [])
 
     def test_where_objects_are(self):
-        """Addresses, their order, hashes and byte order make no difference."""
+        """Addresses, their order and byte order make no difference."""
         image = named_image()
         for name, other in {
             "reverse": in_reverse(image),
             "base": at_another_base(image),
-            "hashes": with_other_hashes(image),
             "order": image.in_other_order(),
             "reverse in the other order": in_reverse(image).in_other_order(),
             "offset": Image(image.header, image.words, image.order, PREFIX),
@@ -142,6 +144,42 @@ class MadeImagesTest(DiffTest):
         }.items():
             with self.subTest(name):
                 self.assertEqual(self.changes(image.file(), other.file()), [])
+
+    def test_hashes(self):
+        """Objects with other hashes differ: dictionaries find their keys by them."""
+        image = named_image()
+        (row,) = self.changes(image.file(), with_other_hashes(image).file())
+        self.assertEqual((row["kind"], row["name"]), ("object", None))
+
+    def test_changed_words(self):
+        """A change of any word of a live object makes a difference."""
+        image, generator, files = named_image(), random.Random(SEED), {}
+        for number in range(CHANGED_COPIES):
+            files[f"{number}.image"] = with_changed_word(image, generator).file()
+        self.write(OLD, image.file())
+        for name, file in files.items():
+            self.write(name, file)
+        outcomes = look_at_all([("diff", "--json", OLD, name) for name in files], self.folder)
+        for name, outcome in zip(files, outcomes):
+            with self.subTest(name):
+                self.assertEqual((outcome.status, outcome.stderr), (1, b""))
+
+    def test_compactions(self):
+        """Random images and their compactions are alike."""
+        files, pairs = {}, []
+        for name, file in random_files(COMPACTED).items():
+            image = Image.read(file)[0]
+            for options in ((), CLEAR):
+                compacted = f"{options}{name}".replace("/", "")
+                files[name], files[compacted] = file, image.compacted(options == CLEAR).file()
+                pairs.append((*options, name, compacted))
+        for name, file in files.items():
+            self.write(name, file)
+        outcomes = look_at_all([("diff", *pair) for pair in pairs], self.folder)
+        for pair, outcome in zip(pairs, outcomes):
+            with self.subTest(pair):
+                last = outcome.stdout.decode().splitlines()[-1]
+                self.assertEqual((outcome.status, last), (0, "the images are alike"))
 
     def test_equal_literals(self):
         for name, (old, new) in EQUAL_LITERALS.items():

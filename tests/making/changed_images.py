@@ -59,6 +59,18 @@ def with_flipped_bit(image, place):
     return with_words(image, words)
 
 
+def with_changed_word(image, generator):
+    """The image in which one bit of a random word of a live object is flipped: of a field, or of
+    the hash."""
+    live = [it for it, is_live in zip(image.objects, image.live()) if is_live]
+    it = generator.choice(live)
+    place = generator.randrange(it.base, it.end)
+    bits = range(17, 29) if place == it.base else range(32)
+    words = image.words[:]
+    words[place] ^= 1 << generator.choice(bits)
+    return with_words(image, words)
+
+
 def with_bad_pointers(image, count):
     """The image with a bad pointer in `count` live objects: an address with one bit flipped, or
     that of a field."""

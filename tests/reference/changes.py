@@ -4,6 +4,7 @@ import collections
 import functools
 import typing
 
+from tests.reference.alike import first_difference
 from tests.reference.answers import signed
 from tests.reference.fields import AssociationField
 from tests.reference.file_format import bytes_of
@@ -186,6 +187,7 @@ class Changes:
     """What differs between two images."""
 
     def __init__(self, old, new):
+        self.sides = old, new
         self.old, self.new = old.total, new.total
         classes, variables, methods = (
             list(changes_of(getattr(old, kind), getattr(new, kind)))
@@ -202,10 +204,20 @@ class Changes:
             if not it.old or not it.new or it.old.contents != it.new.contents
         ]
 
+    @functools.cached_property
+    def difference(self):
+        """The first objects that differ, or None if the images are alike."""
+        return first_difference(*(side.answers for side in self.sides))
+
     @property
     def status(self):
-        differ = self.classes or self.variables or self.methods or self.old != self.new
-        return 1 if differ else 0
+        return 1 if self.difference else 0
+
+    @property
+    def is_nameless(self):
+        """Whether the images differ, but nothing by name does."""
+        by_name = self.classes or self.variables or self.methods or self.old != self.new
+        return self.difference is not None and not by_name
 
     def rows(self):
         """What `--json` prints."""
@@ -213,7 +225,14 @@ class Changes:
         rows += [self.row("class", change, Size._asdict) for change in self.classes]
         rows += [self.row("retained", change, bytes_in) for change in self.variables]
         rows += [self.row("method", change, bytes_in) for change in self.methods]
+        if self.is_nameless:
+            objects = [side.answers.object_row(it) for side, it in self.differing()]
+            rows.append(self.row("object", Change(None, *objects), dict))
         return rows
+
+    def differing(self):
+        """The two images, each with its object of the first difference."""
+        return zip(self.sides, self.difference)
 
     def row(self, kind, change, value):
         old, new = (it and value(it) for it in (change.old, change.new))
@@ -238,6 +257,14 @@ class Changes:
             yield from (head, *lines[:shown])
             if len(lines) > shown:
                 yield rest_line(len(lines) - shown)
+        if self.difference is None:
+            yield "the images are alike"
+        elif self.is_nameless:
+            old, new = (
+                f"{side.names.address(it)} {side.tree.short_label(it)}"
+                for side, it in self.differing()
+            )
+            yield f"first difference: {old} -> {new}"
 
     def class_line(self, change):
         old, new = (it.objects if it else 0 for it in (change.old, change.new))

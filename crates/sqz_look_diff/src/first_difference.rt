@@ -13,16 +13,18 @@ use std::fmt;
 #[derive(Drop, Serialize)]
 pub(crate) struct ObjectView {
     address: Hex,
+    class: String,
     label: ObjectLabel,
 }
 
 impl ObjectView {
-    /// Returns the address and the label of an object.
+    /// Returns the row of an object.
     pub(crate) fn of(inspector: &Inspector<'_>, object: ObjectIndex) -> Result<Self, AllocError>
         requires { object < object_count inspector.now.live.graph.heap.now }
     {
         Ok(ObjectView {
             address: inspector.address(object),
+            class: inspector.names.name_of_class_of(object)?,
             label: ObjectLabel::of(inspector, object)?,
         })
     }
