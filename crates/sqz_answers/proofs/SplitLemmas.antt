@@ -1,5 +1,5 @@
 -- The children of the parts of a row are found one part after the other.
--- Serves `levels::TopTree::split` and `levels::TopTree::level_of`.
+-- Serves `levels::TopTree::split`, `levels::TopTree::level_of` and `DescentLemmas`.
 use Rattle.std.proofs.Common.{◌≡◌, ◌≢◌, ℕ, zero, suc, ◌+◌, ◌-◌, ◌<◌, ◌≤◌, Bool, true, false, not, cond, List, [], ◌∷◌, ◌++◌, length, map, All}
 use Rattle.std.proofs.Common.{Option, Some, None, refl, sym, ap, subst, ◌∙◌, arith, inl, inr, eqb, get_or}
 use Rattle.std.specs.Prelude.{Contains, slice_index}
@@ -144,7 +144,7 @@ module _ (memory : Memory) (weak : Weak) (tree : DominatorTree) (variables : Var
   on_path from [] goal leads = subst (Contains (from ∷ [])) leads (Contains-first from [])
   on_path from (next ∷ path) goal leads = Contains-later from (next ∷ path) goal (on_path next path goal leads.1)
 
-  part_dominated : (object : ℕ) → IsReachable graph object → {part : ℕ} → IsPart tree variables object part → Dominates graph object part
+  pub part_dominated : (object : ℕ) → IsReachable graph object → {part : ℕ} → IsPart tree variables object part → Dominates graph object part
   part_dominated object reached itself = record { reachable = reached; on_all = λ path leads. on_path graph.start path object leads }
   part_dominated object reached (joined part child is is_child passes) =
       Dominates-trans graph object part child (part_dominated object reached is) (dominators.immediate.each child part is_child).dominates
