@@ -3,6 +3,7 @@
 ghost use Rattle.std.specs.Prelude.{◌≡◌, All, IfOk, map};
 ghost use Rattle.sqz_image.specs.Objects.{object_count};
 ghost use Rattle.sqz_histogram.specs.Groups.{IsInside};
+ghost use Rattle.sqz_look_diff.specs.ClassSizes.{AreClassSizes};
 
 use sqz_answers::{
     Change, NamedTotal, Size, changes_of, live_histogram, sizes_by_name, sort_by_difference,
@@ -32,11 +33,15 @@ pub(crate) fn class_changes(
 fn sizes_of(
     rt: &(impl Threads + Sync),
     inspector: &Inspector<'_>,
-) -> Result<BTreeMap<String, Size>, AllocError> {
+) -> Result<BTreeMap<String, Size>, AllocError>
+    ensures { IfOk result (AreClassSizes inspector.now.live.graph.heap.now
+        inspector.now.live.graph.weak inspector.now.live.marks) }
+{
     heap_bounds(inspector.live.graph.heap); // fewer than 2^30 objects and words
     let histogram = live_histogram(rt, inspector.alloc, &inspector.live)?;
     let named = with_names(inspector, &histogram.totals)?;
-    sizes_by_name(inspector.alloc, &named)
+    let sizes = sizes_by_name(inspector.alloc, &named)?;
+    Ok(sizes)
 }
 
 /// Returns the totals of a class histogram with the names of their classes.

@@ -1,4 +1,4 @@
-use Rattle.std.proofs.Common.{◌≡◌, ◌∙◌, ◌*◌, Bool, List, length, map, refl, sym, ap, arith}
+use Rattle.std.proofs.Common.{◌≡◌, ◌∙◌, ◌*◌, Bool, List, length, map, refl, sym, ap, subst, arith}
 use Rattle.std.specs.Prelude.{sum_by}
 use Rattle.sqz_image.specs.Objects.{Memory, objects}
 use Rattle.sqz_trace.specs.declared.weak.Weak.{Weak}
@@ -41,3 +41,14 @@ sizes_by_name-requires-clause-bytes g c =
     let sum = sum-bytes memory live.graph.weak live.marks c.in_ok-histogram.histogram.totals.items c.in_ok-histogram.ensures.histogram.totals
     c.deref-2.result.now (ap (map (λ (one : NamedTotal). one.total)) c.deref-2.ensures.value ∙ c.in_ok-named.ensures ∙ c.deref.ensures.value) in
     omega (arith, sum, words_in-marked live.marks (objects memory), words_in-le-concat memory.chunks, c.heap_bounds.ensures.words)
+
+pub returns : goal.returns
+returns g c =
+    let live = c.args.inspector.now.live in
+    record {
+      named = c.deref-2.result.now;
+      histogram = subst (IsHistogram live.graph.heap.now live.graph.weak live.marks)
+          (sym (ap (map (λ (one : NamedTotal). one.total)) c.deref-2.ensures.value ∙ c.in_ok-named.ensures ∙ c.deref.ensures.value))
+          c.in_ok-histogram.ensures.histogram.totals;
+      by_name = c.in_ok-sizes.ensures;
+    }
