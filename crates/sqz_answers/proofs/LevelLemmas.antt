@@ -1,5 +1,5 @@
 -- The level below a row, once its objects are found and sorted.
--- Serves `levels::TopTree::level_of`.
+-- Serves `levels::TopTree::level_of`, `rows::push_rows`, `TopRowLemmas` and `LevelSumLemmas`.
 use Rattle.std.proofs.Common.{◌≡◌, ◌≢◌, ◌*◌, ◌<◌, ◌≤◌, ℕ, Bool, false, true≢false, List, length, get_or, eqb, All}
 use Rattle.std.proofs.Common.{Some, refl, sym, ap, ◌∙◌, arith, inl, inr}
 use Rattle.std.specs.Prelude.{Contains, slice_index, sum_by}
@@ -58,6 +58,10 @@ module _ (tree : DominatorTree) where
           (λ less lt. absurd (true≢false (rw less at late)))
           (λ equal same. absurd (apart (sym same)))
           (λ greater lt. lt)
+
+  pub RetainsMore-apart : (one other : ℕ) → RetainsMore tree one other → one ≢ other
+  RetainsMore-apart one other (inl more) same = (let retains = ap (retained_bytes tree) same in absurd (omega (arith, more, retains)))
+  RetainsMore-apart one other (inr tied) same = absurd (omega (arith, tied.1, same))
 
   flips : (one other : ℕ) → eqb one other ≡ eqb other one
   flips one other =
@@ -126,8 +130,5 @@ module _ (memory : Memory) (weak : Weak) (tree : DominatorTree) (variables : Var
       child_inside memory weak tree variables dominators (get_or below k d) is.part is.is_child
 
   pub below-count : length below ≤ object_count memory
-  below-count = few_apart below (object_count memory) (λ i j d lt inside. differ _ _ (level.ordered i j d lt inside)) below-objects
-    where
-      differ : (one other : ℕ) → RetainsMore tree one other → one ≢ other
-      differ one other (inl more) same = (let retains = ap (retained_bytes tree) same in absurd (omega (arith, more, retains)))
-      differ one other (inr tied) same = absurd (omega (arith, tied.1, same))
+  below-count =
+      few_apart below (object_count memory) (λ i j d lt inside. RetainsMore-apart tree _ _ (level.ordered i j d lt inside)) below-objects

@@ -6,5 +6,8 @@ pub mod SplitLemmas
 pub mod LevelLemmas
 pub mod RowLemmas
 pub mod TopRowLemmas
+pub mod DescentLemmas
+pub mod LevelSumLemmas
+pub mod RowSumLemmas
 pub mod ChangeLemmas
 pub mod SizeLemmas

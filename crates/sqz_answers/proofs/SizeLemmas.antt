@@ -15,7 +15,7 @@ use Rattle.std.proofs.lemmas.Map.Text.{btree_map_updates_text}
 use Rattle.std.proofs.lemmas.Slice.Eq.{bytes_eq-Decides}
 use Rattle.sqz_answers.specs.declared.named.NamedTotal.{NamedTotal}
 use Rattle.sqz_answers.specs.declared.sizes.Size.{Size}
-use Rattle.sqz_answers.specs.Sizes.{size_of, size_by_name}
+use Rattle.sqz_answers.specs.Sizes.{no_size, size_of, size_by_name}
 use Rattle.sqz_answers.proofs.ChangeLemmas.{bytes_flip}
 
 abbrev count_of : NamedTotal → ℕ
@@ -23,9 +23,6 @@ count_of named = named.total.count
 
 abbrev bytes_of : NamedTotal → ℕ
 bytes_of named = named.total.bytes
-
-abbrev pub no_size : Size
-no_size = record { objects = 0; bytes = 0 }
 
 -- some elements have no more than all
 filter-le : (f : NamedTotal → ℕ) (test : NamedTotal → Bool) (xs : List NamedTotal) → sum_by f (filter test xs) ≤ sum_by f xs

@@ -1,5 +1,5 @@
 -- The children of the parts of a row are found one part after the other.
--- Serves `levels::TopTree::split` and `levels::TopTree::level_of`.
+-- Serves `levels::TopTree::split`, `levels::TopTree::level_of` and `DescentLemmas`.
 use Rattle.std.proofs.Common.{◌≡◌, ◌≢◌, ℕ, zero, suc, ◌+◌, ◌-◌, ◌<◌, ◌≤◌, Bool, true, false, not, cond, List, [], ◌∷◌, ◌++◌, length, map, All}
 use Rattle.std.proofs.Common.{Option, Some, None, refl, sym, ap, subst, ◌∙◌, arith, inl, inr, eqb, get_or}
 use Rattle.std.specs.Prelude.{Contains, slice_index}
@@ -16,18 +16,18 @@ use Rattle.std.proofs.lemmas.Map.Views.{Contains-from_any}
 use Rattle.std.proofs.lemmas.Option.{same_Some}
 use Rattle.sqz_image.specs.Objects.{Memory, object_count}
 use Rattle.sqz_trace.specs.declared.weak.Weak.{Weak}
-use Rattle.sqz_trace.specs.Graph.{Graph, Leads, IsReachable}
+use Rattle.sqz_trace.specs.Graph.{Graph, IsReachable}
 use Rattle.sqz_trace.specs.Reachability.{graph_from}
 use Rattle.sqz_dominators.specs.declared.children.Child.{Child}
 use Rattle.sqz_dominators.specs.Children.{AreChildren, ComesFirst, children_under, no_child, retained_bytes}
 use Rattle.sqz_dominators.specs.Dominators.{Dominates}
 use Rattle.sqz_dominators.specs.Retained.{DominatorTree, AreDominators}
-use Rattle.sqz_dominators.proofs.BasicLemmas.{strictly, Contains-first, Contains-later}
+use Rattle.sqz_dominators.proofs.BasicLemmas.{strictly}
 use Rattle.sqz_answers.specs.Levels.{parent_of, held_value, is_joined, IsPart}
 use Rattle.sqz_answers.specs.Levels.IsPart.{itself, joined}
 use Rattle.sqz_answers.specs.Splits.{HasParentIn, IsSplit}
 use Rattle.sqz_answers.specs.Variables.{Variables}
-use Rattle.sqz_answers.proofs.DominanceLemmas.{Dominates-trans, Dominates-apart}
+use Rattle.sqz_answers.proofs.DominanceLemmas.{Dominates-itself, Dominates-trans, Dominates-apart}
 
 -- ---- lists
 
@@ -140,12 +140,8 @@ module _ (memory : Memory) (weak : Weak) (tree : DominatorTree) (variables : Var
   abbrev graph : Graph
   graph = graph_from dominators.start memory weak
 
-  on_path : (from : ℕ) (path : List ℕ) (goal : ℕ) → Leads graph from path goal → Contains (from ∷ path) goal
-  on_path from [] goal leads = subst (Contains (from ∷ [])) leads (Contains-first from [])
-  on_path from (next ∷ path) goal leads = Contains-later from (next ∷ path) goal (on_path next path goal leads.1)
-
-  part_dominated : (object : ℕ) → IsReachable graph object → {part : ℕ} → IsPart tree variables object part → Dominates graph object part
-  part_dominated object reached itself = record { reachable = reached; on_all = λ path leads. on_path graph.start path object leads }
+  pub part_dominated : (object : ℕ) → IsReachable graph object → {part : ℕ} → IsPart tree variables object part → Dominates graph object part
+  part_dominated object reached itself = Dominates-itself graph object reached
   part_dominated object reached (joined part child is is_child passes) =
       Dominates-trans graph object part child (part_dominated object reached is) (dominators.immediate.each child part is_child).dominates
 

@@ -1,8 +1,12 @@
--- The sizes of classes by their names.
+-- Sizes, and those of classes by their names.
 use Rattle.std.specs.Prelude.{ℕ, List, [], ◌∷◌, Option, Some, None, bytes_eq, string_bytes, sum_by}
 use Rattle.std.specs.List.{filter}
 use Rattle.sqz_answers.specs.declared.named.NamedTotal.{NamedTotal}
 use Rattle.sqz_answers.specs.declared.sizes.Size.{Size}
+
+-- the size of nothing
+abbrev pub no_size : Size
+no_size = record { objects = 0; bytes = 0 }
 
 -- what totals add up to, if there are any
 abbrev pub size_of : List NamedTotal → Option Size

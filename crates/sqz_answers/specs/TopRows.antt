@@ -1,7 +1,7 @@
 -- The rows of a dominator tree.
-use Rattle.std.specs.Prelude.{◌≡◌, ◌+◌, ◌<◌, ℕ, zero, suc, Bool, not, nat_le, List, [], ◌∷◌, ◌++◌, length, sum_by}
+use Rattle.std.specs.Prelude.{◌≡◌, ◌+◌, ◌<◌, ◌==◌, ℕ, zero, suc, Bool, not, nat_le, nat_lt, List, [], ◌∷◌, ◌++◌, length, sum_by}
 use Rattle.std.specs.Prelude.{slice_index_or, Option, Some, None, IfSome}
-use Rattle.std.specs.List.{filter}
+use Rattle.std.specs.List.{filter, take_while}
 use Rattle.sqz_image.specs.Objects.{Memory}
 use Rattle.sqz_trace.specs.declared.weak.Weak.{Weak}
 use Rattle.sqz_dominators.specs.Children.{retained_bytes}
@@ -85,6 +85,13 @@ pub record AreTopRows (memory : Memory) (weak : Weak) (variables : Variables) (l
   pub tree : DominatorTree
   pub dominators : AreDominators memory weak tree
   pub are : AreRowsFrom memory tree variables limits limits.depth 0 None dominators.start rows
+
+-- ---- rows below a row
+
+-- the rows directly below a row of this depth, among the rows after it: those that are one deeper,
+-- up to the next row that is not deeper than it
+abbrev pub rows_below : (depth : ℕ) (after : List TopRow) → List TopRow
+rows_below depth after = filter (λ row. row.depth == depth + 1) (take_while (λ row. nat_lt depth row.depth) after)
 
 -- ---- the objects of rows
 

@@ -31,8 +31,8 @@ fn difference_of<V: Copy + InBytes>(change: &Change<V>) -> u64
     bytes_or_none(change.old).abs_diff(bytes_or_none(change.new))
 }
 
-/// Returns the bytes of a value, and 0 if there is none.
-fn bytes_or_none<V: Copy + InBytes>(value: Option<V>) -> u64
+/// Returns the number of bytes of a value. A value that is missing has none.
+pub fn bytes_or_none<V: Copy + InBytes>(value: Option<V>) -> u64
     ensures { result ≡ bytes_or_none V.bytes_of value }
 {
     match value {

@@ -23,7 +23,7 @@ mod weakness;
 mod why;
 
 pub use changes::{Change, changes_of};
-pub use differences::sort_by_difference;
+pub use differences::{bytes_or_none, sort_by_difference};
 pub use findings::{Findings, findings_of};
 pub use histograms::{Histogram, dead_histogram, live_histogram};
 pub use limits::{MOST_DEPTH, TopLimits};
@@ -32,7 +32,7 @@ pub use named::{NamedTotal, sizes_by_name};
 pub use objects::{Shown, shown_object};
 pub use references::{Reference, references_to};
 pub use rows::{TopObjects, TopRow, top_rows};
-pub use sizes::{InBytes, Size};
+pub use sizes::{InBytes, Size, size_or_nothing};
 pub use slots::{ShownSlot, slot_at, slot_count};
 pub use variable_parts::VariableParts;
 pub use weakness::is_weak_slot;

@@ -1,20 +1,19 @@
 //! The classes whose live instances differ in number or size.
 
+ghost use Rattle.std.specs.Prelude.{◌≡◌, All, IfOk, map};
 ghost use Rattle.sqz_image.specs.Objects.{object_count};
 ghost use Rattle.sqz_histogram.specs.Groups.{IsInside};
+ghost use Rattle.sqz_look_diff.specs.ClassSizes.{AreClassSizes};
 
-use sqz_answers::{Change, Size, changes_of, live_histogram, sort_by_difference};
-use sqz_histogram::Group;
+use sqz_answers::{
+    Change, NamedTotal, Size, changes_of, live_histogram, sizes_by_name, sort_by_difference,
+};
+use sqz_histogram::{Group, GroupTotal};
+use sqz_image::laws::heap_bounds;
 use sqz_look_view::Inspector;
 use std::alloc::AllocError;
 use std::collections::BTreeMap;
 use std::thread::Threads;
-
-/// The size of nothing.
-const NOTHING: Size = Size {
-    objects: 0,
-    bytes: 0,
-};
 
 /// Returns the classes whose live instances differ in number or size, those whose bytes changed
 /// most first.
@@ -34,16 +33,35 @@ pub(crate) fn class_changes(
 fn sizes_of(
     rt: &(impl Threads + Sync),
     inspector: &Inspector<'_>,
-) -> Result<BTreeMap<String, Size>, AllocError> {
+) -> Result<BTreeMap<String, Size>, AllocError>
+    ensures { IfOk result (AreClassSizes inspector.now.live.graph.heap.now
+        inspector.now.live.graph.weak inspector.now.live.marks) }
+{
+    heap_bounds(inspector.live.graph.heap); // fewer than 2^30 objects and words
     let histogram = live_histogram(rt, inspector.alloc, &inspector.live)?;
-    let mut sizes = BTreeMap::new(inspector.alloc);
-    for total in &histogram.totals {
-        let name = name_of(inspector, total.group)?;
-        let size = sizes.entry(name)?.or_insert(NOTHING);
-        size.objects = size.objects.saturating_add(u64::from(total.count));
-        size.bytes = size.bytes.saturating_add(total.bytes);
-    }
+    let named = with_names(inspector, &histogram.totals)?;
+    let sizes = sizes_by_name(inspector.alloc, &named)?;
     Ok(sizes)
+}
+
+/// Returns the totals of a class histogram with the names of their classes.
+fn with_names(
+    inspector: &Inspector<'_>,
+    totals: &[GroupTotal],
+) -> Result<Vec<NamedTotal>, AllocError>
+    requires { All (λ total. IsInside (object_count inspector.now.live.graph.heap.now)
+        total.group) totals.now }
+    ensures { IfOk result (λ named. map (λ one. one.total) named.items ≡ totals.now) }
+{
+    let mut named = Vec::new(inspector.alloc);
+    for total in totals {
+        let name = name_of(inspector, total.group)?;
+        named.push(NamedTotal {
+            name,
+            total: *total,
+        })?;
+    }
+    Ok(named)
 }
 
 /// Returns the name of a group as a class histogram prints it.

@@ -3,7 +3,7 @@
 use crate::methods::MethodChange;
 use crate::variables::VariableChanges;
 use serde::Serialize;
-use sqz_answers::{Change, Size};
+use sqz_answers::{Change, Size, bytes_or_none, size_or_nothing};
 use std::alloc::{AllocError, Global};
 use std::fmt;
 
@@ -19,17 +19,6 @@ impl SizeView {
     fn of(size: Size) -> Self {
         let Size { objects, bytes } = size;
         SizeView { objects, bytes }
-    }
-
-    /// Returns a size, and that of nothing if there is none.
-    fn or_nothing(size: Option<Size>) -> Self {
-        match size {
-            Some(size) => SizeView::of(size),
-            None => SizeView {
-                objects: 0,
-                bytes: 0,
-            },
-        }
     }
 }
 
@@ -86,10 +75,7 @@ pub(crate) struct ClassView<'a> {
 impl<'a> ClassView<'a> {
     /// Returns the row of a class.
     pub(crate) fn of(alloc: Global, change: &'a Change<Size>) -> Result<Self, AllocError> {
-        let (old, new) = (
-            SizeView::or_nothing(change.old),
-            SizeView::or_nothing(change.new),
-        );
+        let (old, new) = (size_or_nothing(change.old), size_or_nothing(change.new));
         Ok(ClassView {
             kind: "class",
             name: change.name.as_str(),
@@ -136,7 +122,7 @@ impl<'a> VariableView<'a> {
             name: change.name.as_str(),
             old,
             new,
-            bytes: signed(alloc, old.unwrap_or(0), new.unwrap_or(0))?,
+            bytes: signed(alloc, bytes_or_none(old), bytes_or_none(new))?,
             note: note_of(variables, change),
         })
     }
