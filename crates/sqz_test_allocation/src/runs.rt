@@ -42,17 +42,17 @@ fn run_again<R: Threads + Sync + Abort + Print + AllocGlobal>(
     }
 }
 
-/// Asserts what a run over an image by a plan returns and writes.
+/// Asserts what a run over an image by a plan returns and writes. `taken` are the bytes that the
+/// sinks of the image and of the census took.
 fn assert_gives<R: Abort>(
     rt: &R,
     plan: &Plan,
     row: &Row,
     answer: Result<Summary, Fault>,
-    sink: &MemorySink,
-    report: &MemorySink,
+    taken: (&[u8], &[u8]),
 ) {
     let weak = plan.weak;
-    let found = (answer, sink.contents(), report.contents());
+    let found = (answer, taken.0, taken.1);
     let wanted = (Ok(row.summary), row.answer, row.census.as_bytes());
     assert_eq!(rt; found, wanted, "{weak:?}");
 }
@@ -65,7 +65,8 @@ fn assert_serves<R: Threads + Sync + Abort + Print + AllocGlobal>(
     let mut sink = new_sink(rt)?;
     let mut report = new_sink(rt)?;
     let summary = run_again(rt, plan, &mut sink, &mut report)?;
-    assert_gives(rt, plan, &DEAD_CYCLE, Ok(summary), &sink, &report);
+    let taken = (sink.contents(), report.contents());
+    assert_gives(rt, plan, &DEAD_CYCLE, Ok(summary), taken);
     Ok(())
 }
 
@@ -126,7 +127,8 @@ fn assert_runs<R: Threads + Sync + Abort + Print + AllocGlobal>(
 ) -> Result<(), Fail> {
     let mut devices = new_devices(rt, row.file)?;
     let answer = run_with(rt, plan, &mut devices);
-    assert_gives(rt, plan, row, answer, &devices.sink, &devices.report);
+    let taken = (devices.sink.contents(), devices.report.contents());
+    assert_gives(rt, plan, row, answer, taken);
     Ok(())
 }
 
@@ -144,7 +146,8 @@ fn assert_row<R: Threads + Sync + Abort + Print + AllocGlobal>(
         assert!(rt; devices.sink.contents().is_empty() && devices.report.contents().is_empty());
         return assert_runs(rt, plan, row);
     }
-    assert_gives(rt, plan, row, answer, &devices.sink, &devices.report);
+    let taken = (devices.sink.contents(), devices.report.contents());
+    assert_gives(rt, plan, row, answer, taken);
     Ok(())
 }
 

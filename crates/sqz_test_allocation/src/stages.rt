@@ -133,17 +133,23 @@ fn places_of<R: Threads + Sync + Print + AllocGlobal>(
     )
 }
 
+/// What the last stages work on.
+#[derive(Drop)]
+struct Job<'a> {
+    heap: &'a Heap,
+    weak: Weak,
+    regions: &'a Regions<'a>,
+    workers: Workers,
+}
+
 /// The marked objects in their new places.
 fn pieces_of<R: Threads + Sync + Print + AllocGlobal>(
     rt: &R,
-    heap: &Heap,
-    weak: Weak,
-    regions: &Regions<'_>,
+    job: &Job<'_>,
     forward: &Forward,
-    workers: Workers,
 ) -> Result<Pieces, Fail>
-    requires regions { regions.now.memory ≡ heap.now }
-    requires one_each { length forward.now ≡ object_count heap.now }
+    requires regions { job.now.regions.now.memory ≡ job.now.heap.now }
+    requires one_each { length forward.now ≡ object_count job.now.heap.now }
 {
     again!(
         rt,
@@ -151,11 +157,11 @@ fn pieces_of<R: Threads + Sync + Print + AllocGlobal>(
         slide(
             rt,
             rt.alloc(),
-            heap,
-            weak,
-            regions,
+            job.heap,
+            job.weak,
+            job.regions,
             forward,
-            workers,
+            job.workers,
             &OpenGate
         )
     )
@@ -277,36 +283,30 @@ fn assert_census<R: Abort + Print + AllocGlobal>(rt: &R, rows: &[Row]) -> Result
 /// Asserts what the stages return that need the new addresses of the marked objects.
 fn assert_last_stages<R: Threads + Sync + Abort + Print + AllocGlobal>(
     rt: &R,
-    heap: &Heap,
-    weak: Weak,
-    regions: &Regions<'_>,
-    workers: Workers,
+    job: &Job<'_>,
     marks: &Marks,
     forward: &Forward,
 ) -> Result<(), Fail>
-    requires memory { regions.now.memory ≡ heap.now }
-    requires sized { length marks.now ≡ object_count heap.now }
-    requires one_each { length forward.now ≡ object_count heap.now }
+    requires memory { job.now.regions.now.memory ≡ job.now.heap.now }
+    requires sized { length marks.now ≡ object_count job.now.heap.now }
+    requires one_each { length forward.now ≡ object_count job.now.heap.now }
 {
-    assert_pieces(rt, &pieces_of(rt, heap, weak, regions, forward, workers)?);
-    assert_census(rt, &rows_of(rt, heap, weak, marks, forward)?)
+    assert_pieces(rt, &pieces_of(rt, job, forward)?);
+    assert_census(rt, &rows_of(rt, job.heap, job.weak, marks, forward)?)
 }
 
 /// Asserts what one worker's marks are, and what each stage after them returns.
 fn assert_later_stages<R: Threads + Sync + Abort + Print + AllocGlobal>(
     rt: &R,
-    heap: &Heap,
-    weak: Weak,
-    regions: &Regions<'_>,
-    workers: Workers,
+    job: &Job<'_>,
 ) -> Result<(), Fail>
-    requires memory { regions.now.memory ≡ heap.now }
-    requires count { object_count heap.now ≡ 6 }
+    requires memory { job.now.regions.now.memory ≡ job.now.heap.now }
+    requires count { object_count job.now.heap.now ≡ 6 }
 {
-    let marks = plain_marks(rt, heap, weak)?;
+    let marks = plain_marks(rt, job.heap, job.weak)?;
     assert_marks(rt, &marks);
-    let forward = placed(rt, heap, regions, &marks)?;
-    assert_last_stages(rt, heap, weak, regions, workers, &marks, &forward)
+    let forward = placed(rt, job.heap, job.regions, &marks)?;
+    assert_last_stages(rt, job, &marks, &forward)
 }
 
 /// Asserts what each stage returns.
@@ -321,7 +321,13 @@ fn assert_stages<R: Threads + Wait + Sync + Abort + Print + AllocGlobal>(
 {
     let workers = Workers::new(2)?;
     assert_marked(rt, heap, weak, regions, workers)?;
-    assert_later_stages(rt, heap, weak, regions, workers)
+    let job = Job {
+        heap,
+        weak,
+        regions,
+        workers,
+    };
+    assert_later_stages(rt, &job)
 }
 
 /// Asserts what each stage returns under each policy on weak slots.

@@ -101,20 +101,20 @@ fn assert_marked<R: Abort>(rt: &R, table: &MarkTable<'_>, pass: &mut Pass, objec
 }
 
 /// Asserts that an object is marked, and what a claim of the object that a slot of it points to
-/// finds.
+/// finds. `from` is the object with the slot.
 pub(crate) fn assert_claims<R: Abort>(
     rt: &R,
     table: &MarkTable<'_>,
     pass: &mut Pass,
-    parent: u32,
-    slot: Slot,
+    from: (u32, Slot),
     wanted: Claim,
 )
     requires of { IsPassOf table.now pass.old }
-    requires inside { parent < object_count table.now.heap.memory }
+    requires inside { from.0 < object_count table.now.heap.memory }
     ensures later { IsLater pass.old pass.new }
     ensures knows { Knows pass.new.view wanted }
 {
+    let (parent, slot) = from;
     assert_marked(rt, table, pass, parent);
     let found = claim(table, pass, parent, slot);
     assert!(rt;
@@ -225,10 +225,10 @@ fn mark_special<R: Abort + AllocGlobal>(
     ensures { OnOk result (IsLater pass.old pass.new) }
 {
     assert_looks(rt, table, pass, 5, Shade::Grey);
-    assert_claims(rt, table, pass, 5, Slot::Field(0), Claim::Won(0));
-    assert_claims(rt, table, pass, 5, Slot::Field(0), Claim::Seen(0));
-    assert_claims(rt, table, pass, 5, Slot::ClassWord, Claim::Nothing);
-    assert_claims(rt, table, pass, 5, Slot::Field(1), Claim::Won(1));
+    assert_claims(rt, table, pass, (5, Slot::Field(0)), Claim::Won(0));
+    assert_claims(rt, table, pass, (5, Slot::Field(0)), Claim::Seen(0));
+    assert_claims(rt, table, pass, (5, Slot::ClassWord), Claim::Nothing);
+    assert_claims(rt, table, pass, (5, Slot::Field(1)), Claim::Won(1));
     assert_blackens(rt, table, pass, 5, &[])?;
     Ok(())
 }
@@ -241,8 +241,8 @@ fn mark_named<R: Abort>(rt: &R, table: &MarkTable<'_>, pass: &mut Pass)
 {
     assert_looks(rt, table, pass, 5, Shade::Black);
     assert_looks(rt, table, pass, 2, Shade::White);
-    assert_claims(rt, table, pass, 1, Slot::Field(0), Claim::Won(3));
-    assert_claims(rt, table, pass, 3, Slot::Field(0), Claim::Seen(1));
+    assert_claims(rt, table, pass, (1, Slot::Field(0)), Claim::Won(3));
+    assert_claims(rt, table, pass, (3, Slot::Field(0)), Claim::Seen(1));
 }
 
 /// The objects that are grey then. None of them wins another.

@@ -1,7 +1,9 @@
 //! Devices that fail in the midst of a run: at each call in turn, and at each number of bytes.
 
 use super::prefixes::file_behind;
-use super::runs::{Devices, Outcome, SOUND, assert_bytes, assert_writes_both, plan_by, run_over};
+use super::runs::{
+    Devices, Outcome, SOUND, Written, assert_bytes, assert_writes_both, plan_by, run_over,
+};
 use sqz_image::Fault;
 use sqz_test_fixtures::TestImage;
 use sqz_test_fixtures::accepted::{DEAD_ARRAY, NIL_ALONE, NIL_ALONE_CENSUS};
@@ -132,7 +134,11 @@ fn assert_whole<R: Threads + Wait + Sync + Abort + AllocGlobal>(
     case: &Case,
 ) -> Result<(), Fail> {
     let file = Vec::from_slice(rt.alloc(), &case.file)?;
-    assert_writes_both(rt, plan, devices, file, &case.image, case.text)
+    let wanted = Written {
+        image: &case.image,
+        census: case.text,
+    };
+    assert_writes_both(rt, plan, devices, file, wanted)
 }
 
 /// The first bytes of these, this many, or all of them if they are fewer.

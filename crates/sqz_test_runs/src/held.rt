@@ -1,6 +1,6 @@
 //! Runs by workers one of whom is held: they write the same as runs in which none is.
 
-use super::runs::{Outcome, SOUND, assert_bytes_by, plan_by, run_over, run_past};
+use super::runs::{Input, Outcome, SOUND, assert_bytes_by, plan_by, run_over, run_past};
 use sqz_test_fixtures::accepted::{DEAD_CYCLE, DEAD_CYCLE_ANSWER};
 use sqz_test_fixtures::file_of;
 use sqz_tool::Plan;
@@ -51,7 +51,8 @@ fn run_past_gate<R: Threads + Sync + AllocGlobal>(
     gate: &HoldingGate,
 ) -> Result<Outcome, Fail> {
     let file = file_of(rt.alloc(), &DEAD_CYCLE)?;
-    run_past(rt, rt.alloc(), plan, file, &SOUND, gate)
+    let devices = &SOUND;
+    run_past(rt, rt.alloc(), plan, Input { file, devices }, gate)
 }
 
 /// What workers do if the first is held once.

@@ -1,6 +1,6 @@
 //! One image by several plans: the answer is the same.
 
-use super::runs::{SOUND, assert_writes_both, nine_plans};
+use super::runs::{SOUND, Written, assert_writes_both, nine_plans};
 use super::weak_censuses::{WEAK_CLASS, WEAK_CLASS_CENSUS, WEAK_CLASS_CLEARED};
 use sqz_image::Fault;
 use sqz_marks::Workers;
@@ -31,7 +31,11 @@ fn assert_answer<R: Threads + Wait + Sync + Abort + AllocGlobal>(
 ) -> Result<(), Fail> {
     let file = file_of(rt.alloc(), &case.image)?;
     let wanted = file_of(rt.alloc(), &case.answer)?;
-    assert_writes_both(rt, plan, &SOUND, file, &wanted, case.text)
+    let wanted = Written {
+        image: &wanted,
+        census: case.text,
+    };
+    assert_writes_both(rt, plan, &SOUND, file, wanted)
 }
 
 /// Asserts it of 1, 2 and 64 workers, and of regions of one word, of 65536 words and of all words.

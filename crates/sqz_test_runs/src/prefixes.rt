@@ -1,7 +1,7 @@
 //! Files with bytes before the header: where it is looked for, and what becomes of those bytes.
 
 use super::runs::{
-    SOUND, assert_bytes, assert_refused, assert_writes, assert_writes_both, plan_of,
+    SOUND, Written, assert_bytes, assert_refused, assert_writes, assert_writes_both, plan_of,
 };
 use super::weak_censuses::{WEAK_CLASS, WEAK_CLASS_CENSUS, WEAK_CLASS_CLEARED};
 use sqz_image::{Fault, Image, MemorySink, read_image, write_image};
@@ -236,7 +236,11 @@ fn assert_cleared_behind_512<R: Threads + Wait + Sync + Abort + AllocGlobal>(
 ) -> Result<(), Fail> {
     let wanted = behind_512(rt.alloc(), order, &WEAK_CLASS_CLEARED)?;
     let file = behind_512(rt.alloc(), order, &WEAK_CLASS)?;
-    assert_writes_both(rt, plan, &SOUND, file, &wanted, WEAK_CLASS_CENSUS)
+    let wanted = Written {
+        image: &wanted,
+        census: WEAK_CLASS_CENSUS,
+    };
+    assert_writes_both(rt, plan, &SOUND, file, wanted)
 }
 
 #[test]

@@ -84,7 +84,14 @@ pub(crate) fn run_over<R: Threads + Wait + Sync>(
     file: Vec<u8>,
     devices: &Devices,
 ) -> Result<Outcome, Fail> {
-    run_past(rt, alloc, plan, file, devices, &OpenGate)
+    run_past(rt, alloc, plan, Input { file, devices }, &OpenGate)
+}
+
+/// A file, and the devices that it is read from and written to.
+#[derive(Drop)]
+pub(crate) struct Input<'a> {
+    pub file: Vec<u8>,
+    pub devices: &'a Devices,
 }
 
 /// A run over a file by workers that pass a gate.
@@ -92,10 +99,10 @@ pub(crate) fn run_past<R: Threads + Sync, G: Gate>(
     rt: &R,
     alloc: Global,
     plan: &Plan,
-    file: Vec<u8>,
-    devices: &Devices,
+    input: Input<'_>,
     gate: &G,
 ) -> Result<Outcome, Fail> {
+    let Input { file, devices } = input;
     let mut source = MemorySource::new(file, devices.piece.max(1), devices.source_fails);
     let mut sink = MemorySink::new(alloc, devices.image_room, devices.image_fails)?;
     let mut report = MemorySink::new(alloc, devices.census_room, devices.census_fails)?;
@@ -156,31 +163,31 @@ pub(crate) fn assert_bytes_by<R: Abort>(rt: &R, workers: u32, bytes: &[u8], want
     assert_eq!(rt; bytes, wanted, "with {workers} workers");
 }
 
-/// Asserts that a run by a plan, with these devices, writes this image and this census.
+/// What a run is to write.
+#[derive(Clone, Copy)]
+pub(crate) struct Written<'a> {
+    pub image: &'a [u8],
+    pub census: &'a str,
+}
+
+/// Asserts what a run by a plan, with these devices, writes.
 pub(crate) fn assert_writes_both<R: Threads + Wait + Sync + Abort + AllocGlobal>(
     rt: &R,
     plan: &Plan,
     devices: &Devices,
     file: Vec<u8>,
-    image: &[u8],
-    census: &str,
+    wanted: Written<'_>,
 ) -> Result<(), Fail> {
     let outcome = run_over(rt, rt.alloc(), plan, file, devices)?;
-    assert_wrote_both(rt, plan.workers.number(), &outcome, image, census);
+    assert_wrote_both(rt, plan.workers.number(), &outcome, wanted);
     Ok(())
 }
 
-/// Asserts that a run with this many workers wrote this image and this census.
-fn assert_wrote_both<R: Abort>(
-    rt: &R,
-    workers: u32,
-    outcome: &Outcome,
-    image: &[u8],
-    census: &str,
-) {
+/// Asserts what a run with this many workers wrote.
+fn assert_wrote_both<R: Abort>(rt: &R, workers: u32, outcome: &Outcome, wanted: Written<'_>) {
     assert_eq!(rt; (workers, outcome.answer.is_ok()), (workers, true));
-    assert_bytes_by(rt, workers, &outcome.image, image);
-    assert_bytes_by(rt, workers, &outcome.census, census.as_bytes());
+    assert_bytes_by(rt, workers, &outcome.image, wanted.image);
+    assert_bytes_by(rt, workers, &outcome.census, wanted.census.as_bytes());
 }
 
 /// Asserts that a run over a file is refused with this fault, and writes nothing.

@@ -82,23 +82,31 @@ fn placed_by<R: Threads + Sync + AllocGlobal>(
     })
 }
 
-/// Asserts that under a cut the regions of an image have these live words and bases, and its
-/// objects these places.
+/// Where the reachable objects of an image are to go.
+#[derive(Clone, Copy)]
+struct Wanted<'a> {
+    /// How many live words each region has.
+    sums: &'a [u32],
+    /// The first address of each region's live words.
+    bases: &'a [u64],
+    /// The place of each object that has one.
+    places: &'a [Option<u32>],
+}
+
+/// Asserts what the regions of an image have under a cut, and where its objects go.
 fn assert_places<R: Threads + Sync + Abort + AllocGlobal>(
     rt: &R,
     image: &Image,
     cut: &Cut,
-    sums: &[u32],
-    bases: &[u64],
-    places: &[Option<u32>],
+    wanted: Wanted<'_>,
 ) -> Result<(), Fail> {
     let heap = image.heap();
     let regions = Regions::of(rt.alloc(), heap, cut)?;
-    assert_eq!(rt; regions.count() as usize, sums.len());
+    assert_eq!(rt; regions.count() as usize, wanted.sums.len());
     let placed = places_of(rt, heap, Weak::Keep, &regions)?;
-    assert_placed(rt, heap, &placed, places);
+    assert_placed(rt, heap, &placed, wanted.places);
     let found = (placed.sums.as_slice(), placed.bases.as_slice());
-    assert_eq!(rt; found, (sums, bases));
+    assert_eq!(rt; found, (wanted.sums, wanted.bases));
     Ok(())
 }
 
@@ -118,22 +126,28 @@ fn assert_places_at<R: Threads + Sync + Abort + AllocGlobal>(
     rt: &R,
     image: &Image,
     points: &[u32],
-    sums: &[u32],
-    bases: &[u64],
-    places: &[Option<u32>],
+    wanted: Wanted<'_>,
 ) -> Result<(), Fail> {
     let cut = cut_at(rt.alloc(), points)?;
-    assert_places(rt, image, &cut, sums, bases, places)
+    assert_places(rt, image, &cut, wanted)
 }
 
 #[test]
 fn dead_cycle(rt: HostRuntime) -> Result<(), Fail> {
     let image = dead_cycle_image(rt.alloc())?;
-    let places = DEAD_CYCLE_PLACES.as_slice();
-    let bases = [0x1000, 0x1004, 0x100C];
-    assert_places_at(&rt, &image, &[1, 3], &[1, 2, 5], &bases, places)?;
+    let wanted = Wanted {
+        sums: &[1, 2, 5],
+        bases: &[0x1000, 0x1004, 0x100C],
+        places: &DEAD_CYCLE_PLACES,
+    };
+    assert_places_at(&rt, &image, &[1, 3], wanted)?;
     let cut = Cut::every(1)?;
-    assert_places(&rt, &image, &cut, WORD_SUMS, WORD_BASES, places)
+    let wanted = Wanted {
+        sums: WORD_SUMS,
+        bases: WORD_BASES,
+        places: &DEAD_CYCLE_PLACES,
+    };
+    assert_places(&rt, &image, &cut, wanted)
 }
 
 /// Asserts which objects each region has: the index of the first, and that after the last.
@@ -179,9 +193,12 @@ fn cut_points_inside_objects(rt: HostRuntime) -> Result<(), Fail> {
     let cut = cut_at(rt.alloc(), &[2, 6, 40])?;
     let objects = [(0, 2), (2, 3), (3, 3), (3, 4)];
     assert_regions(&rt, &image, &cut, &objects, &[0, 0, 1, 3])?;
-    let places = [Some(0x1000), None, Some(0x100C), Some(0x110C)];
-    let bases = [0x1000, 0x1004, 0x110C, 0x110C];
-    assert_places(&rt, &image, &cut, &[1, 66, 0, 3], &bases, &places)
+    let wanted = Wanted {
+        sums: &[1, 66, 0, 3],
+        bases: &[0x1000, 0x1004, 0x110C, 0x110C],
+        places: &[Some(0x1000), None, Some(0x100C), Some(0x110C)],
+    };
+    assert_places(&rt, &image, &cut, wanted)
 }
 
 /// The third object has six words, three of them header words.
@@ -189,18 +206,19 @@ fn cut_points_inside_objects(rt: HostRuntime) -> Result<(), Fail> {
 fn cut_points_in_small_objects(rt: HostRuntime) -> Result<(), Fail> {
     let image = image_of(rt.alloc(), &LONG_HEADER)?;
     let places = [Some(0x1000), None, Some(0x100C), Some(0x101C)];
-    let bases = [0x1000, 0x1004, 0x101C, 0x101C];
-    assert_places_at(&rt, &image, &[2, 6, 8], &[1, 6, 0, 3], &bases, &places)?;
+    let wanted = Wanted {
+        sums: &[1, 6, 0, 3],
+        bases: &[0x1000, 0x1004, 0x101C, 0x101C],
+        places: &places,
+    };
+    assert_places_at(&rt, &image, &[2, 6, 8], wanted)?;
+    let wanted = Wanted {
+        sums: &[1, 6, 3, 0],
+        bases: &[0x1000, 0x1004, 0x101C, 0x1028],
+        places: &places,
+    };
     let first_and_last_words = [4, 9, 1 << 30];
-    let bases = [0x1000, 0x1004, 0x101C, 0x1028];
-    assert_places_at(
-        &rt,
-        &image,
-        &first_and_last_words,
-        &[1, 6, 3, 0],
-        &bases,
-        &places,
-    )
+    assert_places_at(&rt, &image, &first_and_last_words, wanted)
 }
 
 #[test]
@@ -222,16 +240,29 @@ fn one_word(rt: HostRuntime) -> Result<(), Fail> {
 #[test]
 fn one_object(rt: HostRuntime) -> Result<(), Fail> {
     let image = image_of(rt.alloc(), &SPECIAL_ARRAY_ALONE)?;
-    let places = [Some(0x1000)];
-    assert_places_at(&rt, &image, &[1], &[1, 0], &[0x1000, 0x1004], &places)?;
-    assert_places_at(&rt, &image, &[5], &[1, 0], &[0x1000, 0x1004], &places)
+    let wanted = Wanted {
+        sums: &[1, 0],
+        bases: &[0x1000, 0x1004],
+        places: &[Some(0x1000)],
+    };
+    assert_places_at(&rt, &image, &[1], wanted)?;
+    assert_places_at(&rt, &image, &[5], wanted)
 }
 
 #[test]
 fn free_chunks_at_the_end(rt: HostRuntime) -> Result<(), Fail> {
     let image = image_of(rt.alloc(), &FREE_AT_THE_END)?;
     let places = [Some(0x1000), Some(0x1004)];
-    assert_places_at(&rt, &image, &[], &[3], &[0x1000], &places)?;
-    let bases = [0x1000, 0x1004, 0x100C];
-    assert_places_at(&rt, &image, &[1, 3], &[1, 2, 0], &bases, &places)
+    let wanted = Wanted {
+        sums: &[3],
+        bases: &[0x1000],
+        places: &places,
+    };
+    assert_places_at(&rt, &image, &[], wanted)?;
+    let wanted = Wanted {
+        sums: &[1, 2, 0],
+        bases: &[0x1000, 0x1004, 0x100C],
+        places: &places,
+    };
+    assert_places_at(&rt, &image, &[1, 3], wanted)
 }

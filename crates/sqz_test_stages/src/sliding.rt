@@ -21,16 +21,23 @@ use std::process::Abort;
 use std::test::Fail;
 use std::thread::Threads;
 
-/// The pieces of a heap under a cut, moved by this many workers, who pass a gate.
+/// This many workers, who pass a gate.
+#[derive(Drop)]
+pub(crate) struct Team<'a, G> {
+    pub(crate) workers: u32,
+    pub(crate) gate: &'a G,
+}
+
+/// The pieces of a heap under a cut, moved by a team.
 pub(crate) fn slid_by<R: Threads + Sync + AllocGlobal, G: Gate>(
     rt: &R,
     heap: &Heap,
     weak: Weak,
     cut: &Cut,
-    workers: u32,
-    gate: &G,
+    team: &Team<'_, G>,
 ) -> Result<Pieces, Fail> {
-    let workers = Workers::new(workers)?;
+    let workers = Workers::new(team.workers)?;
+    let gate = team.gate;
     let regions = Regions::of(rt.alloc(), heap, cut)?;
     let placed = places_of(rt, heap, weak, &regions)?;
     let forward = &placed.forward;
@@ -43,11 +50,18 @@ pub(crate) fn slid<R: Threads + Sync + AllocGlobal, G: Gate>(
     image: &Image,
     weak: Weak,
     points: &[u32],
-    workers: u32,
-    gate: &G,
+    team: &Team<'_, G>,
 ) -> Result<Pieces, Fail> {
     let cut = cut_at(rt.alloc(), points)?;
-    slid_by(rt, image.heap(), weak, &cut, workers, gate)
+    slid_by(rt, image.heap(), weak, &cut, team)
+}
+
+/// This many workers, whom no gate holds.
+fn free_team<'a>(workers: u32) -> Team<'a, OpenGate> {
+    Team {
+        workers,
+        gate: &OpenGate,
+    }
 }
 
 /// The words of all pieces.
@@ -143,7 +157,7 @@ fn assert_three_pieces<R: Threads + Sync + Abort + AllocGlobal>(
     image: &Image,
     workers: u32,
 ) -> Result<(), Fail> {
-    let pieces = slid(rt, image, Weak::Keep, &[1, 3], workers, &OpenGate)?;
+    let pieces = slid(rt, image, Weak::Keep, &[1, 3], &free_team(workers))?;
     assert_pieces(rt, &pieces, &[1, 2, 5], &DEAD_CYCLE_ANSWER)
 }
 
@@ -159,56 +173,61 @@ fn dead_cycle_in_three_pieces(rt: HostRuntime) -> Result<(), Fail> {
 #[test]
 fn region_of_dead_objects_alone(rt: HostRuntime) -> Result<(), Fail> {
     let image = image_of(rt.alloc(), &DEAD_ARRAY)?;
-    let pieces = slid(&rt, &image, Weak::Keep, &[1, 4], 4, &OpenGate)?;
+    let pieces = slid(&rt, &image, Weak::Keep, &[1, 4], &free_team(4))?;
     assert_pieces(&rt, &pieces, &[1, 0, 2], &NIL_ALONE)
 }
 
-/// Asserts that the words of an image after the move are those of another, in two pieces of this
-/// many words.
-fn assert_two_pieces<R: Threads + Sync + Abort + AllocGlobal>(
-    rt: &R,
-    image: &Image,
-    weak: Weak,
+/// Two pieces of the words of an image: where it is cut, the number of words of each, and all of
+/// them.
+#[derive(Clone, Copy)]
+struct Halves<'a> {
     point: u32,
-    sizes: &[usize],
-    wanted: &TestImage,
-) -> Result<(), Fail> {
-    let pieces = slid(rt, image, weak, &[point], 2, &OpenGate)?;
-    assert_pieces(rt, &pieces, sizes, wanted)
+    sizes: [usize; 2],
+    words: &'a TestImage,
 }
 
-/// Asserts that the words of an image after the move are those of another, in two pieces of this
-/// many words and one by one.
+/// Asserts that an image has these words after the move, in two pieces and one by one.
 fn assert_moves<R: Threads + Sync + Abort + AllocGlobal>(
     rt: &R,
     image: &TestImage,
     weak: Weak,
-    point: u32,
-    sizes: &[usize],
-    wanted: &TestImage,
+    wanted: &Halves<'_>,
 ) -> Result<(), Fail> {
     let image = image_of(rt.alloc(), image)?;
-    assert_two_pieces(rt, &image, weak, point, sizes, wanted)?;
+    let pieces = slid(rt, &image, weak, &[wanted.point], &free_team(2))?;
+    assert_pieces(rt, &pieces, &wanted.sizes, wanted.words)?;
     let one_by_one = moved_words(rt, image.heap(), weak)?;
-    assert_words(rt, &one_by_one, wanted)
+    assert_words(rt, &one_by_one, wanted.words)
 }
 
 #[test]
 fn class_words_and_headers_of_three_words(rt: HostRuntime) -> Result<(), Fail> {
-    let wanted = &CLASS_WORDS_ANSWER;
-    assert_moves(&rt, &CLASS_WORDS, Weak::Keep, 9, &[6, 7], wanted)
+    let wanted = Halves {
+        point: 9,
+        sizes: [6, 7],
+        words: &CLASS_WORDS_ANSWER,
+    };
+    assert_moves(&rt, &CLASS_WORDS, Weak::Keep, &wanted)
 }
 
 /// A weak slot that points to a dead object points to nil, at its new address. One that points to a
 /// live object still points to it, and an integer and the class word are as if slots were kept.
 #[test]
 fn weak_slots_cleared(rt: HostRuntime) -> Result<(), Fail> {
-    let wanted = &THREE_WEAK_SLOTS_CLEARED;
-    assert_moves(&rt, &THREE_WEAK_SLOTS, Weak::Clear, 12, &[7, 9], wanted)
+    let wanted = Halves {
+        point: 12,
+        sizes: [7, 9],
+        words: &THREE_WEAK_SLOTS_CLEARED,
+    };
+    assert_moves(&rt, &THREE_WEAK_SLOTS, Weak::Clear, &wanted)
 }
 
 #[test]
 fn weak_slots_kept(rt: HostRuntime) -> Result<(), Fail> {
-    let wanted = &THREE_WEAK_SLOTS_KEPT;
-    assert_moves(&rt, &THREE_WEAK_SLOTS, Weak::Keep, 12, &[9, 9], wanted)
+    let wanted = Halves {
+        point: 12,
+        sizes: [9, 9],
+        words: &THREE_WEAK_SLOTS_KEPT,
+    };
+    assert_moves(&rt, &THREE_WEAK_SLOTS, Weak::Keep, &wanted)
 }

@@ -2,7 +2,7 @@
 
 use super::gates::{Hold, MEETING, TurnGate, assert_held, turn_of};
 use super::images::{dead_cycle_image, long_object_image};
-use super::sliding::{assert_pieces, assert_sizes, slid, slid_by};
+use super::sliding::{Team, assert_pieces, assert_sizes, slid, slid_by};
 use sqz_image::Image;
 use sqz_regions::Cut;
 use sqz_slide::Pieces;
@@ -27,7 +27,8 @@ fn assert_slides_to<R: Threads + Sync + Abort + AllocGlobal>(
     sizes: &[usize],
 ) -> Result<(), Fail> {
     let image = dead_cycle_image(rt.alloc())?;
-    let pieces = slid(rt, &image, Weak::Keep, points, 2, gate)?;
+    let team = Team { workers: 2, gate };
+    let pieces = slid(rt, &image, Weak::Keep, points, &team)?;
     assert_pieces(rt, &pieces, sizes, &DEAD_CYCLE_ANSWER)
 }
 
@@ -76,7 +77,8 @@ fn slid_by_two<R: Threads + Sync + AllocGlobal>(
     gate: &TurnGate<'_>,
 ) -> Result<Pieces, Fail> {
     let cut = Cut::every(65_536)?;
-    slid_by(rt, image.heap(), Weak::Keep, &cut, 2, gate)
+    let team = Team { workers: 2, gate };
+    slid_by(rt, image.heap(), Weak::Keep, &cut, &team)
 }
 
 /// Each worker passes the gate once, with one region or with none. So a gate cannot tell which of

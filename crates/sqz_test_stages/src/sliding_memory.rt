@@ -1,7 +1,7 @@
 //! Sliding allocates only after the gate, as the size of the process shows.
 
 use super::gates::{Hold, TurnGate, assert_held, turn_of};
-use super::sliding::{slid, slid_by};
+use super::sliding::{Team, slid, slid_by};
 use super::sliding_gates::assert_turns;
 use sqz_image::{Image, read_image};
 use sqz_object::Order;
@@ -89,7 +89,11 @@ fn first_turn_is_before_all_memory(rt: HostRuntime) -> Result<(), Fail> {
         rt: &rt,
         sizes: [AtomicU64::new(0), AtomicU64::new(0)],
     };
-    slid_by(&rt, image.heap(), Weak::Keep, &Cut::every(4)?, 1, &gate)?;
+    let team = Team {
+        workers: 1,
+        gate: &gate,
+    };
+    slid_by(&rt, image.heap(), Weak::Keep, &Cut::every(4)?, &team)?;
     let [first, second] = &gate.sizes;
     assert_grows(&rt, first, second, (95 << 20) / 4096);
     Ok(())
@@ -170,7 +174,11 @@ fn each_turn_is_before_the_memory_of_its_piece(rt: HostRuntime) -> Result<(), Fa
     let second = 6 + PIECE / 4;
     let special = 2 * second - 3;
     let points = [1, 2, 3, second, special, special + 1];
-    slid(&rt, &image, Weak::Keep, &points, 2, &gate)?;
+    let team = Team {
+        workers: 2,
+        gate: &gate,
+    };
+    slid(&rt, &image, Weak::Keep, &points, &team)?;
     assert_turns(&rt, &gate.turns, 3, 4);
     assert_held(&rt, &gate.turns, 2);
     let [first, second, third] = &gate.sizes;
