@@ -1,6 +1,6 @@
 -- The exits of files that are checked.
 -- Serves `check_one`, `check_all` and `answer`.
-use Rattle.std.proofs.Common.{◌≡◌, ◌↔◌, ◌≤◌, ℕ, zero, suc, ◌+◌, max, Bool, List, [], ◌∷◌, ◌++◌, length, Option, None, Result, Ok, Err, IfOk}
+use Rattle.std.proofs.Common.{◌≡◌, ◌↔◌, ◌≤◌, ℕ, zero, suc, ◌+◌, max, Bool, List, [], ◌∷◌, ◌++◌, Option, None, Result, Ok, Err, IfOk}
 use Rattle.std.proofs.Common.{refl, sym, subst, inl, inr, arith}
 use Rattle.std.specs.Prelude.{All}
 use Rattle.std.proofs.lemmas.List.{length_push}
@@ -32,23 +32,29 @@ module _ {F : Type 0} (left : F → Option (List ℕ)) (weak : Weak) where
       → ∥ IsReachability image.memory weak marks ∥₁ → exit ≤ 1
       → ((exit ≡ 0) ↔ (first_fault image.memory weak marks ≡ None)) → IsChecked left weak exit
   IsChecked-loaded image marks zero loaded reachable low sound =
-      inl (refl, record {
-        bytes = loaded.bytes;
-        read = loaded.read;
-        fact = record { image = image; holds = loaded.held; marks = marks; reachable = reachable; fault = sound.0 refl };
-      })
+      inl (
+        refl,
+        record {
+          bytes = loaded.bytes;
+          read = loaded.read;
+          fact = record { image = image; holds = loaded.held; marks = marks; reachable = reachable; fault = sound.0 refl };
+        },
+      )
   IsChecked-loaded image marks (suc zero) loaded reachable low sound =
-      inr (inl (refl, record {
-        bytes = loaded.bytes;
-        read = loaded.read;
-        fact = inl (record {
-          image = image;
-          holds = loaded.held;
-          marks = marks;
-          reachable = reachable;
-          fault = λ none. let zero_is = sound.1 none in omega arith;
-        });
-      }))
+      inr (inl (
+        refl,
+        record {
+          bytes = loaded.bytes;
+          read = loaded.read;
+          fact = inl (record {
+            image = image;
+            holds = loaded.held;
+            marks = marks;
+            reachable = reachable;
+            fault = λ none. let zero_is = sound.1 none in omega arith;
+          });
+        },
+      ))
   IsChecked-loaded image marks (suc (suc exit)) loaded reachable low sound = absurd (omega arith)
 
   -- the same for its live objects, over the memory and the policy that they are known by

@@ -62,11 +62,7 @@ fn format_of(request: &Request<'_>) -> Format {
 }
 
 /// Writes the rest of an answer, if there is an answer, and then flushes. Returns how that ends.
-fn pass_on<C: Sink>(
-    answered: Result<u8, Failure>,
-    rest: &str,
-    out: &mut C,
-) -> Result<u8, Failure>
+fn pass_on<C: Sink>(answered: Result<u8, Failure>, rest: &str, out: &mut C) -> Result<u8, Failure>
     ensures outcome { (result ≡ answered) ⊎ (result ≡ Err NotPrinted) }
     ensures written { OnOk result (WritesWhole (C.state out.old) (C.state out.new) rest.now) }
 {
