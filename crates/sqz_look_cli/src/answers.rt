@@ -1,6 +1,9 @@
 //! Answers to questions.
 
 ghost use Rattle.std.specs.Prelude.{◌≤◌, IfOk};
+ghost use Rattle.sqz_look_cli.specs.Checks.{EndsChecks};
+ghost use Rattle.sqz_look_cli.specs.Endings.{IfCheck};
+ghost use Rattle.sqz_look_cli.specs.Failures.{IsAnswerExit};
 
 use crate::checks::check_all;
 use crate::comparison::compare;
@@ -17,24 +20,26 @@ use sqz_look_args::{ImageQuestion, NamedQuestion, ObjectQuestion, Question};
 use sqz_look_check::{print_info, print_info_unreadable};
 use sqz_look_top::print_top;
 use sqz_look_view::{Inspector, Out, Subject};
+use std::io::Read;
 use std::rt::Files;
 use std::thread::Threads;
 
-/// Prints the answer to a question, and returns the exit.
+/// Prints the answer to a question, and returns the exit. The caller writes what `out` still holds
+/// of it.
 pub(crate) fn answer<T: Files + Threads + Sync, C: Sink>(
     session: &Session<'_, T>,
     question: &Question<'_>,
     out: &mut Out<'_, C>,
 ) -> Result<u8, Failure>
-    ensures { IfOk result (λ exit. exit ≤ 3) }
+    ensures exits { IfOk result IsAnswerExit }
+    ensures check { IfCheck question.now (λ files.
+        EndsChecks T.File.remaining session.now.weak files result) }
 {
-    let exit = match question {
-        Question::Check { images, all } => check_all(session, images, *all, out)?,
-        Question::Diff { old, new } => compare(session, old, new, out)?,
-        Question::About { image, question } => answer_about(session, image, question, out)?,
-    };
-    out.flush()?;
-    Ok(exit)
+    match question {
+        Question::Check { images, all } => check_all(session, images, *all, out),
+        Question::Diff { old, new } => compare(session, old, new, out),
+        Question::About { image, question } => answer_about(session, image, question, out),
+    }
 }
 
 /// Prints the answer to a question about the image in a file, and returns the exit.
@@ -44,7 +49,7 @@ fn answer_about<T: Files + Threads + Sync, C: Sink>(
     question: &ImageQuestion,
     out: &mut Out<'_, C>,
 ) -> Result<u8, Failure>
-    ensures { IfOk result (λ exit. exit ≤ 3) }
+    ensures { IfOk result (λ exit. exit ≤ BAD_IMAGE) }
 {
     let alloc = session.alloc;
     match load(session.rt, alloc, path)? {

@@ -1,15 +1,17 @@
 //! Whether images are sound.
 
-ghost use Rattle.std.specs.Prelude.{◌≡◌, ◌≤◌, ◌↔◌, IfOk};
+ghost use Rattle.std.specs.Prelude.{◌≡◌, ◌≤◌, ◌↔◌, length, IfOk, IfErr};
 ghost use Rattle.sqz_trace.specs.Faults.{first_fault};
+ghost use Rattle.sqz_look_cli.specs.Checks.{EndsChecks, IsChecked, StopsChecks};
 
 use crate::failure::Failure;
-use crate::loading::{Loaded, load};
+use crate::loading::{LoadError, Loaded, load};
 use crate::session::Session;
 use sqz_cli::{BAD_IMAGE, DEVICE_FAILED, DONE};
-use sqz_image::{Fault, Sink};
+use sqz_image::Sink;
 use sqz_look_check::{print_check, print_check_missing, print_check_unreadable};
 use sqz_look_view::{Out, PrintError, Subject};
+use std::io::Read;
 use std::rt::Files;
 use std::thread::Threads;
 
@@ -21,7 +23,7 @@ pub(crate) fn check_all<T: Files + Threads + Sync, C: Sink>(
     all: bool,
     out: &mut Out<'_, C>,
 ) -> Result<u8, Failure>
-    ensures { IfOk result (λ exit. exit ≤ 3) }
+    ensures { EndsChecks T.File.remaining session.now.weak (length paths.now) result }
 {
     let mut exit = DONE;
     for path in paths {
@@ -39,7 +41,8 @@ fn check_one<T: Files + Threads + Sync, C: Sink>(
     all: bool,
     out: &mut Out<'_, C>,
 ) -> Result<u8, Failure>
-    ensures { IfOk result (λ exit. exit ≤ 3) }
+    ensures checked { IfOk result (IsChecked T.File.remaining session.now.weak) }
+    ensures stopped { IfErr result StopsChecks }
 {
     match load(session.rt, session.alloc, path) {
         Ok(Loaded::Image(image)) => {
@@ -50,11 +53,11 @@ fn check_one<T: Files + Threads + Sync, C: Sink>(
             print_check_unreadable(session.alloc, &unreadable, path, out)?;
             Ok(BAD_IMAGE)
         }
-        Err(Fault::ReadFailed) => {
+        Err(LoadError::NotRead) => {
             print_check_missing(session.alloc, path, out)?;
             Ok(DEVICE_FAILED)
         }
-        Err(fault) => Err(Failure::from(fault)),
+        Err(LoadError::OutOfMemory) => Err(Failure::OutOfMemory),
     }
 }
 

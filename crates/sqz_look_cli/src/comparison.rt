@@ -3,10 +3,10 @@
 ghost use Rattle.std.specs.Prelude.{◌≤◌, IfOk};
 
 use crate::failure::Failure;
-use crate::loading::{Loaded, load};
+use crate::loading::{LoadError, Loaded, load};
 use crate::session::Session;
 use sqz_cli::{BAD_IMAGE, DONE};
-use sqz_image::{Fault, Image, Sink};
+use sqz_image::{Image, Sink};
 use sqz_look_diff::print_diff;
 use sqz_look_view::{Inspector, Out};
 use std::alloc::Global;
@@ -40,7 +40,7 @@ fn image_at<T: Files>(rt: &T, alloc: Global, path: &str) -> Result<Image, Failur
             let message = format!(in alloc; "{path}: {message}")?;
             Err(Failure::NotThere(message))
         }
-        Err(Fault::ReadFailed) => Err(Failure::NotRead(String::from_str(alloc, path)?)),
-        Err(fault) => Err(Failure::Faulty(fault)),
+        Err(LoadError::NotRead) => Err(Failure::NotReadAt(String::from_str(alloc, path)?)),
+        Err(LoadError::OutOfMemory) => Err(Failure::OutOfMemory),
     }
 }

@@ -1,17 +1,14 @@
 //! The program.
 
-ghost use Rattle.std.specs.Prelude.{◌≡◌, ◌<◌, ◌≤◌};
+ghost use Rattle.std.specs.Prelude.{◌≡◌, ◌<◌, ◌≤◌, false};
 
-use crate::answers::answer;
-use crate::failure::Failure;
-use crate::session::Session;
+use crate::answering::answer_request;
+use crate::messages::{print_fault, print_message};
 use clap::error::ErrorKind;
 use clap::{ArgMatches, Error};
-use sqz_cli::{BAD_ARGUMENTS, BAD_IMAGE, DONE, explain, print, refuse};
+use sqz_cli::{BAD_ARGUMENTS, DONE, explain};
 use sqz_image::{Fault, Sink};
 use sqz_look_args::{BadRequest, Request, command};
-use sqz_look_view::{Format, Out};
-use sqz_trace::Weak;
 use std::alloc::Global;
 use std::rt::Files;
 use std::thread::Threads;
@@ -32,6 +29,7 @@ pub fn look<T: Files + Threads + Sync, C: Sink, E: Sink>(
     err: &mut E,
 ) -> u8
     ensures exits { result ≤ 4 }
+    ensures whole { result ≡ 0 → (C.state out.new).failed ≡ false }
     ensures silent { result ≡ 0 → err.new ≡ err.old }
 {
     match matches_of(alloc, words) {
@@ -48,14 +46,15 @@ fn matches_of<'a>(alloc: Global, words: &'a [String]) -> Result<ArgMatches<'a>, 
 /// Prints the help, or what is wrong with the words, and returns the exit.
 fn explain_words<C: Sink, E: Sink>(error: &Error, out: &mut C, err: &mut E) -> u8
     ensures exits { result ≤ 4 }
+    ensures whole { result ≡ 0 → (C.state out.new).failed ≡ false }
     ensures silent { result ≡ 0 → err.new ≡ err.old }
 {
     if error.kind() == ErrorKind::OutOfMemory {
-        return fail(&Fault::OutOfMemory, err);
+        return print_fault(None, &Fault::OutOfMemory, err);
     }
     let exit = explain(error, out, err);
     if exit == DONE && out.failed() {
-        return fail(&Fault::WriteFailed, err);
+        return print_fault(None, &Fault::WriteFailed, err);
     }
     exit
 }
@@ -69,23 +68,12 @@ fn answer_matches<T: Files + Threads + Sync, C: Sink, E: Sink>(
     err: &mut E,
 ) -> u8
     ensures exits { result ≤ 4 }
+    ensures whole { result ≡ 0 → (C.state out.new).failed ≡ false }
     ensures silent { result ≡ 0 → err.new ≡ err.old }
 {
-    let request = match Request::of(alloc, matches) {
-        Ok(request) => request,
-        Err(bad) => return explain_request(alloc, bad, err),
-    };
-    let weak = Weak::clear_if(request.clear_weak);
-    let session = Session { rt, alloc, weak };
-    let format = if request.json {
-        Format::Json
-    } else {
-        Format::Text { all: request.all }
-    };
-    let mut out = Out::new(alloc, out, format);
-    match answer(&session, &request.question, &mut out) {
-        Ok(exit) => exit,
-        Err(failure) => explain_failure(&failure, request.image(), err),
+    match Request::of(alloc, matches) {
+        Ok(request) => answer_request(rt, alloc, &request, out, err),
+        Err(bad) => explain_request(alloc, bad, err),
     }
 }
 
@@ -95,7 +83,7 @@ fn explain_request<E: Sink>(alloc: Global, bad: BadRequest<'_>, err: &mut E) -> 
     ensures failed { 0 < result }
 {
     let message = match bad {
-        BadRequest::OutOfMemory => return fail(&Fault::OutOfMemory, err),
+        BadRequest::OutOfMemory => return print_fault(None, &Fault::OutOfMemory, err),
         _ => bad.to_string(alloc),
     };
     match message {
@@ -103,54 +91,6 @@ fn explain_request<E: Sink>(alloc: Global, bad: BadRequest<'_>, err: &mut E) -> 
             print_message(None, message.as_str(), err);
             BAD_ARGUMENTS
         }
-        Err(_) => fail(&Fault::OutOfMemory, err),
-    }
-}
-
-/// Prints why there is no answer, with the path of the file that it is about if it is about one,
-/// and returns the exit.
-fn explain_failure<E: Sink>(failure: &Failure, path: Option<&str>, err: &mut E) -> u8
-    ensures exits { result ≤ 4 }
-    ensures failed { 0 < result }
-{
-    match failure {
-        Failure::Faulty(Fault::WriteFailed) => fail(&Fault::WriteFailed, err),
-        Failure::Faulty(fault) => {
-            print_names(path, err);
-            refuse(fault, err)
-        }
-        Failure::NotRead(path) => {
-            print_names(Some(path.as_str()), err);
-            refuse(&Fault::ReadFailed, err)
-        }
-        Failure::NotThere(message) => {
-            print_message(path, message.as_str(), err);
-            BAD_IMAGE
-        }
-    }
-}
-
-/// Prints the line of a fault that is not one of a file, and returns the exit.
-fn fail<E: Sink>(fault: &Fault, err: &mut E) -> u8
-    ensures exits { result ≤ 4 }
-    ensures failed { 0 < result }
-{
-    print_names(None, err);
-    refuse(fault, err)
-}
-
-/// Prints the line of a message.
-fn print_message<E: Sink>(path: Option<&str>, message: &str, err: &mut E) {
-    print_names(path, err);
-    print(err, message.as_bytes());
-    print(err, b"\n");
-}
-
-/// Prints the name of the program, and that of the file if there is one, with which a line begins.
-fn print_names<E: Sink>(path: Option<&str>, err: &mut E) {
-    print(err, b"sqzlook: ");
-    if let Some(path) = path {
-        print(err, path.as_bytes());
-        print(err, b": ");
+        Err(_) => print_fault(None, &Fault::OutOfMemory, err),
     }
 }

@@ -1,37 +1,52 @@
-//! Why there is no answer.
+//! Why a question has no answer.
 
-use sqz_image::Fault;
+ghost use Rattle.std.specs.Prelude.{◌≡◌};
+ghost use Rattle.sqz_look_cli.specs.Failures.{failure_of_printing};
+ghost use Rattle.sqz_look_cli.specs.declared.failure.Failure.TheVariants.{OutOfMemory};
+
+use crate::loading::LoadError;
 use sqz_look_view::PrintError;
 use std::alloc::AllocError;
 
 /// Why a question has no answer.
 #[derive(Debug, Drop)]
 pub(crate) enum Failure {
-    /// A device failed, or memory ran out.
-    Faulty(Fault),
+    /// Memory ran out.
+    OutOfMemory,
+    /// The answer could not be printed.
+    NotPrinted,
+    /// The file of the image that the question is about cannot be read.
+    NotRead,
     /// The file with this path cannot be read.
-    NotRead(String),
+    NotReadAt(String),
     /// What is asked about is not there, or no image could be read.
     NotThere(String),
 }
 
-impl From<Fault> for Failure {
-    fn from(fault: Fault) -> Failure {
-        Failure::Faulty(fault)
+impl From<AllocError> for Failure {
+    ghost from_gives = { λ _ failure. failure ≡ OutOfMemory };
+
+    fn from(_error: AllocError) -> Failure {
+        Failure::OutOfMemory
     }
 }
 
-impl From<AllocError> for Failure {
-    fn from(error: AllocError) -> Failure {
-        Failure::Faulty(Fault::from(error))
+impl From<LoadError> for Failure {
+    fn from(error: LoadError) -> Failure {
+        match error {
+            LoadError::OutOfMemory => Failure::OutOfMemory,
+            LoadError::NotRead => Failure::NotRead,
+        }
     }
 }
 
 impl From<PrintError> for Failure {
+    ghost from_gives = { λ error failure. failure ≡ failure_of_printing error };
+
     fn from(error: PrintError) -> Failure {
-        Failure::Faulty(match error {
-            PrintError::OutOfMemory => Fault::OutOfMemory,
-            PrintError::WriteFailed => Fault::WriteFailed,
-        })
+        match error {
+            PrintError::OutOfMemory => Failure::OutOfMemory,
+            PrintError::WriteFailed => Failure::NotPrinted,
+        }
     }
 }

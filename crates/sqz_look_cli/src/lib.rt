@@ -1,14 +1,17 @@
 //! Questions about images, as a command line asks them, and their answers.
 #![tactic(auto)]
 
+mod answering;
 mod answers;
 mod checks;
 mod comparison;
 mod entry_point;
 mod failure;
 mod loading;
+mod messages;
 mod quiet_pipe;
 mod session;
 
+pub use answering::answer_request;
 pub use entry_point::look;
 pub use quiet_pipe::QuietPipe;

@@ -1,9 +1,13 @@
 //! Reading images from files.
 
+ghost use Rattle.std.specs.Prelude.{IfOk};
+ghost use Rattle.sqz_look_cli.specs.Checks.{IsHeldBy, IsLoaded, ReadsFile};
+
 use sqz_image::{Fault, Image, ReadSource, image_or_file, read_all};
 use sqz_look_check::Unreadable;
-use std::alloc::Global;
+use std::alloc::{AllocError, Global};
 use std::fs::File;
+use std::io::Read;
 use std::rt::Files;
 
 /// What a file holds.
@@ -13,17 +17,52 @@ pub(crate) enum Loaded {
     Unreadable(Unreadable),
 }
 
-/// Returns what the file with this path holds. The file is read once. Fails with `ReadFailed` if
-/// the file cannot be read, and with `OutOfMemory`.
-pub(crate) fn load<T: Files>(rt: &T, alloc: Global, path: &str) -> Result<Loaded, Fault> {
+/// Why it is not known what a file holds.
+#[derive(Clone, Copy, Debug, PartialEq, Eq)]
+pub(crate) enum LoadError {
+    /// Memory ran out.
+    OutOfMemory,
+    /// The file cannot be read.
+    NotRead,
+}
+
+impl From<AllocError> for LoadError {
+    fn from(_error: AllocError) -> LoadError {
+        LoadError::OutOfMemory
+    }
+}
+
+/// Returns what the file with this path holds. The file is read once.
+pub(crate) fn load<T: Files>(rt: &T, alloc: Global, path: &str) -> Result<Loaded, LoadError>
+    ensures { IfOk result (IsLoaded T.File.remaining) }
+{
+    let bytes = bytes_of(rt, alloc, path)?;
+    Ok(loaded_of(alloc, bytes)?)
+}
+
+/// Returns the bytes of the file with this path.
+fn bytes_of<T: Files>(rt: &T, alloc: Global, path: &str) -> Result<Vec<u8>, LoadError>
+    ensures { IfOk result (λ bytes. ReadsFile T.File.remaining bytes.items) }
+{
     let Ok(file) = File::open(rt, path) else {
-        return Err(Fault::ReadFailed);
+        return Err(LoadError::NotRead);
     };
-    let bytes = read_all(alloc, &mut ReadSource::new(file))?;
+    let mut source = ReadSource::new(file);
+    match read_all(alloc, &mut source) {
+        Ok(bytes) => Ok(bytes),
+        Err(Fault::OutOfMemory) => Err(LoadError::OutOfMemory),
+        Err(_) => Err(LoadError::NotRead),
+    }
+}
+
+/// Returns what the file with these bytes holds.
+fn loaded_of(alloc: Global, bytes: Vec<u8>) -> Result<Loaded, AllocError>
+    ensures { IfOk result (IsHeldBy bytes.items) }
+{
     match image_or_file(alloc, bytes) {
         Ok(image) => Ok(Loaded::Image(image)),
         Err(unread) => match unread.fault {
-            Fault::OutOfMemory => Err(Fault::OutOfMemory),
+            Fault::OutOfMemory => Err(AllocError),
             _ => Ok(Loaded::Unreadable(Unreadable::of(alloc, &unread)?)),
         },
     }

@@ -1,5 +1,7 @@
 //! What questions are answered with.
 
+ghost use Rattle.std.specs.Prelude.{◌≡◌, IfOk};
+
 use sqz_image::Image;
 use sqz_look_view::Subject;
 use sqz_trace::Weak;
@@ -15,7 +17,10 @@ pub(crate) struct Session<'a, T> {
 
 impl<T> Session<'_, T> {
     /// Returns an image with its live objects.
-    pub(crate) fn subject<'b>(&self, image: &'b Image) -> Result<Subject<'b>, AllocError> {
+    pub(crate) fn subject<'b>(&self, image: &'b Image) -> Result<Subject<'b>, AllocError>
+        ensures image { IfOk result (λ subject. subject.image.now ≡ image.now) }
+        ensures weak { IfOk result (λ subject. subject.live.graph.weak ≡ self.now.weak) }
+    {
         Subject::of(self.alloc, image, self.weak)
     }
 }

@@ -1,6 +1,9 @@
 //! Where answers are printed.
 
-ghost use Rattle.std.specs.Prelude.{◌≤◌};
+ghost use Rattle.std.specs.Prelude.{◌≡◌, ◌≤◌, [], string_bytes, OnOk, OnErr};
+ghost use Rattle.sqz_image.specs.declared.fault.Fault.TheVariants as faults;
+ghost use Rattle.sqz_image.specs.Devices.{WritesWhole, WriteStops};
+ghost use Rattle.sqz_look_view.specs.Out.{format_of, is_cut, shown_rows, sink_of, unwritten};
 
 use crate::more::More;
 use crate::print_error::PrintError;
@@ -36,7 +39,10 @@ pub struct Out<'a, C> {
 
 impl<'a, C: Sink> Out<'a, C> {
     /// Returns an output to which nothing was printed.
-    pub fn new(alloc: Global, sink: &'a mut C, format: Format) -> Self {
+    pub fn new(alloc: Global, sink: &'a mut C, format: Format) -> Self
+        ensures form { format_of result ≡ format }
+        ensures empty { unwritten result ≡ [] }
+    {
         let text = String::new(alloc);
         Out {
             alloc,
@@ -48,7 +54,8 @@ impl<'a, C: Sink> Out<'a, C> {
 
     /// Returns how many of `count` rows are printed.
     pub fn shown(&self, count: usize) -> usize
-        ensures { result ≤ count }
+        ensures rows { result ≡ shown_rows (format_of self.now) count }
+        ensures bounded { result ≤ count }
     {
         match self.format {
             Format::Text { all: false } => count.min(MOST_ROWS as usize),
@@ -58,7 +65,8 @@ impl<'a, C: Sink> Out<'a, C> {
 
     /// Returns how many of `count` rows are printed.
     pub fn shown_of(&self, count: u32) -> u32
-        ensures { result ≤ count }
+        ensures rows { result ≡ shown_rows (format_of self.now) count }
+        ensures bounded { result ≤ count }
     {
         match self.format {
             Format::Text { all: false } => count.min(MOST_ROWS),
@@ -67,7 +75,9 @@ impl<'a, C: Sink> Out<'a, C> {
     }
 
     /// Returns whether long lists are cut.
-    pub fn is_cut(&self) -> bool {
+    pub fn is_cut(&self) -> bool
+        ensures { result ≡ is_cut (format_of self.now) }
+    {
         self.format == Format::Text { all: false }
     }
 
@@ -96,13 +106,29 @@ impl<'a, C: Sink> Out<'a, C> {
         }
     }
 
-    /// Writes the buffered text to the sink. Fails with `WriteFailed` if the sink does.
-    pub fn flush(&mut self) -> Result<(), PrintError> {
-        if write_all(self.sink, self.text.as_bytes()).is_err() {
-            return Err(PrintError::WriteFailed);
+    /// Writes the buffered text to the sink, and then flushes the sink. Fails with `WriteFailed` if
+    /// the sink does; it has then taken some of the text, from the front on, perhaps all.
+    pub fn flush(&mut self) -> Result<(), PrintError>
+        ensures written { OnOk result (WritesWhole
+            (C.state (sink_of self.old)) (C.state (sink_of self.new)) (unwritten self.old)) }
+        ensures empty { OnOk result (unwritten self.new ≡ []) }
+        ensures stopped { OnErr result (WriteStops (C.state (sink_of self.old))
+            (C.state (sink_of self.new)) (unwritten self.old) faults.WriteFailed) }
+    {
+        match write_all(self.sink, self.text.as_bytes()) {
+            Ok(()) => {
+                self.text.clear();
+                Ok(())
+            }
+            Err(_) => Err(PrintError::WriteFailed),
         }
-        self.text.clear();
-        Ok(())
+    }
+
+    /// Returns the text that was printed and is not yet written to the sink.
+    pub fn into_unwritten(self) -> String
+        ensures { string_bytes result ≡ unwritten self.entry }
+    {
+        self.text
     }
 
     /// Prints a row as text.

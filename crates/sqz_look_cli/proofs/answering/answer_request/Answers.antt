@@ -1,0 +1,35 @@
+use Rattle.std.proofs.Common.{sym, ◌∙◌}
+use Rattle.sqz_look_cli.proofs.EndingLemmas.{exits_passed, checks_passed, checked_at_one, whole_at_zero, HasPassedOn-written}
+use Rattle.sqz_look_cli.proofs.answering.answer_request.Goals as goal
+
+pub returns-clause-exits : goal.returns-clause-exits
+returns-clause-exits g c =
+    let passed = c.pass_on-outcome.ensures.outcome in
+    rw c.finish.ensures.exit (exits_passed _ _ passed c.answer-answered.ensures.exits).0
+
+pub returns-clause-accepted : goal.returns-clause-accepted
+returns-clause-accepted g c =
+    let passed = c.pass_on-outcome.ensures.outcome in
+    rw c.finish.ensures.exit (exits_passed _ _ passed c.answer-answered.ensures.exits).1
+
+pub returns-clause-ends : goal.returns-clause-ends
+returns-clause-ends g c =
+    let checked = rw c.clear_if-weak.ensures at c.answer-answered.ensures.check in
+    record {
+      outcome = c.pass_on-outcome.result;
+      exit_is = c.finish.ensures.exit;
+      whole = HasPassedOn-written _ _ _ _ c.pass_on-outcome.ensures.written;
+      checked = checks_passed _ _ c.pass_on-outcome.ensures.outcome _ _ c.args.request.now.question checked;
+    }
+
+pub returns-clause-check : goal.returns-clause-check
+returns-clause-check g c =
+    let checked = rw c.clear_if-weak.ensures at c.answer-answered.ensures.check in
+    let question = c.args.request.now.question in
+    checked_at_one _ _ question c.pass_on-outcome.result _ c.finish.ensures.exit
+    (checks_passed _ _ c.pass_on-outcome.ensures.outcome _ _ question checked)
+
+pub returns-clause-whole : goal.returns-clause-whole
+returns-clause-whole g c =
+    λ zero. whole_at_zero _ c.pass_on-outcome.result (HasPassedOn-written _ _ _ _ c.pass_on-outcome.ensures.written)
+    (sym c.finish.ensures.exit ∙ zero)

@@ -1,0 +1,86 @@
+-- Whether files hold sound images, and the exits that say so.
+use Rattle.std.specs.Prelude.{◌≡◌, ◌≢◌, ◌⊎◌, ℕ, max, Bool, true, List, [], ◌∷◌, length, All, Option, None, Result, Ok, Err}
+use Rattle.sqz_image.specs.declared.fault.Fault.{Fault}
+use Rattle.sqz_image.specs.Devices.{SourceState, ReadsWhole, new_source}
+use Rattle.sqz_image.specs.Objects.{SavedImage}
+use Rattle.sqz_image.specs.Refusals.{Holds, IsUnreadable}
+use Rattle.sqz_trace.specs.declared.weak.Weak.{Weak}
+use Rattle.sqz_trace.specs.Faults.{first_fault}
+use Rattle.sqz_trace.specs.Reachability.{IsReachability}
+use Rattle.sqz_look_cli.specs.declared.failure.Failure.{Failure}
+use Rattle.sqz_look_cli.specs.declared.failure.Failure.TheVariants.{OutOfMemory, NotPrinted}
+use Rattle.sqz_look_cli.specs.declared.loading.Loaded.{Loaded}
+use Rattle.sqz_look_cli.specs.declared.loading.Loaded.TheVariants.{Image, Unreadable}
+
+-- some file, of type F, was read to its end and gave these bytes; `left` is the bytes that an open
+-- file has left, if contracts see them
+pub record ReadsFile {F : Type 0} (left : F → Option (List ℕ)) (bytes : List ℕ) : Type 0 where
+  pub file : F
+  pub to : SourceState
+  pub read : ReadsWhole true (new_source (left file)) to bytes
+
+-- the file holds no image, for some fault
+abbrev pub HoldsNone : List ℕ → Type 0
+HoldsNone bytes = (fault : Fault) × IsUnreadable bytes fault
+
+-- what a file with these bytes holds: this image, or none
+abbrev pub IsHeldBy : List ℕ → Loaded → Type 0
+IsHeldBy bytes (Image image) = Holds bytes image
+IsHeldBy bytes (Unreadable unreadable) = HoldsNone bytes
+
+-- some file was read to its end, and holds this
+pub record IsLoaded {F : Type 0} (left : F → Option (List ℕ)) (loaded : Loaded) : Type 0 where
+  pub bytes : List ℕ
+  pub read : ReadsFile left bytes
+  pub held : IsHeldBy bytes loaded
+
+-- the file holds an image, and a fact of its first fault is true; the marks are those of its
+-- reachable objects
+pub record HasFirstFault (weak : Weak) (P : Option Fault → Type 0) (bytes : List ℕ) : Type 0 where
+  pub image : SavedImage
+  pub holds : Holds bytes image
+  pub marks : List Bool
+  pub reachable : ∥ IsReachability image.memory weak marks ∥₁
+  pub fault : P (first_fault image.memory weak marks)
+
+-- the file holds an image without a fault for which a compaction rejects it
+abbrev pub IsSound : Weak → List ℕ → Type 0
+IsSound weak bytes = HasFirstFault weak (λ fault. fault ≡ None) bytes
+
+-- the file holds an image with such a fault, or no image
+abbrev pub IsUnsound : Weak → List ℕ → Type 0
+IsUnsound weak bytes = HasFirstFault weak (λ fault. fault ≢ None) bytes ⊎ HoldsNone bytes
+
+-- some file was read to its end, and a fact of its bytes is true
+pub record ReadsSome {F : Type 0} (left : F → Option (List ℕ)) (P : List ℕ → Type 0) : Type 0 where
+  pub bytes : List ℕ
+  pub read : ReadsFile left bytes
+  pub fact : P bytes
+
+-- the exit for one file: 0 if it was read and is sound, 1 if it was read and is not, and 3 if it
+-- could not be read
+abbrev pub IsChecked : {F : Type 0} → (F → Option (List ℕ)) → Weak → ℕ → Type 0
+IsChecked left weak exit =
+    ((exit ≡ 0) × ReadsSome left (IsSound weak)) ⊎ ((exit ≡ 1) × ReadsSome left (IsUnsound weak)) ⊎ (exit ≡ 3)
+
+-- the greatest of some exits, and 0 of none
+abbrev pub worst_of : List ℕ → ℕ
+worst_of [] = 0
+worst_of (exit ∷ exits) = max exit (worst_of exits)
+
+-- each file has an exit, in order, and this is the worst of them: 0 exactly if each file was read
+-- and is sound
+pub record AreChecked {F : Type 0} (left : F → Option (List ℕ)) (weak : Weak) (files exit : ℕ) : Type 0 where
+  pub exits : List ℕ
+  pub one_each : length exits ≡ files
+  pub checked : All (IsChecked left weak) exits
+  pub worst : exit ≡ worst_of exits
+
+-- the failures for which files are not checked: of memory, and of the output
+abbrev pub StopsChecks : Failure → Type 0
+StopsChecks failure = (failure ≡ OutOfMemory) ⊎ (failure ≡ NotPrinted)
+
+-- how a check of so many files ends: with the exit of all of them, or with such a failure
+abbrev pub EndsChecks : {F : Type 0} → (F → Option (List ℕ)) → Weak → ℕ → Result ℕ Failure → Type 0
+EndsChecks left weak files (Ok exit) = AreChecked left weak files exit
+EndsChecks left weak files (Err failure) = StopsChecks failure
