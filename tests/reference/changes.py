@@ -111,6 +111,29 @@ class Side:
         return dict(found)
 
     @functools.cached_property
+    def values(self):
+        """The values of the live variables with each name, as text."""
+        found = collections.defaultdict(list)
+        for number in self.tree.variables:
+            if self.answers.is_live(number):
+                found[self.names.label(number)].append(self.value(number))
+        return {name: ", ".join(texts) for name, texts in found.items()}
+
+    def value(self, association):
+        """The value of a variable as text: a label, or the class and size of an object that has none."""
+        number = self.names.target(association, AssociationField.VALUE)
+        if number is not None:
+            label, size = self.names.label(number), self.answers.reach.sizes[number]
+            unnamed = f"{self.names.class_name(number)} {self.names.address(number)}"
+            return f"{self.names.class_name(number)}, {size} bytes" if label == unnamed else label
+        it = self.image.objects[association]
+        place = it.base + 1 + AssociationField.VALUE
+        if place >= it.end:
+            return "no value"
+        word = self.image.words[place]
+        return str(signed(word)) if word & 1 else f"word {word:08x}"
+
+    @functools.cached_property
     def methods(self):
         """The live methods of live classes, by name and by their number among those of the name.
 
@@ -197,6 +220,11 @@ class Changes:
         self.variables = largest_first(
             it for it in variables if bytes_in(it.old) != bytes_in(it.new)
         )
+        self.values = [
+            it
+            for it in changes_of(old.values, new.values)
+            if None not in (it.old, it.new) and it.old != it.new
+        ]
         self.method_count = len(methods)
         self.methods = [
             it._replace(name=cut("".join(it.name[0])))
@@ -216,7 +244,8 @@ class Changes:
     @property
     def is_nameless(self):
         """Whether the images differ, but nothing by name does."""
-        by_name = self.classes or self.variables or self.methods or self.old != self.new
+        named = self.classes, self.variables, self.values, self.methods
+        by_name = any(named) or self.old != self.new
         return self.difference is not None and not by_name
 
     def rows(self):
@@ -224,6 +253,7 @@ class Changes:
         rows = [self.row("total", Change(None, self.old, self.new), Size._asdict)]
         rows += [self.row("class", change, Size._asdict) for change in self.classes]
         rows += [self.row("retained", change, bytes_in) for change in self.variables]
+        rows += [self.row("value", change, str) for change in self.values]
         rows += [self.row("method", change, bytes_in) for change in self.methods]
         if self.is_nameless:
             objects = [side.answers.object_row(it) for side, it in self.differing()]
@@ -245,6 +275,7 @@ class Changes:
         parts = (
             (f"classes   {len(self.classes)} changed", map(self.class_line, self.classes)),
             (f"retained  {len(self.variables)} changed", map(self.variable_line, self.variables)),
+            (f"values    {len(self.values)} changed", map(self.value_line, self.values)),
             (f"methods   {numbers} of {self.method_count}", self.method_lines()),
         )
         yield (
@@ -272,6 +303,9 @@ class Changes:
 
     def variable_line(self, change):
         return f"{change.grown:+11} bytes  {change.name}{note(change.old, change.new)}"
+
+    def value_line(self, change):
+        return f"  {change.name}: {change.old} -> {change.new}"
 
     def verbs(self):
         """What happened to each method that differs."""

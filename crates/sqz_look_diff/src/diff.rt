@@ -8,8 +8,9 @@ ghost use Rattle.sqz_alike.specs.Seen.{seen};
 use crate::differences::Differences;
 use crate::first_difference::{DifferenceView, ObjectView};
 use crate::methods::MethodChanges;
+use crate::values::ValueChange;
 use crate::variables::VariableChanges;
-use crate::views::{ClassView, MethodView, TotalView, VariableView};
+use crate::views::{ClassView, MethodView, TotalView, ValueView, VariableView};
 use sqz_alike::{Alikeness, compare};
 use sqz_answers::{Change, Size};
 use sqz_image::Sink;
@@ -19,7 +20,8 @@ use std::thread::Threads;
 
 /// Prints what changed from the old image to the new one: the number of live objects and their
 /// bytes, the classes whose instances differ in number or size, the variables that retain more or
-/// less, and the methods that came, went or changed; if none did, the first objects that differ.
+/// less or have other values, and the methods that came, went or changed; if none did, the first
+/// objects that differ.
 /// Returns whether the images are alike.
 pub fn print_diff<C: Sink>(
     rt: &(impl Threads + Sync),
@@ -36,6 +38,7 @@ pub fn print_diff<C: Sink>(
     out.emit(&TotalView::of(alloc, differences.old, differences.new)?)?;
     print_classes(alloc, &differences.classes, out)?;
     print_variables(alloc, &differences.variables, out)?;
+    print_values(alloc, &differences.variables.values, out)?;
     print_methods(alloc, &differences.methods, out)?;
     print_alikeness(old, new, alikeness, differences.is_empty(), out)?;
     Ok(alikeness == Alikeness::Alike)
@@ -90,6 +93,20 @@ fn print_variables<C: Sink>(
     out.text(&format!(in alloc; "retained  {count} changed")?)?;
     for change in &changes[..out.shown(count)] {
         out.emit(&VariableView::of(alloc, variables, change)?)?;
+    }
+    out.rest(count, "row")
+}
+
+/// Prints the variables that have other values.
+fn print_values<C: Sink>(
+    alloc: Global,
+    changes: &[ValueChange],
+    out: &mut Out<'_, C>,
+) -> Result<(), PrintError> {
+    let count = changes.len();
+    out.text(&format!(in alloc; "values    {count} changed")?)?;
+    for change in &changes[..out.shown(count)] {
+        out.emit(&ValueView::of(change))?;
     }
     out.rest(count, "row")
 }

@@ -42,6 +42,7 @@ impl Differences {
         self.old == self.new
             && self.classes.is_empty()
             && self.variables.changes.is_empty()
+            && self.variables.values.is_empty()
             && self.methods.changes.is_empty()
     }
 }

@@ -12,6 +12,7 @@ mod literals;
 mod method_names;
 mod methods;
 mod numbers;
+mod values;
 mod variables;
 mod views;
 

@@ -3,6 +3,7 @@
 ghost use Rattle.std.specs.Prelude.{◌<◌, IfSome};
 ghost use Rattle.sqz_image.specs.Objects.{object_count};
 
+use crate::values::{ValueChange, Values, value_text};
 use sqz_answers::{Change, changes_of, sort_by_difference};
 use sqz_dominators::dominators_of;
 use sqz_look_view::Inspector;
@@ -18,13 +19,17 @@ struct Holdings {
     bytes: BTreeMap<String, u64>,
     /// The names whose values are not all nil.
     set: BTreeSet<String>,
+    /// The values.
+    values: Values,
 }
 
-/// The variables that came, went, or retain more or less.
+/// The variables that came, went, retain more or less, or have another value.
 #[derive(Drop)]
 pub(crate) struct VariableChanges {
-    /// Those that changed most first.
+    /// Those that came, went, or retain more or less; those that changed most first.
     pub(crate) changes: Vec<Change<u64>>,
+    /// Those that have another value, by name.
+    pub(crate) values: Vec<ValueChange>,
     /// The names whose values are not nil in the old image, and in the new one.
     old_set: BTreeSet<String>,
     new_set: BTreeSet<String>,
@@ -42,7 +47,7 @@ impl VariableChanges {
     }
 }
 
-/// Returns the variables that came, went, or retain more or less, those that changed most first.
+/// Returns the variables that came, went, retain more or less, or have another value.
 pub(crate) fn variable_changes(
     old: &Inspector<'_>,
     new: &Inspector<'_>,
@@ -51,8 +56,10 @@ pub(crate) fn variable_changes(
     let (old, new) = (held_in(old)?, held_in(new)?);
     let mut changes = changes_of(alloc, &old.bytes, &new.bytes)?;
     sort_by_difference(&mut changes)?;
+    let values = old.values.changes(alloc, &new.values)?;
     Ok(VariableChanges {
         changes,
+        values,
         old_set: old.set,
         new_set: new.set,
     })
@@ -65,6 +72,7 @@ fn held_in(inspector: &Inspector<'_>) -> Result<Holdings, AllocError> {
     let mut held = Holdings {
         bytes: BTreeMap::new(inspector.alloc),
         set: BTreeSet::new(inspector.alloc),
+        values: Values::new(inspector.alloc),
     };
     let mut last = None;
     for name in inspector.names.variables() {
@@ -78,6 +86,8 @@ fn held_in(inspector: &Inspector<'_>) -> Result<Holdings, AllocError> {
             if !is_nil(inspector, variable.value)? {
                 held.set.insert(label.clone()?)?;
             }
+            let value = value_text(inspector, association, variable.value)?;
+            held.values.add(label.clone()?, value)?;
             let bytes = held.bytes.entry(label)?.or_insert(0);
             *bytes = bytes.saturating_add(dominators.retained(association).bytes);
         }

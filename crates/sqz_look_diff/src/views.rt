@@ -1,6 +1,7 @@
 //! The rows that say what differs.
 
 use crate::methods::MethodChange;
+use crate::values::ValueChange;
 use crate::variables::VariableChanges;
 use serde::Serialize;
 use sqz_answers::{Change, Size, bytes_or_none, size_or_nothing};
@@ -132,6 +133,34 @@ impl fmt::Display for VariableView<'_> {
     fn fmt<W: fmt::Write>(&self, f: &mut fmt::Formatter<W>) -> fmt::Result {
         let (bytes, name, note) = (self.bytes.as_str(), self.name, self.note);
         write!(f, "{bytes:>11} bytes  {name}{note}")
+    }
+}
+
+/// A variable that has another value.
+#[derive(Drop, Serialize)]
+pub(crate) struct ValueView<'a> {
+    kind: &'static str,
+    name: &'a str,
+    old: &'a str,
+    new: &'a str,
+}
+
+impl<'a> ValueView<'a> {
+    /// Returns the row of a variable.
+    pub(crate) fn of(change: &'a ValueChange) -> Self {
+        ValueView {
+            kind: "value",
+            name: change.name.as_str(),
+            old: change.old.as_str(),
+            new: change.new.as_str(),
+        }
+    }
+}
+
+impl fmt::Display for ValueView<'_> {
+    fn fmt<W: fmt::Write>(&self, f: &mut fmt::Formatter<W>) -> fmt::Result {
+        let (name, old, new) = (self.name, self.old, self.new);
+        write!(f, "  {name}: {old} -> {new}")
     }
 }
 
