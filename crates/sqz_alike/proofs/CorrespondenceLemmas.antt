@@ -24,6 +24,7 @@ use Rattle.sqz_trace.proofs.TargetLemmas.{named_among-more}
 use Rattle.sqz_alike.specs.declared.matching.Pair.{Pair}
 use Rattle.sqz_alike.specs.Alike.{SlotsMatch, ObjectsMatch, IsOneToOne, HasOld, HasNew, IsCorrespondence}
 use Rattle.sqz_alike.specs.Seen.{Seen, seen_target, live_or_nil}
+use Rattle.sqz_alike.proofs.MatchingLemmas.{pair_of}
 use Rattle.sqz_alike.specs.Matching.{IsMatching, partner_in}
 use Rattle.sqz_alike.specs.Walk.{AreLive, AreMatched}
 
@@ -98,9 +99,6 @@ module _ (word other : Option ℕ) (pairs : List Pair) where
   leads_new (Some a) (Some b) next e m = (record { old = a; new = b }, m, same_Some _ _ e)
   leads_new None (Some b) next e m = absurd m
   leads_new one None next e m = absurd cc
-
-abbrev pair_of : ℕ → ℕ → Pair
-pair_of old new = record { old = old; new = new }
 
 same_pair : (one other : Pair) → one.old ≡ other.old → one.new ≡ other.new → one ≡ other
 same_pair one other e f = ap (λ (old : ℕ). pair_of old one.new) e ∙ ap (pair_of other.old) f

@@ -1,5 +1,5 @@
 -- One more pair.
--- Serves `matching::Matching::new` and `::join`.
+-- Serves `matching::Matching::new` and `::join`, `WalkLemmas` and `CorrespondenceLemmas`.
 use Rattle.std.proofs.Common.{◌≡◌, ◌≢◌, ℕ, zero, suc, ◌+◌, ◌<◌, Bool, true, false, List, [], ◌∷◌, ◌++◌, length, set, replicate}
 use Rattle.std.proofs.Common.{Option, Some, None, refl, sym, ap, subst, ◌∙◌, arith, inl, inr}
 use Rattle.std.specs.Prelude.{Contains}
@@ -50,7 +50,7 @@ Contains-one : {X : Type 0} (x y : X) → Contains (x ∷ []) y → y ≡ x
 Contains-one x y (zero, lt, e) = sym e
 Contains-one x y (suc k, lt, e) = absurd (omega arith)
 
-abbrev pair_of : ℕ → ℕ → Pair
+abbrev pub pair_of : ℕ → ℕ → Pair
 pair_of old new = record { old = old; new = new }
 
 module _ (pairs : List Pair) (new_of old_of : List (Option ℕ)) (matching : IsMatching pairs new_of old_of) (old new : ℕ)

@@ -21,6 +21,7 @@ use Rattle.sqz_alike.specs.Seen.{Seen, seen, seen_target}
 use Rattle.sqz_alike.specs.Matching.{IsMatching, Joins}
 use Rattle.sqz_alike.specs.Walk.{IsLive, IsWalk, IsWalked, AreAmong, FieldsMatch, Finds}
 use Rattle.sqz_alike.specs.Walk.{AreFieldsWalked}
+use Rattle.sqz_alike.proofs.MatchingLemmas.{pair_of}
 use Rattle.sqz_alike.proofs.SeenLemmas.{is_marked-inside, special_is_live}
 use Rattle.sqz_alike.proofs.StepLemmas.{SlotsMatch-more, SlotsMatch-none, AreAmong-step, IsStep-then}
 
@@ -122,9 +123,6 @@ AreFieldsWalked-more old new pair start index before after so_far walk finds is 
     }
 
 -- ---- the walk
-
-abbrev pub pair_of : ℕ → ℕ → Pair
-pair_of old new = record { old = old; new = new }
 
 -- the special objects arrays are a pair of each correspondence
 roots_in : (old new : Seen) (a b : ℕ) → find old.memory old.memory.special ≡ Some a → find new.memory new.memory.special ≡ Some b

@@ -95,7 +95,7 @@ pub record AreAlike (old new : Seen) : Type 0 where
   pub pairs : List Pair
   pub correspond : IsCorrespondence old new pairs
 
--- the objects that differ are objects of the images, of which they have so many
+-- the objects that differ are objects of images with these numbers of objects
 abbrev pub IsInside : ℕ → ℕ → Alikeness → Type 0
 IsInside old new Alike = Unit {0}
 IsInside old new (Differ pair) = (pair.old < old) × (pair.new < new)

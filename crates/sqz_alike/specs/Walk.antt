@@ -26,7 +26,7 @@ AreLive old new pairs = (pair : Pair) → Contains pairs pair → IsLive old new
 abbrev pub IsRefuted : Seen → Seen → List Pair → Type 0
 IsRefuted old new pairs = (all : List Pair) → IsCorrespondence old new all → AreAmong pairs all → ⊥
 
--- a step from some pairs to more: each correspondence that has the former has the latter
+-- a step from pairs to more pairs: each correspondence with the former has the latter
 pub record IsStep (old new : Seen) (before after : List Pair) : Type 0 where
   pub added : List Pair
   pub more : after ≡ before ++ added

@@ -16,18 +16,18 @@ use std::alloc::{AllocError, Global};
 pub enum Alikeness {
     /// The live objects correspond one to one.
     Alike,
-    /// They do not: these objects, which must correspond, differ.
+    /// They do not. These objects differ, though they would have to correspond.
     Differ(Pair),
 }
 
-/// Returns whether the live objects of two images correspond one to one: the special objects array
-/// to that of the other image, and the object that a slot points to to the one that the same slot
-/// of the corresponding object points to. Corresponding objects have the same kind of header,
-/// format, compact class index, hash and size; the same SmallIntegers; and the same untraced words,
-/// which are compared as bytes in byte objects and methods. Slots that point to dead objects count as
-/// nil. The addresses, the byte orders and dead objects do not matter.
+/// Returns whether the live objects of two images correspond one to one. The special objects arrays
+/// correspond; if two objects do, the targets of their slots do. Corresponding objects have the same
+/// kind of header, format, compact class index, hash and size, the same SmallIntegers, and the same
+/// untraced words; those of byte objects and methods are compared as bytes. A slot that points to a
+/// dead object counts as nil. Addresses, byte orders and dead objects do not matter.
 ///
-/// Both images are walked at once, breadth first, in time and memory linear in the live objects.
+/// Walks both images at once, breadth first, in time and memory linear in their objects. Fails only
+/// if out of memory.
 pub fn compare(alloc: Global, old: &Live<'_>, new: &Live<'_>) -> Result<Alikeness, AllocError>
     ensures alike { IfOk result (λ found.
         (found ≡ Alike) ↔ ∥ AreAlike (seen old.now) (seen new.now) ∥₁) }

@@ -25,7 +25,7 @@ pub(crate) struct Matching {
 }
 
 impl Matching {
-    /// Returns no pairs of images with so many objects.
+    /// Returns an empty matching for images with these numbers of objects.
     pub(crate) fn new(alloc: Global, old: u32, new: u32) -> Result<Self, AllocError>
         ensures none { IfOk result (λ matching. matching.pairs.items ≡ []) }
         ensures matching { IfOk result (λ matching. IsMatching matching.pairs.items
@@ -43,7 +43,7 @@ impl Matching {
         })
     }
 
-    /// Makes two objects a pair if both have no partner. Returns whether they are a pair.
+    /// Pairs two objects if neither has a partner. Returns whether they are a pair then.
     pub(crate) fn join(&mut self, pair: Pair) -> Result<bool, AllocError>
         requires matching { IsMatching self.old.pairs.items self.old.new_of.items
             self.old.old_of.items }

@@ -80,7 +80,7 @@ pub record AreChecked {F : Type 0} (left : F → Option (List ℕ)) (weak : Weak
 abbrev pub StopsChecks : Failure → Type 0
 StopsChecks failure = (failure ≡ OutOfMemory) ⊎ (failure ≡ NotPrinted)
 
--- how a check of so many files ends: with the exit of all of them, or with such a failure
+-- how a check of this number of files ends: with the exit of all of them, or with such a failure
 abbrev pub EndsChecks : {F : Type 0} → (F → Option (List ℕ)) → Weak → ℕ → Result ℕ Failure → Type 0
 EndsChecks left weak files (Ok exit) = AreChecked left weak files exit
 EndsChecks left weak files (Err failure) = StopsChecks failure

@@ -24,8 +24,8 @@ use std::io::Read;
 use std::rt::Files;
 use std::thread::Threads;
 
-/// Prints the answer to a question, and returns the exit. The caller writes what `out` still holds
-/// of it.
+/// Prints the answer to a question, and returns the exit. The end of the text may still be in `out`:
+/// the caller writes it.
 pub(crate) fn answer<T: Files + Threads + Sync, C: Sink>(
     session: &Session<'_, T>,
     question: &Question<'_>,

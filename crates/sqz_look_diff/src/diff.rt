@@ -20,9 +20,8 @@ use std::thread::Threads;
 
 /// Prints what changed from the old image to the new one: the number of live objects and their
 /// bytes, the classes whose instances differ in number or size, the variables that retain more or
-/// less or have other values, and the methods that came, went or changed; if none did, the first
-/// objects that differ.
-/// Returns whether the images are alike.
+/// less or have other values, and the methods that came, went or changed; if there is no such
+/// change, the first objects that differ. Returns whether the images are alike.
 pub fn print_diff<C: Sink>(
     rt: &(impl Threads + Sync),
     old: &Inspector<'_>,

@@ -19,14 +19,14 @@ pub(crate) struct ValueChange {
     pub(crate) new: String,
 }
 
-/// The values of variables by their names. If several have one name, they are in one text.
+/// The values of variables by their names. Those of variables with the same name are joined.
 #[derive(Drop)]
 pub(crate) struct Values {
     texts: BTreeMap<String, String>,
 }
 
 impl Values {
-    /// Returns no values.
+    /// Returns an empty map.
     pub(crate) fn new(alloc: Global) -> Self {
         Values {
             texts: BTreeMap::new(alloc),
@@ -66,7 +66,7 @@ impl Values {
     }
 }
 
-/// Returns the value that an association has as text. `value` is the object that it holds.
+/// Returns the value of an association as text. `value` is the object that it holds, if it does.
 pub(crate) fn value_text(
     inspector: &Inspector<'_>,
     association: ObjectIndex,

@@ -26,7 +26,7 @@ struct Holdings {
 /// The variables that came, went, retain more or less, or have another value.
 #[derive(Drop)]
 pub(crate) struct VariableChanges {
-    /// Those that came, went, or retain more or less; those that changed most first.
+    /// Those that came, went, or retain more or less, largest change first.
     pub(crate) changes: Vec<Change<u64>>,
     /// Those that have another value, by name.
     pub(crate) values: Vec<ValueChange>,

@@ -4,7 +4,8 @@ use Rattle.std.proofs.Math.Logic.{∥∥₁_elim, ∥∥₁_map, ∥∥₁_prop}
 use Rattle.std.proofs.lemmas.List.{get_or_read}
 use Rattle.sqz_alike.specs.Seen.{seen}
 use Rattle.sqz_alike.proofs.CorrespondenceLemmas.{corresponds}
-use Rattle.sqz_alike.proofs.WalkLemmas.{old_inside, new_inside, pair_of, none_prop, IsWalked-start, IsWalked-more}
+use Rattle.sqz_alike.proofs.MatchingLemmas.{pair_of}
+use Rattle.sqz_alike.proofs.WalkLemmas.{old_inside, new_inside, none_prop, IsWalked-start, IsWalked-more}
 use Rattle.sqz_alike.proofs.alikeness.compare.Goals as goal
 
 pub loop-next-init : goal.loop-next-init
