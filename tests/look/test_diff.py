@@ -261,6 +261,12 @@ class MadeImagesTest(DiffTest):
                 line = rf"(?m)^ +[-+]\d+ bytes  Smalltalk at: #Some{re.escape(note)}$"
                 self.assertRegex(outcome.stdout.decode(), line)
 
+    def test_other_value(self):
+        """A variable that holds something else as large has a row of its own."""
+        self.changes(self.with_global(NIL), self.with_global(ZERO))
+        text = look("diff", OLD, NEW, folder=self.folder).stdout.decode()
+        self.assertIn("\nvalues    1 changed\n  Smalltalk at: #Some: nil -> 0\n", text)
+
     def with_global(self, value):
         """The file of an image with a global variable of this value, if it has one."""
         image = MethodImage()
