@@ -1,25 +1,19 @@
 -- When a walk has ended, its pairs are a correspondence.
--- Serves `alikeness::compare`.
-use Rattle.std.proofs.Common.{◌≡◌, ℕ, ◌≤◌, Bool, true, if◌then◌else◌, List, [], ◌∷◌, length, Option, Some, None, refl, sym, ap, subst, ◌∙◌, arith}
+-- Serves `alikeness::compare`; `ConverseLemmas` of `sqz_digest`.
+use Rattle.std.proofs.Common.{◌≡◌, ℕ, Bool, true, if◌then◌else◌, List, [], ◌∷◌, length, Option, Some, None, refl, sym, ap, subst, ◌∙◌}
 use Rattle.std.specs.Prelude.{Contains}
 use Rattle.std.proofs.lemmas.List.{get_or_default}
 use Rattle.std.proofs.lemmas.Option.{same_Some}
 use Rattle.sqz_image.specs.declared.slot.Slot.{Slot}
-use Rattle.sqz_image.specs.Objects.{Memory, chunk_words, find}
-use Rattle.sqz_trace.specs.declared.weak.Weak.{Weak}
+use Rattle.sqz_image.specs.Objects.{chunk_words, find}
 use Rattle.sqz_trace.specs.Edges.{nil, HasEdge, strong_target}
 use Rattle.sqz_trace.specs.Graph.{Leads, is_marked}
 use Rattle.sqz_trace.specs.Reachability.{graph_from, IsReachability}
-use Rattle.sqz_trace.specs.Slots.{traced, traced_of}
-use Rattle.sqz_object.specs.declared.layout.Layout.{Layout}
-use Rattle.sqz_object.specs.declared.layout.Layout.TheVariants as layouts
-use Rattle.sqz_object.specs.Chunk.{fields}
-use Rattle.sqz_object.specs.Layout.{layout, is_weak_layout}
-use Rattle.sqz_trace.specs.declared.weak.Weak.TheVariants.{Keep, Clear}
-use Rattle.sqz_trace.specs.Strong.{strong, class_of, fixed_by, unless_above}
+use Rattle.sqz_trace.specs.Slots.{traced}
+use Rattle.sqz_trace.specs.Strong.{strong}
 use Rattle.sqz_trace.specs.Targets.{target}
 use Rattle.sqz_trace.proofs.ReachabilityLemmas.{IsClosed-reachable}
-use Rattle.sqz_trace.proofs.StrongLemmas.{unless_above-le}
+use Rattle.sqz_trace.proofs.StrongLemmas.{strong-le}
 use Rattle.sqz_trace.proofs.TargetLemmas.{named_among-more}
 use Rattle.sqz_alike.specs.declared.matching.Pair.{Pair}
 use Rattle.sqz_alike.specs.Alike.{SlotsMatch, ObjectsMatch, IsOneToOne, HasOld, HasNew, IsCorrespondence}
@@ -29,21 +23,6 @@ use Rattle.sqz_alike.specs.Matching.{IsMatching, partner_in}
 use Rattle.sqz_alike.specs.Walk.{AreLive, AreMatched}
 
 -- ---- every live object is in a pair
-
--- every strong field is traced
-strong-le_by : (memory : Memory) (chunk : List ℕ) (class : Option ℕ) (form : Layout)
-    → (if is_weak_layout form then unless_above (length (fields chunk)) (fixed_by memory class) else traced_of form (fields chunk))
-    ≤ traced_of form (fields chunk)
-strong-le_by memory chunk class layouts.Fields = omega arith
-strong-le_by memory chunk class layouts.Weak = unless_above-le (length (fields chunk)) (fixed_by memory class)
-strong-le_by memory chunk class layouts.Context = omega arith
-strong-le_by memory chunk class layouts.Words = omega arith
-strong-le_by memory chunk class (layouts.Bytes unused) = omega arith
-strong-le_by memory chunk class layouts.Method = omega arith
-
-strong-le : (memory : Memory) (weak : Weak) (chunk : List ℕ) → strong memory weak chunk ≤ traced chunk
-strong-le memory Keep chunk = omega arith
-strong-le memory Clear chunk = strong-le_by memory chunk (class_of memory Clear chunk) (layout chunk)
 
 -- a live object to which a strong slot points is seen there
 seen-strong : (seen : Seen) (object next : ℕ) (slot : Slot) → strong_target seen.memory seen.weak object slot ≡ Some next
@@ -90,12 +69,12 @@ module _ (seen : Seen) (pairs : List Pair) (side : Pair → ℕ)
 -- ---- the sides of a pair
 
 module _ (word other : Option ℕ) (pairs : List Pair) where
-  leads_old : (one two : Option ℕ) (next : ℕ) → one ≡ Some next → SlotsMatch pairs one two word other → HasOld pairs next
+  pub leads_old : (one two : Option ℕ) (next : ℕ) → one ≡ Some next → SlotsMatch pairs one two word other → HasOld pairs next
   leads_old (Some a) (Some b) next e m = (record { old = a; new = b }, m, same_Some _ _ e)
   leads_old (Some a) None next e m = absurd m
   leads_old None two next e m = absurd cc
 
-  leads_new : (one two : Option ℕ) (next : ℕ) → two ≡ Some next → SlotsMatch pairs one two word other → HasNew pairs next
+  pub leads_new : (one two : Option ℕ) (next : ℕ) → two ≡ Some next → SlotsMatch pairs one two word other → HasNew pairs next
   leads_new (Some a) (Some b) next e m = (record { old = a; new = b }, m, same_Some _ _ e)
   leads_new None (Some b) next e m = absurd m
   leads_new one None next e m = absurd cc

@@ -1,6 +1,6 @@
 -- What slots lead to is live.
--- Serves `seen::seen_target` and `WalkLemmas`.
-use Rattle.std.proofs.Common.{◌≡◌, ℕ, zero, suc, ◌<◌, Bool, true, List, [], ◌∷◌, length, Option, Some, None, refl, sym, ap, ◌∙◌, IfSome, arith}
+-- Serves `seen::seen_target` and `WalkLemmas`; `FoundLemmas` of `sqz_digest`.
+use Rattle.std.proofs.Common.{◌≡◌, ℕ, Bool, true, List, [], Option, Some, None, refl, sym, ap, ◌∙◌, IfSome}
 use Rattle.std.specs.Prelude.{option_and_then}
 use mathlib.Core.Bool.{Bool-set}
 use Rattle.std.proofs.Math.Logic.{∥∥₁_elim}
@@ -13,14 +13,6 @@ use Rattle.sqz_trace.specs.Edges.{nil, strong_target}
 use Rattle.sqz_trace.specs.Graph.{is_marked}
 use Rattle.sqz_trace.specs.Reachability.{graph_from, IsReachability}
 use Rattle.sqz_trace.proofs.ReachabilityLemmas.{IsClosed-reachable}
-
--- a marked object is one of those that have marks
-pub is_marked-inside : (marks : List Bool) (object : ℕ) → is_marked marks object ≡ true → object < length marks
-is_marked-inside [] object e = absurd cc
-is_marked-inside (mark ∷ marks) zero e = omega arith
-is_marked-inside (mark ∷ marks) (suc object) e =
-    let rest = is_marked-inside marks object e in
-    omega (arith, rest)
 
 module _ (memory : Memory) (weak : Weak) (marks : List Bool) where
   -- nil is live: the special objects array points to it

@@ -1,5 +1,6 @@
 -- The walk through two images.
--- Serves `objects::slot_matches`, `::fields_match`, `::objects_match` and `alikeness::compare`.
+-- Serves `objects::slot_matches`, `::fields_match`, `::objects_match` and `alikeness::compare`;
+-- `ConverseLemmas` of `sqz_digest`.
 use Rattle.std.proofs.Common.{◌≡◌, ℕ, ◌+◌, ◌<◌, ◌≤◌, Bool, true, false, List, [], length, Some, None}
 use Rattle.std.proofs.Common.{slice_index_or, Result, Ok, Err, IfOk, OnOk, refl, sym, ap, subst, ◌∙◌, arith, inl, inr}
 use Rattle.std.specs.Prelude.{Contains}
@@ -22,7 +23,8 @@ use Rattle.sqz_alike.specs.Matching.{IsMatching, Joins}
 use Rattle.sqz_alike.specs.Walk.{IsLive, IsWalk, IsWalked, AreAmong, FieldsMatch, Finds}
 use Rattle.sqz_alike.specs.Walk.{AreFieldsWalked}
 use Rattle.sqz_alike.proofs.MatchingLemmas.{pair_of}
-use Rattle.sqz_alike.proofs.SeenLemmas.{is_marked-inside, special_is_live}
+use Rattle.sqz_trace.proofs.MarkedLemmas.{is_marked-inside}
+use Rattle.sqz_alike.proofs.SeenLemmas.{special_is_live}
 use Rattle.sqz_alike.proofs.StepLemmas.{SlotsMatch-more, SlotsMatch-none, AreAmong-step, IsStep-then}
 
 module _ (old new : Live) where

@@ -9,3 +9,5 @@ mod words;
 
 pub use alikeness::{Alikeness, compare};
 pub use matching::Pair;
+pub use seen::seen_target;
+pub use words::untraced;

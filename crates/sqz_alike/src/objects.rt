@@ -6,10 +6,10 @@ ghost use Rattle.sqz_alike.specs.Seen.{seen};
 ghost use Rattle.sqz_alike.specs.Walk.{FieldsMatch, Finds, IsWalk};
 
 use crate::matching::{Matching, Pair};
-use crate::seen::{seen_target, slot_word};
+use crate::seen::seen_target;
 use crate::words::words_match;
 use sqz_image::Slot;
-use sqz_trace::{Live, traced_fields};
+use sqz_trace::{Live, slot_word, traced_fields};
 use std::alloc::AllocError;
 
 /// Returns whether the objects of a pair match. The objects that their slots lead to become pairs.

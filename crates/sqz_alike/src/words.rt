@@ -46,7 +46,7 @@ fn headers_match(object: &Object<'_>, other: &Object<'_>) -> bool
 }
 
 /// Returns the words of an object after its traced fields.
-fn untraced<'a>(object: &Object<'a>) -> Words<'a>
+pub fn untraced<'a>(object: &Object<'a>) -> Words<'a>
     ensures { result ≡ untraced object.now }
 {
     let (_, rest) = object.fields().split_at(traced_fields(object) as usize);

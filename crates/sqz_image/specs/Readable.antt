@@ -1,11 +1,7 @@
 -- How much of a file can be read before a chunk that cannot be read.
 use Rattle.std.specs.Prelude.{◌≡◌, ℕ, ◌-◌, List, length, take, Option, Some, None, IfSome, IfNone}
 use Rattle.sqz_image.specs.declared.fault.Fault.{Fault}
-use Rattle.sqz_image.specs.declared.fault.Fault.TheVariants.{TooShort, BadVersion, BadHeaderSize, BadDataSize}
-use Rattle.sqz_image.specs.declared.fault.Fault.TheVariants.{BadBase, Truncated, ZeroSize, HeaderMismatch, Overrun}
-use Rattle.sqz_image.specs.declared.fault.Fault.TheVariants.{BadSpecialObjects, NoClass, BadMethod, BadContext}
-use Rattle.sqz_image.specs.declared.fault.Fault.TheVariants.{BadPointer, OutOfMemory, ReadFailed, WriteFailed}
-use Rattle.sqz_image.specs.declared.fault.Fault.TheVariants.{BadWorkers, BadCut, BadWeak, NoNil}
+use Rattle.sqz_image.specs.declared.fault.Fault.TheVariants.{ZeroSize, HeaderMismatch, Overrun}
 use Rattle.sqz_image.specs.declared.header.Header.{Header}
 use Rattle.sqz_image.specs.declared.readable.Readable.{Readable}
 use Rattle.sqz_image.specs.File.{IsHeader, image_bytes, base_address, data_of}
@@ -15,27 +11,10 @@ use Rattle.sqz_object.specs.Partition.{IsPartition}
 
 -- the index of the first word of a chunk that cannot be read
 abbrev pub unread_word : Fault → Option ℕ
-unread_word TooShort = None
-unread_word BadVersion = None
-unread_word BadHeaderSize = None
-unread_word BadDataSize = None
-unread_word BadBase = None
-unread_word Truncated = None
 unread_word (ZeroSize word) = Some word
 unread_word (HeaderMismatch word) = Some word
 unread_word (Overrun word) = Some word
-unread_word BadSpecialObjects = None
-unread_word (NoClass address) = None
-unread_word (BadMethod address) = None
-unread_word (BadContext address) = None
-unread_word (BadPointer address slot) = None
-unread_word OutOfMemory = None
-unread_word ReadFailed = None
-unread_word WriteFailed = None
-unread_word BadWorkers = None
-unread_word BadCut = None
-unread_word (BadWeak address) = None
-unread_word NoNil = None
+unread_word _ = None
 
 -- the address is that of the last object
 abbrev pub IsLastAddress : ℕ → List Object → ℕ → Type 0

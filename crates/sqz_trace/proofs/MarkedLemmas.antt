@@ -1,12 +1,21 @@
 -- The marked elements among the first n of a list, as n grows.
 -- Serves `LiveWordLemmas`; `CompactedLemmas` and `MovedLemmas` of `sqz_slide`; `TallyLemmas` of
--- `sqz_histogram`; `CorrespondenceLemmas` of `sqz_tool`.
+-- `sqz_histogram`; `CorrespondenceLemmas` of `sqz_tool`; `WalkLemmas` of `sqz_alike`.
 use Rattle.std.proofs.Common.{◌≡◌, ℕ, zero, suc, ◌+◌, ◌<◌, ◌≤◌, Bool, true, false, cond, List, [], ◌∷◌, ◌++◌}
 use Rattle.std.proofs.Common.{length, get_or, take, refl, ap, arith, add-one}
 use Rattle.std.specs.List.{count_by}
 use Rattle.std.proofs.lemmas.List.{take_all}
 use Rattle.std.proofs.lemmas.List.Sums.{sum_by-cons}
+use Rattle.sqz_trace.specs.Graph.{is_marked}
 use Rattle.sqz_trace.specs.Live.{marked}
+
+-- a marked object is one of those that have marks
+pub is_marked-inside : (marks : List Bool) (object : ℕ) → is_marked marks object ≡ true → object < length marks
+is_marked-inside [] object e = absurd cc
+is_marked-inside (mark ∷ marks) zero e = omega arith
+is_marked-inside (mark ∷ marks) (suc object) e =
+    let rest = is_marked-inside marks object e in
+    omega (arith, rest)
 
 -- a step where the next one is marked
 marked_suc : {X : Type 0} (marks : List Bool) (xs : List X) (i : ℕ) (d : X)

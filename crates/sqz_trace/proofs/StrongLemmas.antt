@@ -1,17 +1,22 @@
 -- The strong fields of an object, by its class word only and by its class.
 -- Serves `classes::compact_class`, `CopyLemmas` and `CompactClassLemmas`; `MovedLemmas` and
--- `MovedShapeLemmas` of `sqz_slide`; `GroupLemmas` of `sqz_histogram`.
+-- `MovedShapeLemmas` of `sqz_slide`; `GroupLemmas` of `sqz_histogram`; `HeldLemmas` of `sqz_facts`;
+-- `CorrespondenceLemmas` of `sqz_alike`.
 use Rattle.std.proofs.Common.{◌≡◌, ℕ, suc, ◌≤◌, Bool, true, false, cond, List, length, Option, Some, None, refl, ap, subst}
 use Rattle.std.proofs.Common.{sym, ◌∙◌, arith, inl, inr}
 use Rattle.std.proofs.lemmas.Bool.{cases_lt, lt-ltb, le-ltb}
 use Rattle.std.specs.Prelude.{option_map, option_and_then}
 use Rattle.sqz_object.specs.declared.chunk.Kind.{Kind}
 use Rattle.sqz_object.specs.declared.chunk.Kind.TheVariants.{Three, Two, Free, Short}
+use Rattle.sqz_object.specs.declared.layout.Layout.{Layout}
+use Rattle.sqz_object.specs.declared.layout.Layout.TheVariants as layouts
 use Rattle.sqz_object.specs.Chunk.{chunk_kind, fields}
+use Rattle.sqz_object.specs.Layout.{layout, is_weak_layout}
 use Rattle.sqz_image.specs.declared.slot.Slot.TheVariants.{ClassWord, Field}
 use Rattle.sqz_image.specs.Objects.{Memory, chunk_words}
 use Rattle.sqz_trace.specs.declared.weak.Weak.{Weak}
-use Rattle.sqz_trace.specs.Slots.{traced, class_address, class_word}
+use Rattle.sqz_trace.specs.declared.weak.Weak.TheVariants.{Keep, Clear}
+use Rattle.sqz_trace.specs.Slots.{traced, traced_of, class_address, class_word}
 use Rattle.sqz_trace.specs.Targets.{named_by, named_in}
 use Rattle.sqz_trace.specs.Strong.{is_weak, fixed_by, unless_above, strong_by, strong_by_word, held_by_word}
 use Rattle.sqz_trace.specs.Strong.{compact_classes, compact_class, class_by, class_of, strong}
@@ -70,15 +75,23 @@ unless_above-le count (Some stated) =
       | inr ge ↦ rw (le-ltb count stated ge) (omega arith)
     ]
 
--- the strong fields are some of the fields
-pub strong_inside : (memory : Memory) (weak : Weak) (chunk : List ℕ) → strong memory weak chunk ≤ length (fields chunk)
-strong_inside memory weak chunk =
-    by_test (is_weak weak chunk) (length (fields chunk)) (fixed_by memory (class_of memory weak chunk)) (traced_inside chunk)
+-- the strong fields are some of the traced fields
+pub strong-le : (memory : Memory) (weak : Weak) (chunk : List ℕ) → strong memory weak chunk ≤ traced chunk
+strong-le memory Keep chunk = omega arith
+strong-le memory Clear chunk = by_layout (layout chunk) (fields chunk) (fixed_by memory (class_of memory Clear chunk))
   where
-    by_test : (test : Bool) (count : ℕ) (stated : Option ℕ) {other : ℕ} → other ≤ count
-        → cond test (unless_above count stated) other ≤ count
-    by_test true count stated le = unless_above-le count stated
-    by_test false count stated le = le
+    by_layout : (laid : Layout) (words : List ℕ) (stated : Option ℕ)
+        → cond (is_weak_layout laid) (unless_above (length words) stated) (traced_of laid words) ≤ traced_of laid words
+    by_layout layouts.Fields words stated = omega arith
+    by_layout layouts.Weak words stated = unless_above-le (length words) stated
+    by_layout layouts.Context words stated = omega arith
+    by_layout layouts.Words words stated = omega arith
+    by_layout (layouts.Bytes unused) words stated = omega arith
+    by_layout layouts.Method words stated = omega arith
+
+-- and so some of the fields
+pub strong_inside : (memory : Memory) (weak : Weak) (chunk : List ℕ) → strong memory weak chunk ≤ length (fields chunk)
+strong_inside memory weak chunk = omega (arith, strong-le memory weak chunk, traced_inside chunk)
 
 -- the class with a compact index is held by the array of compact classes, if there is one
 pub compact_class-held : (memory : Memory) (weak : Weak) (index field array : ℕ) → index ≡ suc field

@@ -41,7 +41,7 @@ pub use marks::Marks;
 pub use object_graph::ObjectGraph;
 pub use out_edges::{OutEdges, nil};
 pub use shades::{Shade, Shades, first_shades};
-pub use slots::{class_address, named_by, target, traced, traced_fields};
+pub use slots::{class_address, named_by, slot_word, target, traced, traced_fields};
 pub use strong_slots::{strong, strong_fields};
 pub use turns::blacken_listed;
 pub use weak::Weak;

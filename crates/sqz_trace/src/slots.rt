@@ -97,6 +97,16 @@ pub fn target(heap: &Heap, object: ObjectIndex, slot: Slot) -> Option<ObjectInde
     named_among(heap, &object, traced_fields(&object), slot)
 }
 
+/// Returns the word that a slot of an object holds: its class word, or one of its traced fields.
+/// For the class word this is the address in it. None if the object has no such slot.
+pub fn slot_word(heap: &Heap, object: ObjectIndex, slot: Slot) -> Option<u32>
+    requires { object < object_count heap.now }
+    ensures { result ≡ slot_word (chunk_words heap.now object) slot }
+{
+    let object = heap.object(object);
+    word_among(&object, traced_fields(&object), slot)
+}
+
 /// Returns the number of traced fields of the object, from field 0 on: at most the number of its
 /// fields.
 pub fn traced(heap: &Heap, object: ObjectIndex) -> u32
