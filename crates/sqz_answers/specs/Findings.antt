@@ -1,5 +1,5 @@
--- The faults of an image that are found, and its live bytes.
-use Rattle.std.specs.Prelude.{ℕ, Bool, true, false, if◌then◌else◌, List, [], ◌∷◌, ◌++◌, Option, Some, None}
+-- The faults of an image that are found, and its live objects and bytes.
+use Rattle.std.specs.Prelude.{ℕ, Bool, true, false, if◌then◌else◌, List, [], ◌∷◌, ◌++◌, length, Option, Some, None}
 use Rattle.sqz_image.specs.declared.fault.Fault.{Fault}
 use Rattle.sqz_image.specs.declared.fault.Fault.TheVariants.{NoNil}
 use Rattle.sqz_image.specs.Objects.{Memory}
@@ -27,6 +27,10 @@ all_faults memory weak marks = faults_with (missing_nil memory weak) ++ defects 
 abbrev pub faults_found : Bool → Memory → Weak → List Bool → List Fault
 faults_found true memory weak marks = all_faults memory weak marks
 faults_found false memory weak marks = faults_with (first_fault memory weak marks)
+
+-- the number of the marked objects
+abbrev pub marked_count : Memory → List Bool → ℕ
+marked_count memory marks = length (live memory marks)
 
 -- the bytes of the marked objects
 abbrev pub marked_bytes : Memory → List Bool → ℕ

@@ -74,7 +74,7 @@ module _ (memory : Memory) (tree : DominatorTree) (variables : Variables) (limit
     pub are : rows ≡ object_row tree variables depth parent object own own
         ∷ (shown ++ smaller_rows tree (depth + 1) object (filter (is_smaller tree limits) below))
 
-  -- the row of an object, with so many levels below it
+  -- the row of an object, with this number of levels below it
   abbrev pub AreRowsFrom : (levels depth : ℕ) (parent : Option ℕ) (object : ℕ) (rows : List TopRow) → Type 0
   AreRowsFrom zero depth parent object rows = IsDeepest depth parent object rows
   AreRowsFrom (suc levels) depth parent object rows =

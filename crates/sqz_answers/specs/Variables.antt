@@ -11,7 +11,7 @@ pub record AreInRange (holders : List Bool) (values : List (Option ℕ)) : Type 
   pub same : length values ≡ length holders
   pub inside : (object value : ℕ) → slice_index_or values object None ≡ Some value → value < length holders
 
--- no variables of so many objects
+-- no variables of this number of objects
 abbrev pub no_variables : ℕ → Variables
 no_variables count = record { holders = replicate count false; values = replicate count None }
 

@@ -3,7 +3,8 @@
 ghost use Rattle.std.specs.Prelude.{◌≡◌, ◌↔◌, [], IfOk, IsTrue, None};
 ghost use Rattle.sqz_image.specs.Objects.{object_count};
 ghost use Rattle.sqz_trace.specs.Faults.{first_fault};
-ghost use Rattle.sqz_answers.specs.Findings.{all_faults, faults_found, faults_with, marked_bytes};
+ghost use Rattle.sqz_answers.specs.Findings.{all_faults, faults_found, faults_with};
+ghost use Rattle.sqz_answers.specs.Findings.{marked_bytes, marked_count};
 
 use sqz_facts::{defects_of, marked_bytes};
 use sqz_image::Fault;
@@ -16,6 +17,8 @@ use std::thread::Threads;
 pub struct Findings {
     /// The number of objects.
     pub objects: u32,
+    /// The number of live objects.
+    pub live_objects: u32,
     /// The bytes of the live objects, header words included.
     pub live_bytes: u64,
     /// The faults for which a compaction rejects the image; empty if it is sound.
@@ -40,6 +43,8 @@ pub fn findings_of(
 ) -> Result<Findings, AllocError>
     ensures objects { IfOk result (λ found.
         found.objects ≡ object_count live.now.graph.heap.now) }
+    ensures live_objects { IfOk result (λ found.
+        found.live_objects ≡ marked_count live.now.graph.heap.now live.now.marks) }
     ensures live_bytes { IfOk result (λ found.
         found.live_bytes ≡ marked_bytes live.now.graph.heap.now live.now.marks) }
     ensures faults { IfOk result (λ found. found.faults.items
@@ -54,6 +59,7 @@ pub fn findings_of(
     };
     Ok(Findings {
         objects: live.graph.heap.len(),
+        live_objects: live.marks.count(),
         live_bytes: marked_bytes(live.graph.heap, &live.marks),
         faults,
     })

@@ -27,7 +27,7 @@ pub use differences::{bytes_or_none, sort_by_difference};
 pub use findings::{Findings, findings_of};
 pub use histograms::{Histogram, dead_histogram, live_histogram};
 pub use limits::{MOST_DEPTH, TopLimits};
-pub use listing::{Listed, Listing, listing_of};
+pub use listing::{DeadListing, Listed, Listing, dead_listing_of, listing_of, sort_by_retained};
 pub use named::{NamedTotal, sizes_by_name};
 pub use objects::{Shown, shown_object};
 pub use references::{Reference, references_to};

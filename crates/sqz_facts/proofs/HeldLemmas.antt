@@ -1,14 +1,11 @@
 -- What a slot of an object holds, by its word.
 -- Serves `slots::held_by`, `slots::slot_facts` and `laws::one_held`.
-use Rattle.std.proofs.Common.{◌≡◌, ℕ, ◌<◌, ◌≤◌, Bool, true, false, cond, leb, List, length, slice_index, Option, Some, None}
-use Rattle.std.proofs.Common.{refl, sym, ap, subst, ◌∙◌, arith, inl, inr}
+use Rattle.std.proofs.Common.{◌≡◌, ℕ, ◌<◌, Bool, true, false, leb, List, length, slice_index, Option, Some, None}
+use Rattle.std.proofs.Common.{refl, sym, ap, subst, ◌∙◌, inl, inr}
 use Rattle.std.specs.Prelude.{is_none, option_and_then, option_map, slice_get, ℤ}
 use Rattle.std.proofs.lemmas.Bool.{cases_lt, cond-true, cond-false, lt-ltb, le-ltb, leb-true, leb-false}
 use Rattle.std.proofs.lemmas.Option.{slice_get_within, get_or_from_slice_get}
 use Rattle.sqz_object.specs.Chunk.{fields}
-use Rattle.sqz_object.specs.declared.layout.Layout.{Layout}
-use Rattle.sqz_object.specs.declared.layout.Layout.TheVariants as layouts
-use Rattle.sqz_object.specs.Layout.{layout, is_weak_layout}
 use Rattle.sqz_object.specs.declared.value.Value.{Value}
 use Rattle.sqz_object.specs.declared.value.Value.TheVariants.{Int, Pointer, Odd}
 use Rattle.sqz_object.specs.Value.{value_of}
@@ -17,13 +14,13 @@ use Rattle.sqz_image.specs.declared.slot.Slot.TheVariants.{Field}
 use Rattle.sqz_image.specs.Objects.{Memory, objects, object_count, chunk_words, find}
 use Rattle.sqz_image.proofs.ObjectLemmas.{find_in-lt}
 use Rattle.sqz_trace.specs.declared.weak.Weak.TheVariants.{Clear}
-use Rattle.sqz_trace.specs.Slots.{slot_word, word_among, traced_of, traced}
-use Rattle.sqz_trace.specs.Strong.{fixed_by, unless_above, class_of, strong}
+use Rattle.sqz_trace.specs.Slots.{slot_word, word_among, traced}
+use Rattle.sqz_trace.specs.Strong.{strong}
 use Rattle.sqz_trace.specs.Targets.{object_named, named_by, target}
 use Rattle.sqz_trace.specs.Edges.{strong_target}
 use Rattle.sqz_trace.specs.Defects.{is_bad_value, is_bad_word}
 use Rattle.sqz_trace.proofs.SlotLemmas.{slot_word-field}
-use Rattle.sqz_trace.proofs.StrongLemmas.{unless_above-le}
+use Rattle.sqz_trace.proofs.StrongLemmas.{strong-le}
 use Rattle.sqz_trace.proofs.TargetLemmas.{named_among-more}
 use Rattle.sqz_facts.specs.declared.slots.Held.{Held}
 use Rattle.sqz_facts.specs.declared.slots.Held.TheVariants as held
@@ -109,19 +106,6 @@ PointsBelow-found memory weak address found is =
 
 -- ---- a slot holds one thing
 
--- a slot that is strong by the fixed fields is traced
-strong-le : (memory : Memory) (chunk : List ℕ) → strong memory Clear chunk ≤ traced chunk
-strong-le memory chunk = by_layout (layout chunk) (fields chunk) (fixed_by memory (class_of memory Clear chunk))
-  where
-    by_layout : (laid : Layout) (words : List ℕ) (stated : Option ℕ)
-        → cond (is_weak_layout laid) (unless_above (length words) stated) (traced_of laid words) ≤ traced_of laid words
-    by_layout layouts.Fields words stated = omega arith
-    by_layout layouts.Weak words stated = unless_above-le (length words) stated
-    by_layout layouts.Context words stated = omega arith
-    by_layout layouts.Words words stated = omega arith
-    by_layout (layouts.Bytes unused) words stated = omega arith
-    by_layout layouts.Method words stated = omega arith
-
 -- the number of a SmallInteger
 number_in : Value → Option ℤ
 number_in (Int number) = Some number
@@ -180,7 +164,7 @@ module _ (memory : Memory) (object : ℕ) (slot : Slot) where
       by_target (Some other) is =
           let words = chunk_words memory object in
           let same : target memory object slot ≡ Some other =
-          named_among-more memory words (strong memory Clear words) (traced words) slot other (strong-le memory words) is in
+          named_among-more memory words (strong memory Clear words) (traced words) slot other (strong-le memory Clear words) is in
           absurd (let both : None ≡ Some other = sym none ∙ same in cc)
 
   decoded : Held

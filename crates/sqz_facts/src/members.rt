@@ -1,16 +1,17 @@
-//! The live objects of a group.
+//! The marked objects of a group.
 
-ghost use Rattle.std.specs.Prelude.{◌≡◌, IfOk};
+ghost use Rattle.std.specs.Prelude.{◌≡◌, IfOk, length};
+ghost use Rattle.sqz_image.specs.Objects.{object_count};
 ghost use Rattle.sqz_facts.specs.Members.{AreMembers};
 
 use crate::groups::group_of;
 use sqz_histogram::Group;
 use sqz_object::ObjectIndex;
-use sqz_trace::Live;
+use sqz_trace::{Marks, ObjectGraph};
 use std::alloc::{AllocError, Global};
 use std::cmp::Reverse;
 
-/// A live object of a group.
+/// A marked object of a group.
 #[derive(Clone, Copy, Debug, PartialEq, Eq)]
 pub struct Member {
     /// The index of the object.
@@ -19,17 +20,22 @@ pub struct Member {
     pub words: u32,
 }
 
-/// Returns the live objects of a group, each once: longer ones first, and on a tie those with lower
-/// addresses.
-pub fn members_of(alloc: Global, live: &Live<'_>, group: Group) -> Result<Vec<Member>, AllocError>
-    ensures { IfOk result (λ members.
-        AreMembers live.now.graph.heap.now live.now.graph.weak live.now.marks group members.items) }
+/// Returns the marked objects of a group, each once: longer ones first, and on a tie those with
+/// lower addresses.
+pub fn members_of(
+    alloc: Global,
+    graph: ObjectGraph<'_>,
+    marks: &Marks,
+    group: Group,
+) -> Result<Vec<Member>, AllocError>
+    requires { length marks.now ≡ object_count graph.heap.now }
+    ensures { IfOk result (λ members. AreMembers graph.entry.heap.now graph.entry.weak
+        marks.now group members.items) }
 {
-    let heap = live.graph.heap;
     let mut members = Vec::new(alloc);
-    for object in 0..heap.len() {
-        if live.marks.has(object) && group_of(live.graph, object) == group {
-            let words = heap.chunk_length(object);
+    for object in 0..graph.heap.len() {
+        if marks.has(object) && group_of(graph, object) == group {
+            let words = graph.heap.chunk_length(object);
             members.push(Member { object, words })?;
         }
     }

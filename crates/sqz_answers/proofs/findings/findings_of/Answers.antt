@@ -1,7 +1,13 @@
-use Rattle.std.proofs.Common.{true, false}
+use Rattle.std.proofs.Common.{true, false, sym, ◌∙◌}
+use Rattle.sqz_trace.proofs.LiveWordLemmas.{length-live}
 use Rattle.sqz_answers.proofs.FindingLemmas.{faults_found-none}
 use Rattle.sqz_answers.proofs.findings.findings_of.Goals as goal
 use Rattle.sqz_answers.proofs.findings.findings_of.Goals.{then-all+in_ok-faults, else-all+in_ok-faults-2}
+
+pub returns-clause-live_objects : goal.returns-clause-live_objects
+returns-clause-live_objects g c =
+    let live = c.args.live.now in
+    c.count.ensures ∙ sym (length-live live.graph.heap.now live.marks live.one_each)
 
 pub returns-clause-sound : goal.returns-clause-sound
 returns-clause-sound g c =

@@ -8,14 +8,14 @@ use Rattle.sqz_facts.proofs.members.members_of.Goals.{else-has-via-then-has+else
 
 pub loop-object-preserved : goal.loop-object-preserved
 loop-object-preserved c =
-    let memory = c.args.live.now.graph.heap.now in
-    let weak = c.args.live.now.graph.weak in
-    let marks = c.args.live.now.marks in
+    let memory = c.args.graph.heap.now in
+    let weak = c.args.graph.weak in
+    let marks = c.args.marks.now in
     let group = c.args.group in
     let object = c.loop-object.object in
     let members = c.loop-object.members.items in
     let so_far = c.loop-object.invariant in
-    let lt : c.loop-object.object < object_count c.args.live.now.graph.heap.now = omega (arith, c.len-object-end.ensures.objects) in
+    let lt : c.loop-object.object < object_count c.args.graph.heap.now = omega (arith, c.len-object-end.ensures.objects) in
     elim c.if-has.branch [
       | then-has+then-eq+in_ok-push w ↦
           let same : w.group_of.result ≡ c.args.group = search rules in
@@ -38,10 +38,10 @@ loop-object-preserved c =
 pub returns : goal.returns
 returns c =
     let done = c.sort_unstable_by_key.ensures in
-    let end : c.loop-object.object ≡ object_count c.args.live.now.graph.heap.now =
+    let end : c.loop-object.object ≡ object_count c.args.graph.heap.now =
     omega (arith, c.loop-object-test.false, c.len-object-end.ensures.objects)
     in
     let all = rw end at c.loop-object.invariant in
-    AreMembers-sorted c.args.live.now.graph.heap.now c.args.live.now.graph.weak c.args.live.now.marks c.args.group c.loop-object.members.items
+    AreMembers-sorted c.args.graph.heap.now c.args.graph.weak c.args.marks.now c.args.group c.loop-object.members.items
     c.sort_unstable_by_key.new.self.items all done.permutation
     (done.sorted sort_key (answers_always _ _ _ (λ f a r g h. search rules)))
