@@ -1,5 +1,12 @@
 //! The command line that the program accepts.
 
+ghost use Rattle.std.specs.Prelude.{◌≡◌, IfOk, codes, map};
+ghost use Rattle.clap.specs.Words.{app_of};
+ghost use Rattle.sqz_look_args.specs.CommandLine.{HasRule, HasShape, argument_rule, exclusive_flag};
+ghost use Rattle.sqz_look_args.specs.CommandLine.{flag_option, listed_of, look_line, name_of};
+ghost use Rattle.sqz_look_args.specs.CommandLine.{number_option, required_word, required_words};
+ghost use Rattle.sqz_look_args.specs.CommandLine.{shape_of_listed, subcommands, value_option};
+
 use clap::builder::ValueParser;
 use clap::{Arg, ArgAction, Command, value_parser};
 use std::alloc::{AllocError, Global};
@@ -10,6 +17,7 @@ pub(crate) enum Name {
     Check,
     Info,
     Census,
+    Digest,
     List,
     Show,
     Why,
@@ -18,50 +26,26 @@ pub(crate) enum Name {
     Diff,
 }
 
-/// All subcommands, in the order of the help.
-const NAMES: [Name; 9] = [
-    Name::Check,
-    Name::Info,
-    Name::Census,
-    Name::List,
-    Name::Show,
-    Name::Why,
-    Name::Refs,
-    Name::Top,
-    Name::Diff,
-];
-
 impl Name {
-    /// Returns the name that a word is.
-    pub(crate) fn of(word: &str) -> Option<Name> {
-        for name in NAMES {
-            if name.subcommand().name == word {
-                return Some(name);
+    /// Returns the subcommand that a word stands for.
+    pub(crate) fn of(word: &str) -> Option<Name>
+        ensures { result ≡ name_of word.now }
+    {
+        for subcommand in subcommands() {
+            if subcommand.word == word {
+                return Some(subcommand.name);
             }
         }
         None
     }
-
-    /// Returns the subcommand with this name.
-    fn subcommand(self) -> Subcommand {
-        match self {
-            Name::Check => CHECK,
-            Name::Info => INFO,
-            Name::Census => CENSUS,
-            Name::List => LIST,
-            Name::Show => SHOW,
-            Name::Why => WHY,
-            Name::Refs => REFS,
-            Name::Top => TOP,
-            Name::Diff => DIFF,
-        }
-    }
 }
 
-/// A subcommand: its name, what it says, its own arguments, and an example.
+/// A subcommand: its name, the word that stands for it, what it says, its own arguments, and an
+/// example.
 #[derive(Clone, Copy)]
 struct Subcommand {
-    name: &'static str,
+    name: Name,
+    word: &'static str,
     about: &'static str,
     arguments: &'static [Argument],
     example: &'static str,
@@ -79,6 +63,8 @@ enum Argument {
     AllFaults,
     All,
     Dead,
+    DeadInstances,
+    By,
     Raw,
     Depth,
     Min,
@@ -87,42 +73,62 @@ enum Argument {
 }
 
 const CHECK: Subcommand = Subcommand {
-    name: "check",
+    name: Name::Check,
+    word: "check",
     about: "Say whether images are sound",
     arguments: &[Argument::Images, Argument::AllFaults],
     example: "Example:\n  sqzlook check old/*.image",
 };
 
 const INFO: Subcommand = Subcommand {
-    name: "info",
-    about: "Print the format, size and first fault of an image",
-    arguments: &[Argument::Image],
+    name: Name::Info,
+    word: "info",
+    about: "Print the format, size and first fault of images",
+    arguments: &[Argument::Images],
     example: "Example:\n  sqzlook info Scratch.image",
 };
 
 const CENSUS: Subcommand = Subcommand {
-    name: "census",
+    name: Name::Census,
+    word: "census",
     about: "Print a class histogram of the live objects",
-    arguments: &[Argument::Image, Argument::Dead, Argument::All],
+    arguments: &[Argument::Images, Argument::Dead, Argument::All],
     example: "Example:\n  sqzlook census --all Scratch.image",
 };
 
+const DIGEST: Subcommand = Subcommand {
+    name: Name::Digest,
+    word: "digest",
+    about: "Print a SHA-256 of the live objects, the same for alike images",
+    arguments: &[Argument::Images],
+    example: "Example:\n  sqzlook digest old/*.image | sort",
+};
+
 const LIST: Subcommand = Subcommand {
-    name: "list",
-    about: "List the live instances of a class, largest first",
-    arguments: &[Argument::Image, Argument::Class, Argument::All],
+    name: Name::List,
+    word: "list",
+    about: "List the live instances of a class, those that retain most first",
+    arguments: &[
+        Argument::Image,
+        Argument::Class,
+        Argument::By,
+        Argument::DeadInstances,
+        Argument::All,
+    ],
     example: "Example:\n  sqzlook list Scratch.image SoundBuffer",
 };
 
 const SHOW: Subcommand = Subcommand {
-    name: "show",
+    name: Name::Show,
+    word: "show",
     about: "Print what an object is and what its slots hold",
     arguments: &[Argument::Image, Argument::Object, Argument::All],
     example: "Example:\n  sqzlook show Scratch.image 'Point>>+'",
 };
 
 const WHY: Subcommand = Subcommand {
-    name: "why",
+    name: Name::Why,
+    word: "why",
     about: "Print a shortest path from the roots to an object",
     arguments: &[
         Argument::Image,
@@ -134,14 +140,16 @@ const WHY: Subcommand = Subcommand {
 };
 
 const REFS: Subcommand = Subcommand {
-    name: "refs",
+    name: Name::Refs,
+    word: "refs",
     about: "Print the live objects that point to an object",
     arguments: &[Argument::Image, Argument::Object, Argument::All],
     example: "Example:\n  sqzlook refs Scratch.image SoundBuffer class",
 };
 
 const TOP: Subcommand = Subcommand {
-    name: "top",
+    name: Name::Top,
+    word: "top",
     about: "Print what retains most, as a tree",
     arguments: &[
         Argument::Image,
@@ -154,14 +162,27 @@ const TOP: Subcommand = Subcommand {
 };
 
 const DIFF: Subcommand = Subcommand {
-    name: "diff",
+    name: Name::Diff,
+    word: "diff",
     about: "Print what changed between two images",
     arguments: &[Argument::Old, Argument::New, Argument::All],
     example: "Example:\n  sqzlook diff 1.2.image 1.3.image",
 };
 
+/// Returns all subcommands, in the order of the help.
+fn subcommands() -> [Subcommand; 10]
+    ensures { map listed_of result ≡ subcommands }
+{
+    // no constant, since a contract cannot name one that holds references
+    [
+        CHECK, INFO, CENSUS, DIGEST, LIST, SHOW, WHY, REFS, TOP, DIFF,
+    ]
+}
+
 /// Returns the command line that the program accepts.
-pub fn command<'a>(alloc: Global) -> Result<Command<'a>, AllocError> {
+pub fn command<'a>(alloc: Global) -> Result<Command<'a>, AllocError>
+    ensures { IfOk result (λ command. app_of command ≡ look_line) }
+{
     let mut command = Command::new(alloc, "sqzlook")
         .version("1.0.0")
         .about("Inspect Squeak images")
@@ -169,15 +190,17 @@ pub fn command<'a>(alloc: Global) -> Result<Command<'a>, AllocError> {
         .arg_required_else_help(true)
         .propagate_version(true)
         .disable_help_subcommand(true);
-    for name in NAMES {
-        command = command.subcommand(command_of(alloc, name.subcommand())?)?;
+    for subcommand in subcommands() {
+        command = command.subcommand(command_of(alloc, subcommand)?)?;
     }
     Ok(command)
 }
 
 /// Returns the command line of a subcommand.
-fn command_of<'a>(alloc: Global, subcommand: Subcommand) -> Result<Command<'a>, AllocError> {
-    let mut command = Command::new(alloc, subcommand.name)
+fn command_of<'a>(alloc: Global, subcommand: Subcommand) -> Result<Command<'a>, AllocError>
+    ensures { IfOk result (HasShape (shape_of_listed (listed_of subcommand))) }
+{
+    let mut command = Command::new(alloc, subcommand.word)
         .about(subcommand.about)
         .after_help(subcommand.example);
     for argument in subcommand.arguments {
@@ -193,37 +216,45 @@ fn command_of<'a>(alloc: Global, subcommand: Subcommand) -> Result<Command<'a>, 
 }
 
 /// Returns an argument.
-fn arg_of<'a>(alloc: Global, argument: Argument) -> Result<Arg<'a>, AllocError> {
+fn arg_of<'a>(alloc: Global, argument: Argument) -> Result<Arg<'a>, AllocError>
+    ensures { IfOk result (HasRule (argument_rule argument)) }
+{
     Ok(match argument {
         Argument::Image => required(alloc, "IMAGE", "The image to inspect"),
-        Argument::Images => required(alloc, "IMAGE", "The images to check").num_args(1..),
+        Argument::Images => several(alloc, "IMAGE", "The images to inspect"),
         Argument::Old => required(alloc, "OLD", "The old image"),
         Argument::New => required(alloc, "NEW", "The new image"),
-        Argument::Object => required(
+        Argument::Object => several(
             alloc,
             "OBJECT",
             "An address in hexadecimal digits, a class, or a method as Point>>+",
-        )
-        .num_args(1..),
-        Argument::Class => required(
+        ),
+        Argument::Class => several(
             alloc,
             "CLASS",
             "A class by its name or address, or `compact K`",
-        )
-        .num_args(1..),
-        Argument::AllFaults => flag(alloc, "all", "Print every fault, and not only the first"),
+        ),
+        Argument::AllFaults => flag(
+            alloc,
+            "all",
+            "Print the first fault of every object, and not only that of the first",
+        ),
         Argument::All => flag(alloc, "all", "Print all, and not only the first 20 rows"),
         Argument::Dead => flag(alloc, "dead", "Count the objects that are not live"),
+        Argument::DeadInstances => flag(alloc, "dead", "List the instances that are not live"),
+        Argument::By => by(alloc),
         Argument::Raw => flag(alloc, "raw", "Print each step of the path"),
         Argument::Depth => depth(alloc),
         Argument::Min => min(alloc),
         Argument::Folded => folded(alloc)?,
-        Argument::Svg => flag(alloc, "svg", "Print a drawing, as SVG").conflicts_with("json")?,
+        Argument::Svg => svg(alloc)?,
     })
 }
 
 /// Returns the option with the number of levels of a tree.
-fn depth<'a>(alloc: Global) -> Arg<'a> {
+fn depth<'a>(alloc: Global) -> Arg<'a>
+    ensures { HasRule (number_option (codes "depth") 100) result }
+{
     Arg::new(alloc, "depth")
         .long("depth")
         .value_name("N")
@@ -233,7 +264,9 @@ fn depth<'a>(alloc: Global) -> Arg<'a> {
 }
 
 /// Returns the option with the least share of the live bytes that is a row of a tree.
-fn min<'a>(alloc: Global) -> Arg<'a> {
+fn min<'a>(alloc: Global) -> Arg<'a>
+    ensures { HasRule (value_option (codes "min")) result }
+{
     Arg::new(alloc, "min")
         .long("min")
         .value_name("PERCENT")
@@ -241,8 +274,21 @@ fn min<'a>(alloc: Global) -> Arg<'a> {
         .action(ArgAction::Set)
 }
 
+/// Returns the option with the order of a list.
+fn by<'a>(alloc: Global) -> Arg<'a>
+    ensures { HasRule (value_option (codes "by")) result }
+{
+    Arg::new(alloc, "by")
+        .long("by")
+        .value_name("ORDER")
+        .help("List first those that retain most, or the largest: retained or size")
+        .action(ArgAction::Set)
+}
+
 /// Returns the option that asks for folded stacks.
-fn folded<'a>(alloc: Global) -> Result<Arg<'a>, AllocError> {
+fn folded<'a>(alloc: Global) -> Result<Arg<'a>, AllocError>
+    ensures { IfOk result (HasRule (exclusive_flag (codes "folded"))) }
+{
     flag(
         alloc,
         "folded",
@@ -252,16 +298,34 @@ fn folded<'a>(alloc: Global) -> Result<Arg<'a>, AllocError> {
     .conflicts_with("json")
 }
 
+/// Returns the option that asks for a drawing.
+fn svg<'a>(alloc: Global) -> Result<Arg<'a>, AllocError>
+    ensures { IfOk result (HasRule (exclusive_flag (codes "svg"))) }
+{
+    flag(alloc, "svg", "Print a drawing, as SVG").conflicts_with("json")
+}
+
 /// Returns a required positional argument.
-fn required<'a>(alloc: Global, name: &'a str, help: &'a str) -> Arg<'a> {
+fn required<'a>(alloc: Global, name: &'a str, help: &'a str) -> Arg<'a>
+    ensures { HasRule (required_word name.entry.now) result }
+{
     Arg::new(alloc, name)
         .help(help)
         .required(true)
         .action(ArgAction::Set)
 }
 
+/// Returns a positional argument that takes one word or more.
+fn several<'a>(alloc: Global, name: &'a str, help: &'a str) -> Arg<'a>
+    ensures { HasRule (required_words name.entry.now) result }
+{
+    required(alloc, name, help).num_args(1..)
+}
+
 /// Returns an option without a value.
-fn flag<'a>(alloc: Global, name: &'a str, help: &'a str) -> Arg<'a> {
+fn flag<'a>(alloc: Global, name: &'a str, help: &'a str) -> Arg<'a>
+    ensures { HasRule (flag_option name.entry.now) result }
+{
     Arg::new(alloc, name)
         .long(name)
         .help(help)

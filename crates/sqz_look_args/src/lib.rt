@@ -3,12 +3,15 @@
 
 mod bad_request;
 mod commands;
+pub mod laws;
+mod list_order;
 mod percent;
 mod requests;
 mod top_options;
 
 pub use bad_request::BadRequest;
 pub use commands::command;
+pub use list_order::{BadOrder, ListOrder};
 pub use percent::{BadPercent, Percent};
-pub use requests::{ImageQuestion, NamedQuestion, ObjectQuestion, Question, Request};
+pub use requests::{EachQuestion, Instances, NamedQuestion, ObjectQuestion, Question, Request};
 pub use top_options::{TopForm, TopOptions};

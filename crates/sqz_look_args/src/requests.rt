@@ -1,7 +1,14 @@
 //! What a command line asks for.
 
+ghost use Rattle.std.specs.Prelude.{◌≡◌, ◌∷◌, [], List, IfOk, MatchResult, Some, codes};
+ghost use Rattle.clap.specs.Walk.{texts};
+ghost use Rattle.clap.specs.Words.{Row, found_of, rows_of, subcommand_rows_of};
+ghost use Rattle.sqz_look_args.specs.declared.bad_request.BadRequest.TheVariants.{OutOfMemory};
+ghost use Rattle.sqz_look_args.specs.Requests.{AsksSoundness, HasCommand, IsCheckOf, given, has_flag};
+
 use crate::bad_request::BadRequest;
 use crate::commands::Name;
+use crate::list_order::ListOrder;
 use crate::percent::Percent;
 use crate::top_options::{TopForm, TopOptions};
 use clap::ArgMatches;
@@ -26,22 +33,26 @@ pub enum Question<'a> {
         images: Vec<&'a str>,
         all: bool,
     },
+    Each {
+        images: Vec<&'a str>,
+        question: EachQuestion,
+    },
     Diff {
         old: &'a str,
         new: &'a str,
     },
     About {
         image: &'a str,
-        question: ImageQuestion,
+        question: NamedQuestion,
     },
 }
 
-/// A question about an image.
-#[derive(Drop)]
-pub enum ImageQuestion {
+/// A question that is asked about each of some images.
+#[derive(Clone, Copy, Debug, PartialEq, Eq)]
+pub enum EachQuestion {
     Info,
     Census { dead: bool },
-    Named(NamedQuestion),
+    Digest,
 }
 
 /// A question about what an image holds, by its name. An object or a class is the words that stand
@@ -50,12 +61,22 @@ pub enum ImageQuestion {
 pub enum NamedQuestion {
     List {
         class: String,
+        which: Instances,
     },
     Top(TopOptions),
     About {
         object: String,
         question: ObjectQuestion,
     },
+}
+
+/// Which instances of a class are listed.
+#[derive(Clone, Copy, Debug, PartialEq, Eq)]
+pub enum Instances {
+    /// The live ones, in an order.
+    Live(ListOrder),
+    /// Those that are not live, largest first.
+    Dead,
 }
 
 /// A question about an object.
@@ -67,30 +88,33 @@ pub enum ObjectQuestion {
 }
 
 impl<'a> Request<'a> {
-    /// Returns what the matches of a command line ask for. Fails if out of memory, and if an
-    /// argument is missing or `--min` has no percentage.
-    pub fn of(alloc: Global, matches: &ArgMatches<'a>) -> Result<Self, BadRequest<'a>> {
-        let Some((word, matches)) = matches.subcommand() else {
-            return Err(BadRequest::NoCommand);
-        };
-        let Some(name) = Name::of(word) else {
-            return Err(BadRequest::NoCommand);
-        };
+    /// Returns what the matches of `command` ask for. Fails if out of memory, and if an argument is
+    /// missing or `--min` has no percentage.
+    pub fn of(alloc: Global, matches: &ArgMatches<'a>) -> Result<Self, BadRequest<'a>>
+        requires { HasCommand matches.now }
+        ensures check { (rows : List Row)
+            → subcommand_rows_of matches.now ≡ Some (codes "check", rows)
+            → MatchResult result (AsksSoundness rows) (λ bad. bad ≡ OutOfMemory) }
+    {
+        let (word, matches) = matches.subcommand().unwrap();
+        let name = Name::of(word).unwrap();
         Ok(Request {
             question: question_of(alloc, name, matches)?,
-            clear_weak: matches.get_flag("clear-weak"),
-            json: matches.get_flag("json"),
-            all: matches.get_flag("all"),
+            clear_weak: flag_of(matches, "clear-weak"),
+            json: flag_of(matches, "json"),
+            all: flag_of(matches, "all"),
         })
     }
 
     /// Returns the path of the image, if the question is about one.
     pub fn image(&self) -> Option<&'a str> {
         match &self.question {
-            Question::Check { images, .. } => match images.as_slice() {
-                [path] => Some(*path),
-                _ => None,
-            },
+            Question::Check { images, .. } | Question::Each { images, .. } => {
+                match images.as_slice() {
+                    [path] => Some(*path),
+                    _ => None,
+                }
+            }
             Question::Diff { .. } => None,
             Question::About { image, .. } => Some(*image),
         }
@@ -102,12 +126,17 @@ fn question_of<'a>(
     alloc: Global,
     name: Name,
     matches: &ArgMatches<'a>,
-) -> Result<Question<'a>, BadRequest<'a>> {
+) -> Result<Question<'a>, BadRequest<'a>>
+    ensures check { let rows = rows_of (found_of matches.now) in name ≡ Name.Check
+        → MatchResult result
+        (IsCheckOf (given (codes "IMAGE") rows) (has_flag (codes "all") rows))
+        (λ bad. bad ≡ OutOfMemory) }
+{
     let question = match name {
         Name::Check => {
             return Ok(Question::Check {
                 images: values_of(alloc, matches, "IMAGE")?,
-                all: matches.get_flag("all"),
+                all: flag_of(matches, "all"),
             });
         }
         Name::Diff => {
@@ -116,19 +145,22 @@ fn question_of<'a>(
                 new: value_of(matches, "NEW")?,
             });
         }
-        Name::Info => ImageQuestion::Info,
-        Name::Census => ImageQuestion::Census {
-            dead: matches.get_flag("dead"),
-        },
-        Name::List => ImageQuestion::Named(NamedQuestion::List {
+        Name::Info => return about_each(alloc, matches, EachQuestion::Info),
+        Name::Census => {
+            let dead = flag_of(matches, "dead");
+            return about_each(alloc, matches, EachQuestion::Census { dead });
+        }
+        Name::Digest => return about_each(alloc, matches, EachQuestion::Digest),
+        Name::List => NamedQuestion::List {
             class: joined(alloc, &values_of(alloc, matches, "CLASS")?)?,
-        }),
-        Name::Top => ImageQuestion::Named(NamedQuestion::Top(top_options(matches)?)),
+            which: asked_instances(matches)?,
+        },
+        Name::Top => NamedQuestion::Top(top_options(matches)?),
         Name::Show => about_object(alloc, matches, ObjectQuestion::Show)?,
         Name::Refs => about_object(alloc, matches, ObjectQuestion::Refs)?,
         Name::Why => {
             // JSON has each step
-            let raw = matches.get_flag("raw") || matches.get_flag("json");
+            let raw = flag_of(matches, "raw") || flag_of(matches, "json");
             about_object(alloc, matches, ObjectQuestion::Why { raw })?
         }
     };
@@ -136,21 +168,47 @@ fn question_of<'a>(
     Ok(Question::About { image, question })
 }
 
+/// Returns a question about each image that the matches name.
+fn about_each<'a>(
+    alloc: Global,
+    matches: &ArgMatches<'a>,
+    question: EachQuestion,
+) -> Result<Question<'a>, BadRequest<'a>> {
+    let images = values_of(alloc, matches, "IMAGE")?;
+    Ok(Question::Each { images, question })
+}
+
 /// Returns a question about the object that the matches name.
 fn about_object(
     alloc: Global,
     matches: &ArgMatches<'_>,
     question: ObjectQuestion,
-) -> Result<ImageQuestion, AllocError> {
+) -> Result<NamedQuestion, AllocError> {
     let object = joined(alloc, &values_of(alloc, matches, "OBJECT")?)?;
-    Ok(ImageQuestion::Named(NamedQuestion::About { object, question }))
+    Ok(NamedQuestion::About { object, question })
+}
+
+/// Returns which instances are asked for.
+fn asked_instances<'a>(matches: &ArgMatches<'a>) -> Result<Instances, BadRequest<'a>> {
+    let order = match matches.get_str("by") {
+        Some(text) => match text.parse() {
+            Ok(order) => order,
+            Err(_) => return Err(BadRequest::NoOrder(text)),
+        },
+        None => ListOrder::Retained,
+    };
+    Ok(if flag_of(matches, "dead") {
+        Instances::Dead
+    } else {
+        Instances::Live(order)
+    })
 }
 
 /// Returns what is asked for of a tree.
 fn top_options<'a>(matches: &ArgMatches<'a>) -> Result<TopOptions, BadRequest<'a>> {
-    let form = if matches.get_flag("svg") {
+    let form = if flag_of(matches, "svg") {
         TopForm::Drawing
-    } else if matches.get_flag("folded") {
+    } else if flag_of(matches, "folded") {
         TopForm::Folded
     } else {
         TopForm::Rows
@@ -166,10 +224,7 @@ fn top_options<'a>(matches: &ArgMatches<'a>) -> Result<TopOptions, BadRequest<'a
 fn min_of<'a>(matches: &ArgMatches<'a>) -> Result<Option<Percent>, BadRequest<'a>> {
     match matches.try_get_one::<Percent>("min") {
         Ok(min) => Ok(min),
-        Err(_) => Err(match matches.get_str("min") {
-            Some(text) => BadRequest::NoPercentage(text),
-            None => BadRequest::Missing("PERCENT"),
-        }),
+        Err(_) => Err(BadRequest::NoPercentage(matches.get_str("min").unwrap())),
     }
 }
 
@@ -186,11 +241,22 @@ fn values_of<'a>(
     alloc: Global,
     matches: &ArgMatches<'a>,
     id: &str,
-) -> Result<Vec<&'a str>, AllocError> {
+) -> Result<Vec<&'a str>, AllocError>
+    ensures { IfOk result (λ values. texts values.items
+        ≡ given id.now (rows_of (found_of matches.now))) }
+{
     match matches.get_strs(id) {
         Some(values) => Vec::from_slice(alloc, values),
         None => Ok(Vec::new(alloc)),
     }
+}
+
+/// Returns whether an option without a value is given.
+fn flag_of(matches: &ArgMatches<'_>, id: &str) -> bool
+    ensures { result ≡ has_flag id.now (rows_of (found_of matches.now)) }
+{
+    // the contract of `get_flag` is silent about other texts than `true` and `false`
+    matches.get_one(id) == Some(true)
 }
 
 /// Returns words joined by spaces.

@@ -1,0 +1,3 @@
+mod CommandLemmas
+mod RequestLemmas
+pub mod LineLemmas

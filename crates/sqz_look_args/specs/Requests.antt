@@ -1,0 +1,42 @@
+-- What a command line asks for, by the values that its subcommand has.
+use Rattle.std.specs.Prelude.{◌≡◌, Bool, true, false, List, [], Some, codes, bytes_eq, unwrap_or}
+use Rattle.std.specs.Prelude.{IsSome, IsSomeAnd}
+use Rattle.std.specs.Option.{option_map_or}
+use Rattle.clap.specs.Walk.{texts}
+use Rattle.clap.specs.Words.{Row, Text, all_of, one_of, subcommand_name_of, subcommand_of, takes}
+use Rattle.clap.specs.declared.parser.matches.ArgMatches.{ArgMatches}
+use Rattle.sqz_look_args.specs.declared.requests.Question.{Question}
+use Rattle.sqz_look_args.specs.declared.requests.Question.TheVariants.{Check, Each, Diff, About}
+use Rattle.sqz_look_args.specs.declared.requests.Request.{Request}
+use Rattle.sqz_look_args.specs.CommandLine.{look_line, name_of}
+
+-- the matches have a subcommand, which is one of the command line's
+abbrev pub HasCommand : ArgMatches → Type 0
+HasCommand m = IsSomeAnd (subcommand_name_of m) (λ word. IsSome (name_of word))
+
+-- the values of an argument in order
+abbrev pub given : Text → List Row → List Text
+given id rows = unwrap_or (all_of id rows) []
+
+-- whether an option without a value is given
+abbrev pub has_flag : Text → List Row → Bool
+has_flag id rows = option_map_or (λ text. bytes_eq text (codes "true")) (one_of id rows) false
+
+-- the question is whether the images at these paths are sound, with all their faults or the first
+abbrev pub IsCheckOf : List Text → Bool → Question → Type 0
+IsCheckOf paths every (Check images all) = (texts images.items ≡ paths) × (all ≡ every)
+IsCheckOf paths every (Each images question) = ⊥
+IsCheckOf paths every (Diff old new) = ⊥
+IsCheckOf paths every (About image question) = ⊥
+
+-- the request is what the values of `check` ask for
+pub record AsksSoundness (rows : List Row) (request : Request) : Type 0 where
+  pub question : IsCheckOf (given (codes "IMAGE") rows) (has_flag (codes "all") rows) request.question
+  pub clear_weak : request.clear_weak ≡ has_flag (codes "clear-weak") rows
+  pub json : request.json ≡ has_flag (codes "json") rows
+  pub all : request.all ≡ has_flag (codes "all") rows
+
+-- the words are accepted, and their subcommand is `check` with these values
+pub record AsksCheck (words : List Text) (rows : List Row) : Type 0 where
+  pub accepted : takes look_line words ≡ true
+  pub subcommand : subcommand_of look_line words ≡ Some (codes "check", rows)
