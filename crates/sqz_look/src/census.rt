@@ -13,18 +13,22 @@ use std::alloc::AllocError;
 use std::fmt;
 use std::thread::Threads;
 
-/// A row of a class histogram. The totals have no class.
+/// The line above a class histogram, in the text form.
+const HEADING: &str = "   objects        bytes address  class";
+
+/// A row of the class histogram of an image. The totals have no class.
 #[derive(Drop, Serialize)]
-struct GroupView {
+struct GroupView<'a> {
+    image: &'a str,
     class: Option<String>,
     address: Option<Hex>,
     objects: u32,
     bytes: u64,
 }
 
-impl GroupView {
+impl<'a> GroupView<'a> {
     /// Returns the row of a group.
-    fn of(subject: &Subject<'_>, total: GroupTotal) -> Result<Self, AllocError>
+    fn of(subject: &Subject<'_>, image: &'a str, total: GroupTotal) -> Result<Self, AllocError>
         requires { IsInside (object_count subject.now.live.graph.heap.now) total.group }
     {
         let (class, address) = match total.group {
@@ -32,6 +36,7 @@ impl GroupView {
             Group::Compact(index) => (format!(in subject.alloc; "compact {index}")?, None),
         };
         Ok(GroupView {
+            image,
             class: Some(class),
             address,
             objects: total.count,
@@ -41,7 +46,7 @@ impl GroupView {
 }
 
 /// The columns are those that `sqzcompact --census` prints.
-impl fmt::Display for GroupView {
+impl fmt::Display for GroupView<'_> {
     fn fmt<W: fmt::Write>(&self, f: &mut fmt::Formatter<W>) -> fmt::Result {
         let (objects, bytes) = (self.objects, self.bytes);
         write!(f, "{objects:>10} {bytes:>12} ")?;
@@ -53,29 +58,33 @@ impl fmt::Display for GroupView {
     }
 }
 
-/// Prints a class histogram of the live objects, with the addresses of the classes.
+/// Prints a class histogram of the live objects of the image in a file, with the addresses of the
+/// classes.
 pub fn print_census<C: Sink>(
     rt: &(impl Threads + Sync),
     subject: &Subject<'_>,
+    path: &str,
     out: &mut Out<'_, C>,
 ) -> Result<(), PrintError> {
     let histogram = live_histogram(rt, subject.alloc, &subject.live)?;
-    print_histogram(subject, &histogram, out)
+    print_histogram(subject, path, &histogram, out)
 }
 
 /// Prints a class histogram of the objects that are not live, as `print_census` does.
 pub fn print_dead_census<C: Sink>(
     rt: &(impl Threads + Sync),
     subject: &Subject<'_>,
+    path: &str,
     out: &mut Out<'_, C>,
 ) -> Result<(), PrintError> {
     let histogram = dead_histogram(rt, subject.alloc, &subject.live)?;
-    print_histogram(subject, &histogram, out)
+    print_histogram(subject, path, &histogram, out)
 }
 
 /// Prints the rows of a class histogram, and their sums.
 fn print_histogram<C: Sink>(
     subject: &Subject<'_>,
+    path: &str,
     histogram: &Histogram,
     out: &mut Out<'_, C>,
 ) -> Result<(), PrintError>
@@ -83,11 +92,13 @@ fn print_histogram<C: Sink>(
         histogram.now.totals.items }
 {
     let totals = histogram.totals.as_slice();
+    out.text(&HEADING)?;
     for total in &totals[..out.shown(totals.len())] {
-        out.emit(&GroupView::of(subject, *total)?)?;
+        out.emit(&GroupView::of(subject, path, *total)?)?;
     }
     out.rest(totals.len(), "row")?;
     out.emit(&GroupView {
+        image: path,
         class: None,
         address: None,
         objects: histogram.objects,

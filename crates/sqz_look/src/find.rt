@@ -4,15 +4,20 @@ ghost use Rattle.std.specs.Prelude.{All, Contains, IfOk, ◌≡◌, ◌<◌};
 ghost use Rattle.sqz_image.specs.Objects.{object_count};
 ghost use Rattle.sqz_look.specs.Found.{IfOne};
 
+use crate::addresses::{address_in, compact_index, explicit_address, special_field};
+use crate::labelled::{object_with_address, objects_labelled};
+use crate::near_names::{near_classes, near_names};
 use sqz_facts::{Site, site_of};
 use sqz_histogram::Group;
+use sqz_image::Slot;
 use sqz_look_view::{Hex, Inspector};
 use sqz_object::{Address, ObjectIndex};
+use sqz_trace::target;
 use std::alloc::AllocError;
 use std::fmt::Write;
 
-/// The maximum number of hexadecimal digits of an address.
-const MOST_DIGITS: usize = 8;
+/// The maximum number of addresses in the message that a name is ambiguous.
+const MOST_ADDRESSES: usize = 10;
 
 /// What a word stands for, or why it stands for nothing.
 #[derive(Drop)]
@@ -22,28 +27,60 @@ pub enum Found<T> {
     Nothing(String),
 }
 
-/// Returns the object that a word stands for: an address in hexadecimal digits after `0x`, else a
-/// class or a method by its name, else an address without `0x`.
-pub fn find_object(inspector: &Inspector<'_>, word: &str) -> Result<Found<ObjectIndex>, AllocError>
+/// Returns the object that words stand for: an address in hexadecimal digits after `0x`, a field of
+/// the special objects array, a class or a method by its name, an address without `0x`, or an
+/// object by its label as it is printed.
+pub fn find_object(inspector: &Inspector<'_>, words: &str) -> Result<Found<ObjectIndex>, AllocError>
     ensures { IfOk result (λ found.
         IfOne found (λ object. object < object_count inspector.now.live.graph.heap.now)) }
 {
-    if let Some(address) = explicit_address(word) {
+    if let Some(address) = explicit_address(words) {
         return object_at(inspector, address);
     }
-    let classes = inspector.names.classes_named(word)?;
+    if let Some(field) = special_field(words) {
+        return special_object(inspector, field);
+    }
+    let classes = inspector.names.classes_named(class_in(words))?;
     if !classes.is_empty() {
-        return the_one(inspector, word, &classes);
+        return the_one(inspector, words, &classes);
     }
-    let methods = inspector.names.methods_named(word)?;
+    let methods = inspector.names.methods_named(words)?;
     if !methods.is_empty() {
-        return the_one(inspector, word, &methods);
+        return the_one(inspector, words, &methods);
     }
-    if let Some(address) = address_in(word) {
+    if let Some(address) = address_in(words) {
         return object_at(inspector, address);
     }
-    let message = format!(in inspector.alloc; "no class or method is named {word}")?;
+    if let Some(object) = object_with_address(inspector, words)? {
+        return Ok(Found::One(object));
+    }
+    let labelled = objects_labelled(inspector, words)?;
+    if !labelled.is_empty() {
+        return the_one(inspector, words, &labelled);
+    }
+    let near = near_names(inspector, words)?;
+    let message = format!(in inspector.alloc; "no object is named {words}{near}")?;
     Ok(Found::Nothing(message))
+}
+
+/// Returns the name of the class that words stand for: with or without `class` before it.
+fn class_in(words: &str) -> &str {
+    words.strip_prefix("class ").unwrap_or(words)
+}
+
+/// Returns the object that a field of the special objects array points to.
+fn special_object(inspector: &Inspector<'_>, field: u32) -> Result<Found<ObjectIndex>, AllocError>
+    ensures { IfOk result (λ found.
+        IfOne found (λ object. object < object_count inspector.now.live.graph.heap.now)) }
+{
+    let heap = inspector.live.graph.heap;
+    match target(heap, heap.special(), Slot::Field(field)) {
+        Some(object) => Ok(Found::One(object)),
+        None => {
+            let message = format!(in inspector.alloc; "there is no special object {field}")?;
+            Ok(Found::Nothing(message))
+        }
+    }
 }
 
 /// Returns the class that a word stands for, by its name or its address, or the objects without a
@@ -53,13 +90,14 @@ pub fn find_class(inspector: &Inspector<'_>, word: &str) -> Result<Found<Group>,
         return Ok(Found::One(Group::Compact(index)));
     }
     if explicit_address(word).is_none() {
-        let classes = inspector.names.classes_named(word)?;
+        let classes = inspector.names.classes_named(class_in(word))?;
         if !classes.is_empty() {
             return Ok(class_of(the_one(inspector, word, &classes)?));
         }
     }
     let Some(address) = explicit_address(word).or(address_in(word)) else {
-        let message = format!(in inspector.alloc; "no class is named {word}")?;
+        let near = near_classes(inspector, word)?;
+        let message = format!(in inspector.alloc; "no class is named {word}{near}")?;
         return Ok(Found::Nothing(message));
     };
     match object_at(inspector, address)? {
@@ -77,25 +115,6 @@ fn class_of(found: Found<ObjectIndex>) -> Found<Group> {
         Found::One(class) => Found::One(Group::Class(class)),
         Found::Nothing(message) => Found::Nothing(message),
     }
-}
-
-/// Returns the address that a word spells after `0x`.
-fn explicit_address(word: &str) -> Option<Address> {
-    address_in(word.strip_prefix("0x")?)
-}
-
-/// Returns the address that one to eight hexadecimal digits spell.
-fn address_in(word: &str) -> Option<Address> {
-    let is_address = word.len() <= MOST_DIGITS && word.bytes().all(|byte| byte.is_ascii_hexdigit());
-    if word.is_empty() || !is_address {
-        return None;
-    }
-    u32::from_str_radix(word, 16).ok()
-}
-
-/// Returns the compact index that `compact K` states.
-fn compact_index(word: &str) -> Option<u32> {
-    u32::from_str_radix(word.strip_prefix("compact ")?, 10).ok()
 }
 
 /// Returns the only one of objects with the same name, or the only live one.
@@ -119,7 +138,8 @@ fn the_one(
     }
 }
 
-/// Returns the message that several objects have a name.
+/// Returns the message that several objects have a name, with the addresses of the first ones: live
+/// ones before others.
 fn ambiguous(
     inspector: &Inspector<'_>,
     name: &str,
@@ -128,9 +148,18 @@ fn ambiguous(
     requires { All (λ object. object < object_count inspector.now.live.graph.heap.now) objects.now }
 {
     let mut message = format!(in inspector.alloc; "{name} is ambiguous")?;
-    for (index, object) in objects.iter().enumerate() {
-        message.push_str(if index == 0 { ": " } else { ", " })?;
-        write!(message, "{}", inspector.address(*object))?;
+    let mut count = 0;
+    for is_live in [true, false] {
+        for object in objects {
+            if count < MOST_ADDRESSES && inspector.live.marks.has(*object) == is_live {
+                message.push_str(if count == 0 { ": " } else { ", " })?;
+                write!(message, "{}", inspector.address(*object))?;
+                count += 1;
+            }
+        }
+    }
+    if objects.len() > count {
+        write!(message, " and {} more", objects.len() - count)?;
     }
     Ok(message)
 }

@@ -1,58 +1,120 @@
-//! The live instances of a class.
+//! The instances of a class.
 
 ghost use Rattle.std.specs.Prelude.{◌<◌};
 ghost use Rattle.sqz_image.specs.Objects.{object_count};
 
+use crate::holders::Holders;
+use crate::preview::preview_of;
 use serde::Serialize;
-use sqz_answers::{Listed, Listing, listing_of};
+use sqz_answers::{DeadListing, Listed, Listing, dead_listing_of, listing_of, sort_by_retained};
+use sqz_facts::Member;
 use sqz_histogram::Group;
 use sqz_image::Sink;
+use sqz_look_args::ListOrder;
 use sqz_look_view::{Counted, Hex, Inspector, Out, PrintError};
+use sqz_object::ObjectIndex;
+use std::alloc::AllocError;
 use std::fmt;
 
-/// An instance.
-#[derive(Clone, Copy, Drop, Serialize)]
+/// An instance. One that is not live retains nothing.
+#[derive(Drop, Serialize)]
 struct InstanceView {
     address: Hex,
     bytes: u64,
-    retained: u64,
+    retained: Option<u64>,
+    /// What the instance is, in a few words.
+    preview: Option<String>,
+    /// The label of a variable that holds the instance.
+    variable: Option<String>,
 }
 
 impl InstanceView {
     /// Returns the row of an instance.
-    fn of(inspector: &Inspector<'_>, listed: Listed) -> Self
+    fn of(
+        inspector: &Inspector<'_>,
+        holders: &Holders,
+        object: ObjectIndex,
+        bytes: u64,
+        retained: Option<u64>,
+    ) -> Result<Self, AllocError>
+        requires { object < object_count inspector.now.live.graph.heap.now }
+    {
+        Ok(InstanceView {
+            address: inspector.address(object),
+            bytes,
+            retained,
+            preview: preview_of(inspector, object)?,
+            variable: holders.label_of(inspector, object)?,
+        })
+    }
+
+    /// Returns the row of a live instance.
+    fn live(
+        inspector: &Inspector<'_>,
+        holders: &Holders,
+        listed: Listed,
+    ) -> Result<Self, AllocError>
         requires { listed.object < object_count inspector.now.live.graph.heap.now }
     {
-        InstanceView {
-            address: inspector.address(listed.object),
-            bytes: listed.bytes,
-            retained: listed.retained,
-        }
+        let retained = Some(listed.retained);
+        InstanceView::of(inspector, holders, listed.object, listed.bytes, retained)
+    }
+
+    /// Returns the row of an instance that is not live.
+    fn dead(
+        inspector: &Inspector<'_>,
+        holders: &Holders,
+        member: Member,
+    ) -> Result<Self, AllocError>
+        requires { member.object < object_count inspector.now.live.graph.heap.now }
+    {
+        let bytes = inspector.bytes(member.object);
+        InstanceView::of(inspector, holders, member.object, bytes, None)
     }
 }
 
 impl fmt::Display for InstanceView {
     fn fmt<W: fmt::Write>(&self, f: &mut fmt::Formatter<W>) -> fmt::Result {
-        let (address, bytes, retained) = (self.address, self.bytes, self.retained);
-        write!(f, "{bytes:>12} {retained:>12}  {address}")
+        let (address, bytes) = (self.address, self.bytes);
+        write!(f, "{bytes:>12}")?;
+        match self.retained {
+            Some(retained) => write!(f, " {retained:>12}  {address}")?,
+            None => write!(f, " {:>12}  {address}", "-")?,
+        }
+        if let Some(preview) = &self.preview {
+            write!(f, "  {}", preview.as_str())?;
+        }
+        match &self.variable {
+            Some(variable) => write!(f, "  in {}", variable.as_str()),
+            None => Ok(()),
+        }
     }
 }
 
-/// All instances.
+/// All instances. Those that are not live retain nothing.
 #[derive(Clone, Copy, Drop, Serialize)]
 struct ListingView {
     objects: usize,
     bytes: u64,
-    retained_together: u64,
+    retained_together: Option<u64>,
 }
 
 impl ListingView {
-    /// Returns the row of all instances.
-    fn of(listing: &Listing) -> Self {
+    /// Returns the row of all live instances.
+    fn live(listing: &Listing) -> Self {
         ListingView {
             objects: listing.rows.len(),
             bytes: listing.bytes,
-            retained_together: listing.retained_together,
+            retained_together: Some(listing.retained_together),
+        }
+    }
+
+    /// Returns the row of all instances that are not live.
+    fn dead(listing: &DeadListing) -> Self {
+        ListingView {
+            objects: listing.rows.len(),
+            bytes: listing.bytes,
+            retained_together: None,
         }
     }
 }
@@ -60,27 +122,54 @@ impl ListingView {
 impl fmt::Display for ListingView {
     fn fmt<W: fmt::Write>(&self, f: &mut fmt::Formatter<W>) -> fmt::Result {
         let objects = Counted(self.objects as u64, "object");
-        let (bytes, retained) = (self.bytes, self.retained_together);
-        write!(
-            f,
-            "{objects}, {bytes} bytes, retain {retained} bytes together"
-        )
+        let bytes = self.bytes;
+        write!(f, "{objects}, {bytes} bytes")?;
+        match self.retained_together {
+            Some(retained) => write!(f, ", retain {retained} bytes together"),
+            None => f.write_str(", not live"),
+        }
     }
 }
 
+/// The line above the instances, in the text form.
+const HEADING: &str = "       bytes     retained  address   preview";
+
 /// Prints the live instances of a class, or the live objects without a class that have a compact
-/// index, largest first, with what each retains; and last what they retain together.
+/// index, in an order, with what each retains; and last what they retain together.
 pub fn print_list<C: Sink>(
+    inspector: &Inspector<'_>,
+    group: Group,
+    order: ListOrder,
+    out: &mut Out<'_, C>,
+) -> Result<(), PrintError> {
+    let mut listing = listing_of(inspector.alloc, &inspector.live, group)?;
+    if order == ListOrder::Retained {
+        sort_by_retained(&mut listing.rows)?;
+    }
+    let holders = Holders::of(inspector)?;
+    let rows = listing.rows.as_slice();
+    out.text(&HEADING)?;
+    for row in &rows[..out.shown(rows.len())] {
+        out.emit(&InstanceView::live(inspector, &holders, *row)?)?;
+    }
+    out.rest(rows.len(), "object")?;
+    out.emit(&ListingView::live(&listing))
+}
+
+/// Prints the instances of a class that are not live, or such objects without a class that have a
+/// compact index, largest first.
+pub fn print_dead_list<C: Sink>(
     inspector: &Inspector<'_>,
     group: Group,
     out: &mut Out<'_, C>,
 ) -> Result<(), PrintError> {
-    let listing = listing_of(inspector.alloc, &inspector.live, group)?;
+    let listing = dead_listing_of(inspector.alloc, &inspector.live, group)?;
+    let holders = Holders::of(inspector)?;
     let rows = listing.rows.as_slice();
-    out.text(&"       bytes     retained  address")?;
+    out.text(&HEADING)?;
     for row in &rows[..out.shown(rows.len())] {
-        out.emit(&InstanceView::of(inspector, *row))?;
+        out.emit(&InstanceView::dead(inspector, &holders, *row)?)?;
     }
     out.rest(rows.len(), "object")?;
-    out.emit(&ListingView::of(&listing))
+    out.emit(&ListingView::dead(&listing))
 }

@@ -111,12 +111,13 @@ impl StepView {
             owner,
             step,
             is_variable,
+            is_weak,
         } = visible;
         names.set_object(inspector, owner)?;
         let mut row = StepView::of(inspector, step.object, step.retained)?;
         row.slot = Some(SlotName::from(step.slot));
         row.name = names.name(step.slot)?;
-        row.weak = step.is_weak;
+        row.weak = is_weak;
         row.lead = if is_variable {
             variable_text(inspector, owner)?
         } else {

@@ -20,6 +20,8 @@ pub(crate) struct PathStep {
     pub(crate) step: WhyStep,
     /// Whether the owner is the association of a variable that has no row of its own.
     pub(crate) is_variable: bool,
+    /// Whether the step is weak, or one of the steps before it that have no rows of their own.
+    pub(crate) is_weak: bool,
 }
 
 /// Returns the steps of a path that are rows: each, or all but those to the associations of
@@ -37,6 +39,7 @@ pub(crate) fn visible_steps(
     let mut visible = Vec::new(inspector.alloc);
     let mut owner = inspector.live.graph.heap.special();
     let mut is_variable = false;
+    let mut was_weak = false;
     for (index, step) in steps.iter().enumerate() {
         let is_hidden = !raw && hidden.get(index) == Some(&true);
         if !is_hidden {
@@ -44,9 +47,11 @@ pub(crate) fn visible_steps(
                 owner,
                 step: *step,
                 is_variable,
+                is_weak: was_weak || step.is_weak,
             })?;
         }
         is_variable = is_hidden;
+        was_weak = is_hidden && (was_weak || step.is_weak);
         owner = step.object;
     }
     Ok(visible)

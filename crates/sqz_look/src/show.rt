@@ -6,6 +6,7 @@ ghost use Rattle.sqz_answers.specs.Shown.{shown_count};
 
 use crate::slot_rows::SlotView;
 use crate::slots::SlotNames;
+use crate::values::value_text;
 use serde::Serialize;
 use sqz_answers::{Shown, shown_object, slot_at, slot_count};
 use sqz_histogram::first_bytes;
@@ -33,6 +34,8 @@ struct ObjectView {
     format: u32,
     hash: u32,
     compact_index: u32,
+    /// The value of a number or a character.
+    value: Option<String>,
     /// The first slots, or all.
     slots: Vec<SlotView>,
     /// The number of slots that are left out.
@@ -87,6 +90,7 @@ pub fn print_show<C: Sink>(
         format: facts.format,
         hash: facts.hash,
         compact_index: facts.compact_index,
+        value: value_text(inspector, object)?,
         slots: slots_of(inspector, object, shown)?,
         more_slots: (count - shown) as usize,
         text,
@@ -176,7 +180,11 @@ impl ObjectView {
             f,
             "\n  {:<10}{words}, format {format}, hash {hash}, compact index {compact}",
             "header"
-        )
+        )?;
+        match &self.value {
+            Some(value) => write!(f, "\n  {:<10}{}", "value", value.as_str()),
+            None => Ok(()),
+        }
     }
 
     /// Writes a line for each slot.
@@ -185,7 +193,12 @@ impl ObjectView {
             return Ok(());
         }
         f.write_str("\nslots")?;
+        let mut is_traced = true;
         for slot in &self.slots {
+            if is_traced && slot.is_untraced() {
+                f.write_str("\n  not traced:")?;
+                is_traced = false;
+            }
             write!(f, "\n{slot}")?;
         }
         match self.more_slots {

@@ -63,6 +63,11 @@ impl SlotView {
             text: names.text(slot)?,
         })
     }
+
+    /// Returns whether the slot is not traced. All slots after it are not, either.
+    pub(crate) fn is_untraced(&self) -> bool {
+        matches!(self.kind, SlotKind::Untraced)
+    }
 }
 
 impl fmt::Display for SlotView {
@@ -78,9 +83,8 @@ impl fmt::Display for SlotView {
         }
         match self.kind {
             SlotKind::Weak => f.write_str(" (weak)"),
-            SlotKind::Untraced => f.write_str(" (not traced)"),
             SlotKind::Bad => f.write_str(" (no object)"),
-            SlotKind::Integer | SlotKind::Pointer => Ok(()),
+            SlotKind::Integer | SlotKind::Pointer | SlotKind::Untraced => Ok(()),
         }
     }
 }

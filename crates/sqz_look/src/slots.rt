@@ -3,6 +3,7 @@
 ghost use Rattle.std.specs.Prelude.{◌<◌, IfSome};
 ghost use Rattle.sqz_image.specs.Objects.{object_count};
 
+use crate::special_names::special_name;
 use serde::Serialize;
 use sqz_facts::object_facts;
 use sqz_image::Slot;
@@ -39,6 +40,8 @@ pub(crate) struct SlotNames {
     variables: Vec<String>,
     /// Whether the fields of the object are these instance variables.
     has_variables: bool,
+    /// Whether the object is the special objects array.
+    is_special: bool,
     /// The first indexed field, if the object has such fields.
     first_indexed: Option<u32>,
 }
@@ -51,6 +54,7 @@ impl SlotNames {
             class: None,
             variables: Vec::new(alloc),
             has_variables: false,
+            is_special: false,
             first_indexed: None,
         }
     }
@@ -77,6 +81,7 @@ impl SlotNames {
         let layout = graph.heap.object(object).layout();
         let facts = object_facts(graph, object);
         self.has_variables = !matches!(layout, Layout::Bytes { .. } | Layout::Method);
+        self.is_special = object == graph.heap.special();
         self.first_indexed = match facts.format {
             INDEXED => Some(0),
             FIXED_AND_INDEXED | FIXED_AND_WEAK => fixed_by(graph.heap, facts.class),
@@ -89,11 +94,18 @@ impl SlotNames {
         Ok(())
     }
 
-    /// Returns the name of the instance variable that a slot is.
+    /// Returns the name of the instance variable that a slot is; of a slot of the special objects
+    /// array, what it points to.
     pub(crate) fn name(&self, slot: Slot) -> Result<Option<String>, AllocError> {
         let Slot::Field(index) = slot else {
             return Ok(None);
         };
+        if self.is_special {
+            return match special_name(index) {
+                Some(name) => Ok(Some(String::from_str(self.alloc, name)?)),
+                None => Ok(None),
+            };
+        }
         match self.variables.get(index as usize) {
             Some(variable) if self.has_variables => Ok(Some(variable.clone()?)),
             _ => Ok(None),
@@ -101,15 +113,21 @@ impl SlotNames {
     }
 
     /// Returns a slot as text: `.NAME`, `[K]` with the index of an indexed field counted from 1,
+    /// `special object K` with the number of a field of the special objects array and its name,
     /// `class`, or `field K`.
     pub(crate) fn text(&self, slot: Slot) -> Result<String, AllocError> {
         let alloc = self.alloc;
-        if let Some(name) = self.name(slot)? {
-            return format!(in alloc; ".{name}");
-        }
         let Slot::Field(index) = slot else {
             return String::from_str(alloc, "class");
         };
+        match self.name(slot)? {
+            Some(name) if self.is_special => {
+                return format!(in alloc; "special object {index}, {name}");
+            }
+            None if self.is_special => return format!(in alloc; "special object {index}"),
+            Some(name) => return format!(in alloc; ".{name}"),
+            None => {}
+        }
         match self
             .first_indexed
             .and_then(|first| index.checked_sub(first))

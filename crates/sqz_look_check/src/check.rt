@@ -19,6 +19,7 @@ struct CheckView<'a> {
     image: &'a str,
     sound: bool,
     objects: Option<u32>,
+    live_objects: Option<u32>,
     live_bytes: Option<u64>,
     faults: Vec<FaultView>,
     /// The address of the last object before a chunk that cannot be read.
@@ -37,6 +38,7 @@ impl<'a> CheckView<'a> {
             image: path,
             sound: findings.is_sound(),
             objects: Some(findings.objects),
+            live_objects: Some(findings.live_objects),
             live_bytes: Some(findings.live_bytes),
             faults,
             last_object: None,
@@ -51,6 +53,7 @@ impl<'a> CheckView<'a> {
             image: path,
             sound: false,
             objects: None,
+            live_objects: None,
             live_bytes: None,
             faults,
             last_object: None,
@@ -61,9 +64,13 @@ impl<'a> CheckView<'a> {
 impl fmt::Display for CheckView<'_> {
     fn fmt<W: fmt::Write>(&self, f: &mut fmt::Formatter<W>) -> fmt::Result {
         let path = self.image;
-        if let (Some(objects), Some(bytes), true) = (self.objects, self.live_bytes, self.sound) {
+        let numbers = (self.objects, self.live_objects, self.live_bytes);
+        if let ((Some(objects), Some(live), Some(bytes)), true) = (numbers, self.sound) {
             let objects = Counted(u64::from(objects), "object");
-            return write!(f, "{path}: sound, {objects}, {bytes} bytes live");
+            return write!(
+                f,
+                "{path}: sound, {objects}, {live} live, {bytes} bytes live"
+            );
         }
         for (index, fault) in self.faults.iter().enumerate() {
             if index > 0 {

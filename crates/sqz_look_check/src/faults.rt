@@ -73,6 +73,11 @@ impl FaultView {
     }
 }
 
+/// Returns the first fault of an image as a message, with its place in the file and its cause.
+pub fn fault_message(subject: &Subject<'_>, fault: Fault) -> Result<String, AllocError> {
+    FaultView::in_image(subject, fault)?.to_string(subject.alloc)
+}
+
 impl fmt::Display for FaultView {
     fn fmt<W: fmt::Write>(&self, f: &mut fmt::Formatter<W>) -> fmt::Result {
         let (number, fault) = (self.number, self.fault);

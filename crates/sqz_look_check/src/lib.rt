@@ -4,6 +4,7 @@
 
 mod causes;
 mod check;
+mod digest;
 mod faults;
 mod file_kinds;
 mod info;
@@ -11,5 +12,7 @@ mod unreadable;
 mod versions;
 
 pub use check::{print_check, print_check_missing, print_check_unreadable};
+pub use digest::print_digest;
+pub use faults::fault_message;
 pub use info::{print_info, print_info_unreadable};
 pub use unreadable::Unreadable;

@@ -1,8 +1,9 @@
 -- The exits of files that are checked.
--- Serves `check_one`, `check_all` and `answer`.
+-- Serves `check_one`, `check_all`, `answer` and `answer_each`.
 use Rattle.std.proofs.Common.{◌≡◌, ◌↔◌, ◌≤◌, ℕ, zero, suc, ◌+◌, max, Bool, List, [], ◌∷◌, ◌++◌, Option, None, Result, Ok, Err, IfOk}
 use Rattle.std.proofs.Common.{refl, sym, subst, inl, inr, arith}
 use Rattle.std.specs.Prelude.{All}
+use Rattle.std.proofs.lemmas.Bool.{cases_lt}
 use Rattle.std.proofs.lemmas.List.{length_push}
 use Rattle.std.proofs.lemmas.List.Elements.{All-nil, All-push, All-head, All-tail}
 use Rattle.sqz_image.specs.Objects.{Memory, SavedImage}
@@ -20,11 +21,14 @@ worst_of-push [] exit = omega arith
 worst_of-push (first ∷ exits) exit = let rest = worst_of-push exits exit in omega arith
 
 -- of two exits of answers, the greater is one
-IsAnswerExit-max : (one other : ℕ) → IsAnswerExit one → IsAnswerExit other → IsAnswerExit (max one other)
-IsAnswerExit-max one other (inl low) (inl below) = inl (omega arith)
-IsAnswerExit-max one other (inl low) (inr unread) = inr (omega arith)
-IsAnswerExit-max one other (inr unread) (inl low) = inr (omega arith)
-IsAnswerExit-max one other (inr unread) (inr failed) = inr (omega arith)
+pub IsAnswerExit-max : (one other : ℕ) → IsAnswerExit one → IsAnswerExit other → IsAnswerExit (max one other)
+IsAnswerExit-max one other (low, not_one) (below, not_other) = (
+  omega arith,
+  λ same. elim (cases_lt one other) [
+    | inl lt ↦ not_other (omega arith)
+    | inr ge ↦ not_one (omega arith)
+  ],
+)
 
 module _ {F : Type 0} (left : F → Option (List ℕ)) (weak : Weak) where
   -- the exit for an image that was loaded, by whether it has a first fault
@@ -88,13 +92,13 @@ module _ {F : Type 0} (left : F → Option (List ℕ)) (weak : Weak) where
 
   -- the exit for a file is one of an answer
   IsAnswerExit-checked : (exit : ℕ) → IsChecked left weak exit → IsAnswerExit exit
-  IsAnswerExit-checked exit (inl (same, sound)) = inl (omega arith)
-  IsAnswerExit-checked exit (inr (inl (same, unsound))) = inl (omega arith)
-  IsAnswerExit-checked exit (inr (inr same)) = inr same
+  IsAnswerExit-checked exit (inl (same, sound)) = (omega arith, λ two. omega arith)
+  IsAnswerExit-checked exit (inr (inl (same, unsound))) = (omega arith, λ two. omega arith)
+  IsAnswerExit-checked exit (inr (inr same)) = (omega arith, λ two. omega arith)
 
   -- so is the worst of them
   IsAnswerExit-worst : (exits : List ℕ) → All (IsChecked left weak) exits → IsAnswerExit (worst_of exits)
-  IsAnswerExit-worst [] checked = inl (omega arith)
+  IsAnswerExit-worst [] checked = (omega arith, λ two. omega arith)
   IsAnswerExit-worst (exit ∷ exits) checked =
       IsAnswerExit-max exit (worst_of exits)
       (IsAnswerExit-checked exit (All-head (IsChecked left weak) exit exits checked))

@@ -5,7 +5,7 @@ use Rattle.std.proofs.Common.{refl, sym, subst, inl, inr, arith}
 use Rattle.sqz_image.specs.Devices.{SinkState, WritesWhole}
 use Rattle.sqz_trace.specs.declared.weak.Weak.{Weak}
 use Rattle.sqz_look_args.specs.declared.requests.Question.{Question}
-use Rattle.sqz_look_args.specs.declared.requests.Question.TheVariants.{Check, Diff, About}
+use Rattle.sqz_look_args.specs.declared.requests.Question.TheVariants.{Check, Each, Diff, About}
 use Rattle.sqz_look_view.specs.declared.print_error.PrintError.{PrintError}
 use Rattle.sqz_look_view.specs.declared.print_error.PrintError.TheVariants as printing
 use Rattle.sqz_look_cli.specs.declared.failure.Failure.{Failure}
@@ -27,15 +27,10 @@ exit_of_failure-range NotRead = (omega arith, omega arith, λ same. omega arith)
 exit_of_failure-range (NotReadAt path) = (omega arith, omega arith, λ same. omega arith)
 exit_of_failure-range (NotThere message) = (omega arith, omega arith, λ same. omega arith)
 
--- an exit of an answer is at most 4 and not 2
-IsAnswerExit-range : (exit : ℕ) → IsAnswerExit exit → (exit ≤ 4) × (exit ≢ 2)
-IsAnswerExit-range exit (inl low) = (omega arith, λ same. omega arith)
-IsAnswerExit-range exit (inr unread) = (omega arith, λ same. omega arith)
-
--- so is that of an outcome
+-- the exit of an outcome is at most 4 and not 2
 exit_of_outcome-range : (outcome : Result ℕ Failure) → IfOk outcome IsAnswerExit
     → (exit_of_outcome outcome ≤ 4) × (exit_of_outcome outcome ≢ 2)
-exit_of_outcome-range (Ok exit) answers = IsAnswerExit-range exit answers
+exit_of_outcome-range (Ok exit) answers = answers
 exit_of_outcome-range (Err failure) answers =
     let range = exit_of_failure-range failure in (range.1, range.2)
 
@@ -53,6 +48,7 @@ HasPassedOn-written (Err failure) old new text written = tt
 -- a fact of the number of images follows from another one
 IfCheck-weaker : (question : Question) (P Q : ℕ → Type 0) → ((files : ℕ) → P files → Q files) → IfCheck question P → IfCheck question Q
 IfCheck-weaker (Check images all) P Q weaker holds = weaker _ holds
+IfCheck-weaker (Each images question) P Q weaker holds = tt
 IfCheck-weaker (Diff old new) P Q weaker holds = tt
 IfCheck-weaker (About image about) P Q weaker holds = tt
 
@@ -88,3 +84,15 @@ module _ {F : Type 0} (left : F → Option (List ℕ)) (weak : Weak) where
   checked_at_one question outcome exit same = IfCheck-weaker question _ _ (λ files ends low.
       subst (λ (e : ℕ). AreChecked left weak files e) (sym same)
       (AreChecked-ends files outcome ends (subst (λ (e : ℕ). e ≤ 1) same low)))
+
+-- exit 0 of an outcome is that of its answer
+pub silent_at_zero : (P : Type 0) (answered outcome : Result ℕ Failure) → (outcome ≡ answered) ⊎ (outcome ≡ Err NotPrinted)
+    → IfOk answered (λ exit. exit ≡ 0 → P) → exit_of_outcome outcome ≡ 0 → P
+silent_at_zero P answered outcome (inl same) silent zero =
+    at_answer answered silent (subst (λ (r : Result ℕ Failure). exit_of_outcome r ≡ 0) same zero)
+  where
+    at_answer : (r : Result ℕ Failure) → IfOk r (λ exit. exit ≡ 0 → P) → exit_of_outcome r ≡ 0 → P
+    at_answer (Ok exit) silent zero = silent zero
+    at_answer (Err failure) silent zero = let range = exit_of_failure-range failure in absurd (omega arith)
+silent_at_zero P answered outcome (inr same) silent zero =
+    absurd (let three = subst (λ (r : Result ℕ Failure). exit_of_outcome r ≡ 0) same zero in omega arith)

@@ -3,7 +3,7 @@ use Rattle.std.specs.Prelude.{◌≡◌, ℕ, false, List, Option, Result, OnOk,
 use Rattle.sqz_image.specs.Devices.{SinkState}
 use Rattle.sqz_trace.specs.WeakSlots.{weak_of}
 use Rattle.sqz_look_args.specs.declared.requests.Question.{Question}
-use Rattle.sqz_look_args.specs.declared.requests.Question.TheVariants.{Check, Diff, About}
+use Rattle.sqz_look_args.specs.declared.requests.Question.TheVariants.{Check, Each, Diff, About}
 use Rattle.sqz_look_args.specs.declared.requests.Request.{Request}
 use Rattle.sqz_look_cli.specs.declared.failure.Failure.{Failure}
 use Rattle.sqz_look_cli.specs.Checks.{EndsChecks}
@@ -12,6 +12,7 @@ use Rattle.sqz_look_cli.specs.Failures.{exit_of_outcome}
 -- a fact of the number of images, if the question is whether images are sound
 abbrev pub IfCheck : Question → (ℕ → Type 0) → Type 0
 IfCheck (Check images all) P = P (vec_len images)
+IfCheck (Each images question) P = Unit {0}
 IfCheck (Diff old new) P = Unit {0}
 IfCheck (About image question) P = Unit {0}
 

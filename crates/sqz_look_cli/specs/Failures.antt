@@ -1,5 +1,5 @@
 -- Why a question has no answer, and the exit codes.
-use Rattle.std.specs.Prelude.{◌≡◌, ◌⊎◌, ◌≤◌, ℕ, Result, Ok, Err}
+use Rattle.std.specs.Prelude.{◌≢◌, ◌≤◌, ℕ, Result, Ok, Err}
 use Rattle.sqz_look_view.specs.declared.print_error.PrintError.{PrintError}
 use Rattle.sqz_look_view.specs.declared.print_error.PrintError.TheVariants as printing
 use Rattle.sqz_look_cli.specs.declared.failure.Failure.{Failure}
@@ -24,6 +24,6 @@ abbrev pub failure_of_printing : PrintError → Failure
 failure_of_printing printing.OutOfMemory = OutOfMemory
 failure_of_printing printing.WriteFailed = NotPrinted
 
--- the exits of answers: 0, 1, and 3 if a file could not be read
+-- the exits of answers: all but that of wrong words
 abbrev pub IsAnswerExit : ℕ → Type 0
-IsAnswerExit exit = (exit ≤ 1) ⊎ (exit ≡ 3)
+IsAnswerExit exit = (exit ≤ 4) × (exit ≢ 2)

@@ -1,3 +1,4 @@
 pub mod Failures
 pub mod Checks
 pub mod Endings
+pub mod Warnings

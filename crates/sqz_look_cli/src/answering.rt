@@ -5,15 +5,15 @@ ghost use Rattle.sqz_image.specs.Devices.{WritesWhole};
 ghost use Rattle.sqz_look_cli.specs.declared.failure.Failure.TheVariants.{NotPrinted};
 ghost use Rattle.sqz_look_cli.specs.Checks.{AreChecked};
 ghost use Rattle.sqz_look_cli.specs.Endings.{EndsAnswer, HasPassedOn, IfCheck};
-ghost use Rattle.sqz_look_cli.specs.Failures.{exit_of_failure, exit_of_outcome};
+ghost use Rattle.sqz_look_cli.specs.Failures.{exit_of_outcome};
+ghost use Rattle.sqz_look_cli.specs.Warnings.{IsSilent};
 ghost use Rattle.sqz_trace.specs.WeakSlots.{weak_of};
 
 use crate::answers::answer;
 use crate::failure::Failure;
-use crate::messages::{print_fault, print_message};
+use crate::messages::explain_failure;
 use crate::session::Session;
-use sqz_cli::BAD_IMAGE;
-use sqz_image::{Fault, Sink, write_all};
+use sqz_image::{Sink, write_all};
 use sqz_look_args::Request;
 use sqz_look_view::{Format, Out};
 use sqz_trace::Weak;
@@ -27,7 +27,8 @@ use std::thread::Threads;
 /// what is asked about, or if two images differ; 3 if a file could not be read or the answer not
 /// printed; and 4 if out of memory.
 ///
-/// A failure is one line on `err`, with the name of the program and of the file.
+/// A failure is one line on `err`, with the name of the program and of the file. So is a warning of
+/// an image that is not sound.
 pub fn answer_request<T: Files + Threads + Sync, C: Sink, E: Sink>(
     rt: &T,
     alloc: Global,
@@ -41,12 +42,13 @@ pub fn answer_request<T: Files + Threads + Sync, C: Sink, E: Sink>(
     ensures check { IfCheck request.now.question (λ files. result ≤ 1
         → AreChecked T.File.remaining (weak_of request.now.clear_weak) files result) }
     ensures whole { result ≡ 0 → HasPassedOn (C.state out.new) }
-    ensures silent { result ≡ 0 → err.new ≡ err.old }
+    ensures silent { result ≡ 0
+        → IsSilent T.File.remaining (weak_of request.now.clear_weak) err.old err.new }
 {
     let weak = Weak::clear_if(request.clear_weak);
     let session = Session { rt, alloc, weak };
     let mut printed = Out::new(alloc, out, format_of(request));
-    let answered = answer(&session, &request.question, &mut printed);
+    let answered = answer(&session, &request.question, &mut printed, err);
     let rest = printed.into_unwritten();
     let outcome = pass_on(answered, rest.as_str(), out);
     finish(&outcome, request.image(), err)
@@ -83,22 +85,5 @@ fn finish<E: Sink>(outcome: &Result<u8, Failure>, path: Option<&str>, err: &mut 
     match outcome {
         Ok(exit) => *exit,
         Err(failure) => explain_failure(failure, path, err),
-    }
-}
-
-/// Prints why there is no answer, with the path of the file that it is about if it is about one,
-/// and returns the exit.
-fn explain_failure<E: Sink>(failure: &Failure, path: Option<&str>, err: &mut E) -> u8
-    ensures { result ≡ exit_of_failure failure.now }
-{
-    match failure {
-        Failure::OutOfMemory => print_fault(path, &Fault::OutOfMemory, err),
-        Failure::NotPrinted => print_fault(None, &Fault::WriteFailed, err),
-        Failure::NotRead => print_fault(path, &Fault::ReadFailed, err),
-        Failure::NotReadAt(path) => print_fault(Some(path.as_str()), &Fault::ReadFailed, err),
-        Failure::NotThere(message) => {
-            print_message(path, message.as_str(), err);
-            BAD_IMAGE
-        }
     }
 }

@@ -1,6 +1,15 @@
 //! The program.
 
-ghost use Rattle.std.specs.Prelude.{◌≡◌, ◌<◌, ◌≤◌, false};
+ghost use Rattle.std.specs.Prelude.{◌≡◌, ◌<◌, ◌≤◌, ◌∷◌, [], false, true, length, map, List, Some};
+ghost use Rattle.std.specs.Prelude.{IfErr, IfOk, codes, string_bytes};
+ghost use Rattle.clap.specs.Words.{Row, kind_of, subcommand_of, subcommand_rows_of, takes};
+ghost use Rattle.sqz_look_args.specs.CommandLine.{look_line};
+ghost use Rattle.sqz_look_args.specs.Requests.{AsksCheck, HasCommand, given, has_flag};
+ghost use Rattle.sqz_look_cli.specs.Checks.{AreChecked};
+ghost use Rattle.sqz_look_cli.specs.Endings.{HasPassedOn};
+ghost use Rattle.sqz_look_cli.specs.Warnings.{IsSilent};
+ghost use Rattle.sqz_trace.specs.declared.weak.Weak.{Weak};
+ghost use Rattle.sqz_trace.specs.WeakSlots.{weak_of};
 
 use crate::answering::answer_request;
 use crate::messages::{print_fault, print_message};
@@ -20,7 +29,8 @@ use std::thread::Threads;
 /// memory. The first word is the program's name; `out` and `err` stand for standard output and
 /// standard error.
 ///
-/// A failure is one line on `err`, with the name of the program and of the file.
+/// A failure is one line on `err`, with the name of the program and of the file. So is a warning of
+/// an image that is not sound.
 pub fn look<T: Files + Threads + Sync, C: Sink, E: Sink>(
     rt: &T,
     alloc: Global,
@@ -29,8 +39,14 @@ pub fn look<T: Files + Threads + Sync, C: Sink, E: Sink>(
     err: &mut E,
 ) -> u8
     ensures exits { result ≤ 4 }
+    ensures check { (rows : List Row) → AsksCheck (map string_bytes words.now) rows → result ≤ 1
+        → AreChecked T.File.remaining (weak_of (has_flag (codes "clear-weak") rows))
+        (length (given (codes "IMAGE") rows)) result }
+    ensures answered { takes look_line (map string_bytes words.now) ≡ true → result ≡ 0
+        → HasPassedOn (C.state out.new) }
     ensures whole { result ≡ 0 → (C.state out.new).failed ≡ false }
-    ensures silent { result ≡ 0 → err.new ≡ err.old }
+    ensures silent { result ≡ 0
+        → (weak : Weak) × IsSilent T.File.remaining weak err.old err.new }
 {
     match matches_of(alloc, words) {
         Ok(matches) => answer_matches(rt, alloc, &matches, out, err),
@@ -39,13 +55,21 @@ pub fn look<T: Files + Threads + Sync, C: Sink, E: Sink>(
 }
 
 /// Parses the words of a command line.
-fn matches_of<'a>(alloc: Global, words: &'a [String]) -> Result<ArgMatches<'a>, Error> {
+fn matches_of<'a>(alloc: Global, words: &'a [String]) -> Result<ArgMatches<'a>, Error>
+    ensures subcommand { IfOk result (λ matches. subcommand_rows_of matches
+        ≡ subcommand_of look_line (map string_bytes words.entry.now)) }
+    ensures command { IfOk result HasCommand }
+    ensures accepted { IfErr result (λ error.
+        takes look_line (map string_bytes words.entry.now) ≡ true
+        → kind_of error ≡ ErrorKind.OutOfMemory) }
+{
     command(alloc)?.try_get_matches_from(words)
 }
 
 /// Prints the help, or what is wrong with the words, and returns the exit.
 fn explain_words<C: Sink, E: Sink>(error: &Error, out: &mut C, err: &mut E) -> u8
     ensures exits { result ≤ 4 }
+    ensures memory { kind_of error.now ≡ ErrorKind.OutOfMemory → result ≡ 4 }
     ensures whole { result ≡ 0 → (C.state out.new).failed ≡ false }
     ensures silent { result ≡ 0 → err.new ≡ err.old }
 {
@@ -67,9 +91,15 @@ fn answer_matches<T: Files + Threads + Sync, C: Sink, E: Sink>(
     out: &mut C,
     err: &mut E,
 ) -> u8
+    requires { HasCommand matches.now }
     ensures exits { result ≤ 4 }
-    ensures whole { result ≡ 0 → (C.state out.new).failed ≡ false }
-    ensures silent { result ≡ 0 → err.new ≡ err.old }
+    ensures check { (rows : List Row) → subcommand_rows_of matches.now ≡ Some (codes "check", rows)
+        → result ≤ 1
+        → AreChecked T.File.remaining (weak_of (has_flag (codes "clear-weak") rows))
+        (length (given (codes "IMAGE") rows)) result }
+    ensures whole { result ≡ 0 → HasPassedOn (C.state out.new) }
+    ensures silent { result ≡ 0
+        → (weak : Weak) × IsSilent T.File.remaining weak err.old err.new }
 {
     match Request::of(alloc, matches) {
         Ok(request) => answer_request(rt, alloc, &request, out, err),
@@ -81,6 +111,7 @@ fn answer_matches<T: Files + Threads + Sync, C: Sink, E: Sink>(
 fn explain_request<E: Sink>(alloc: Global, bad: BadRequest<'_>, err: &mut E) -> u8
     ensures exits { result ≤ 4 }
     ensures failed { 0 < result }
+    ensures memory { bad.entry ≡ BadRequest.OutOfMemory → result ≡ 4 }
 {
     let message = match bad {
         BadRequest::OutOfMemory => return print_fault(None, &Fault::OutOfMemory, err),

@@ -5,12 +5,14 @@ mod answering;
 mod answers;
 mod checks;
 mod comparison;
+mod each;
 mod entry_point;
 mod failure;
 mod loading;
 mod messages;
 mod quiet_pipe;
 mod session;
+mod warnings;
 
 pub use answering::answer_request;
 pub use entry_point::look;

@@ -2,9 +2,28 @@
 
 ghost use Rattle.std.specs.Prelude.{◌≡◌};
 ghost use Rattle.sqz_cli.specs.Exits.{exit_of};
+ghost use Rattle.sqz_look_cli.specs.Failures.{exit_of_failure};
 
-use sqz_cli::{print, refuse};
+use crate::failure::Failure;
+use sqz_cli::{BAD_IMAGE, print, refuse};
 use sqz_image::{Fault, Sink};
+
+/// Prints why there is no answer, with the path of the file that it is about if it is about one,
+/// and returns the exit.
+pub(crate) fn explain_failure<E: Sink>(failure: &Failure, path: Option<&str>, err: &mut E) -> u8
+    ensures { result ≡ exit_of_failure failure.now }
+{
+    match failure {
+        Failure::OutOfMemory => print_fault(path, &Fault::OutOfMemory, err),
+        Failure::NotPrinted => print_fault(None, &Fault::WriteFailed, err),
+        Failure::NotRead => print_fault(path, &Fault::ReadFailed, err),
+        Failure::NotReadAt(path) => print_fault(Some(path.as_str()), &Fault::ReadFailed, err),
+        Failure::NotThere(message) => {
+            print_message(path, message.as_str(), err);
+            BAD_IMAGE
+        }
+    }
+}
 
 /// Prints the line of a fault, with the path of the file that it is about if it is about one, and
 /// returns the exit.

@@ -5,6 +5,8 @@ ghost use Rattle.sqz_image.specs.Objects.{object_count};
 ghost use Rattle.sqz_histogram.specs.Groups.{IsInside};
 ghost use Rattle.sqz_look_diff.specs.ClassSizes.{AreClassSizes};
 
+use crate::numbers::Numbers;
+use crate::whole_names::WholeNames;
 use sqz_answers::{
     Change, NamedTotal, Size, changes_of, live_histogram, sizes_by_name, sort_by_difference,
 };
@@ -22,7 +24,9 @@ pub(crate) fn class_changes(
     old: &Inspector<'_>,
     new: &Inspector<'_>,
 ) -> Result<Vec<Change<Size>>, AllocError> {
-    let (old_sizes, new_sizes) = (sizes_of(rt, old)?, sizes_of(rt, new)?);
+    let mut numbers = Numbers::new(old.alloc);
+    let old_sizes = sizes_of(rt, old, &mut numbers)?;
+    let new_sizes = sizes_of(rt, new, &mut numbers)?;
     let mut changes = changes_of(old.alloc, &old_sizes, &new_sizes)?;
     sort_by_difference(&mut changes)?;
     Ok(changes)
@@ -33,13 +37,14 @@ pub(crate) fn class_changes(
 fn sizes_of(
     rt: &(impl Threads + Sync),
     inspector: &Inspector<'_>,
+    numbers: &mut Numbers,
 ) -> Result<BTreeMap<String, Size>, AllocError>
     ensures { IfOk result (AreClassSizes inspector.now.live.graph.heap.now
         inspector.now.live.graph.weak inspector.now.live.marks) }
 {
     heap_bounds(inspector.live.graph.heap); // fewer than 2^30 objects and words
     let histogram = live_histogram(rt, inspector.alloc, &inspector.live)?;
-    let named = with_names(inspector, &histogram.totals)?;
+    let named = with_names(inspector, numbers, &histogram.totals)?;
     let sizes = sizes_by_name(inspector.alloc, &named)?;
     Ok(sizes)
 }
@@ -47,29 +52,24 @@ fn sizes_of(
 /// Returns the totals of a class histogram with the names of their classes.
 fn with_names(
     inspector: &Inspector<'_>,
+    numbers: &mut Numbers,
     totals: &[GroupTotal],
 ) -> Result<Vec<NamedTotal>, AllocError>
     requires { All (λ total. IsInside (object_count inspector.now.live.graph.heap.now)
         total.group) totals.now }
     ensures { IfOk result (λ named. map (λ one. one.total) named.items ≡ totals.now) }
 {
+    let mut names = WholeNames::new(inspector.alloc);
     let mut named = Vec::new(inspector.alloc);
     for total in totals {
-        let name = name_of(inspector, total.group)?;
+        let name = match total.group {
+            Group::Class(class) => names.class(inspector, numbers, class)?,
+            Group::Compact(index) => format!(in inspector.alloc; "compact {index}")?,
+        };
         named.push(NamedTotal {
             name,
             total: *total,
         })?;
     }
     Ok(named)
-}
-
-/// Returns the name of a group as a class histogram prints it.
-fn name_of(inspector: &Inspector<'_>, group: Group) -> Result<String, AllocError>
-    requires { IsInside (object_count inspector.now.live.graph.heap.now) group }
-{
-    match group {
-        Group::Class(class) => inspector.names.name_of_class(class),
-        Group::Compact(index) => format!(in inspector.alloc; "compact {index}"),
-    }
 }

@@ -5,12 +5,15 @@ ghost use Rattle.sqz_image.specs.Objects.{object_count};
 ghost use Rattle.sqz_alike.specs.Alike.{AreAlike, IsInside};
 ghost use Rattle.sqz_alike.specs.Seen.{seen};
 
+use crate::definitions::DefinitionChanges;
 use crate::differences::Differences;
 use crate::first_difference::{DifferenceView, ObjectView};
 use crate::methods::MethodChanges;
 use crate::values::ValueChange;
 use crate::variables::VariableChanges;
-use crate::views::{ClassView, MethodView, TotalView, ValueView, VariableView};
+use crate::views::{
+    ClassView, DefinitionView, MethodView, Part, TotalView, ValueView, VariableView,
+};
 use sqz_alike::{Alikeness, compare};
 use sqz_answers::{Change, Size};
 use sqz_image::Sink;
@@ -20,8 +23,9 @@ use std::thread::Threads;
 
 /// Prints what changed from the old image to the new one: the number of live objects and their
 /// bytes, the classes whose instances differ in number or size, the variables that retain more or
-/// less or have other values, and the methods that came, went or changed; if there is no such
-/// change, the first objects that differ. Returns whether the images are alike.
+/// less or have other values, the classes whose definitions differ, and the methods that came, went
+/// or changed; if there is no such change, the first objects that differ. Returns whether the images
+/// are alike.
 pub fn print_diff<C: Sink>(
     rt: &(impl Threads + Sync),
     old: &Inspector<'_>,
@@ -38,6 +42,7 @@ pub fn print_diff<C: Sink>(
     print_classes(alloc, &differences.classes, out)?;
     print_variables(alloc, &differences.variables, out)?;
     print_values(alloc, &differences.variables.values, out)?;
+    print_definitions(alloc, &differences.definitions, out)?;
     print_methods(alloc, &differences.methods, out)?;
     print_alikeness(old, new, alikeness, differences.is_empty(), out)?;
     Ok(alikeness == Alikeness::Alike)
@@ -106,6 +111,25 @@ fn print_values<C: Sink>(
     out.text(&format!(in alloc; "values    {count} changed")?)?;
     for change in &changes[..out.shown(count)] {
         out.emit(&ValueView::of(change))?;
+    }
+    out.rest(count, "row")
+}
+
+/// Prints the classes that came or went, or whose definitions differ.
+fn print_definitions<C: Sink>(
+    alloc: Global,
+    changes: &DefinitionChanges,
+    out: &mut Out<'_, C>,
+) -> Result<(), PrintError> {
+    let count = changes.len();
+    out.text(&format!(in alloc; "definitions {count} changed")?)?;
+    let most = out.shown(count);
+    for change in changes.superclasses.iter().take(most) {
+        out.emit(&DefinitionView::of(Part::Superclass, change))?;
+    }
+    let most = most.saturating_sub(changes.superclasses.len());
+    for change in changes.variables.iter().take(most) {
+        out.emit(&DefinitionView::of(Part::InstanceVariables, change))?;
     }
     out.rest(count, "row")
 }

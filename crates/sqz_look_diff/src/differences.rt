@@ -1,6 +1,7 @@
 //! What differs between two images.
 
 use crate::classes::class_changes;
+use crate::definitions::{DefinitionChanges, definition_changes};
 use crate::methods::{MethodChanges, method_changes};
 use crate::variables::{VariableChanges, variable_changes};
 use sqz_answers::{Change, Size};
@@ -18,6 +19,7 @@ pub(crate) struct Differences {
     pub(crate) new: Size,
     pub(crate) classes: Vec<Change<Size>>,
     pub(crate) variables: VariableChanges,
+    pub(crate) definitions: DefinitionChanges,
     pub(crate) methods: MethodChanges,
 }
 
@@ -33,6 +35,7 @@ impl Differences {
             new: size_of(new),
             classes: class_changes(rt, old, new)?,
             variables: variable_changes(old, new)?,
+            definitions: definition_changes(old, new)?,
             methods: method_changes(old, new)?,
         })
     }
@@ -43,6 +46,7 @@ impl Differences {
             && self.classes.is_empty()
             && self.variables.changes.is_empty()
             && self.variables.values.is_empty()
+            && self.definitions.len() == 0
             && self.methods.changes.is_empty()
     }
 }

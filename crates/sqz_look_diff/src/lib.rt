@@ -5,6 +5,7 @@
 mod bytecodes;
 mod classes;
 mod contents;
+mod definitions;
 mod diff;
 mod differences;
 mod first_difference;
@@ -15,5 +16,6 @@ mod numbers;
 mod values;
 mod variables;
 mod views;
+mod whole_names;
 
 pub use diff::print_diff;

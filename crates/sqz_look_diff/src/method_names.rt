@@ -4,6 +4,7 @@ ghost use Rattle.std.specs.Prelude.{◌<◌};
 ghost use Rattle.sqz_image.specs.Objects.{object_count};
 
 use crate::numbers::{Numbers, Order};
+use crate::whole_names::WholeNames;
 use sqz_histogram::first_bytes;
 use sqz_look_view::Inspector;
 use sqz_names::{MethodName, escaped};
@@ -93,6 +94,7 @@ pub(crate) struct ImageNames {
     classes: BTreeMap<ObjectIndex, usize>,
     /// The number of each selector.
     selectors: BTreeMap<ObjectIndex, usize>,
+    names: WholeNames,
 }
 
 impl ImageNames {
@@ -101,6 +103,7 @@ impl ImageNames {
         ImageNames {
             classes: BTreeMap::new(alloc),
             selectors: BTreeMap::new(alloc),
+            names: WholeNames::new(alloc),
         }
     }
 
@@ -108,6 +111,7 @@ impl ImageNames {
     pub(crate) fn key(
         &mut self,
         inspector: &Inspector<'_>,
+        numbers: &mut Numbers,
         parts: &mut NameParts,
         name: &MethodName,
     ) -> Result<MethodKey, AllocError>
@@ -116,7 +120,7 @@ impl ImageNames {
             < object_count inspector.now.live.graph.heap.now }
     {
         Ok(MethodKey {
-            class: self.class(inspector, parts, name.class)?,
+            class: self.class(inspector, numbers, parts, name.class)?,
             selector: self.selector(inspector, parts, name.selector)?,
             namesake: 0,
         })
@@ -126,6 +130,7 @@ impl ImageNames {
     fn class(
         &mut self,
         inspector: &Inspector<'_>,
+        numbers: &mut Numbers,
         parts: &mut NameParts,
         class: ObjectIndex,
     ) -> Result<usize, AllocError>
@@ -134,7 +139,7 @@ impl ImageNames {
         if let Some(number) = self.classes.get(&class) {
             return Ok(*number);
         }
-        let mut name = inspector.names.name_of_class(class)?;
+        let mut name = self.names.class(inspector, numbers, class)?;
         name.push_str(">>")?;
         let number = parts.classes.number_of(name.into_bytes())?;
         self.classes.insert(class, number)?;

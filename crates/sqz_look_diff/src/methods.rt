@@ -138,7 +138,7 @@ fn methods_in(
             bytes: inspector.bytes(name.method),
             contents: contents.number_of_method(inspector, numbers, name.method)?,
         };
-        let key = keys.key(inspector, parts, name)?;
+        let key = keys.key(inspector, numbers, parts, name)?;
         let place = (name.class, name.method, name.selector);
         methods.push(NamedMethod { key, method, place })?;
     }

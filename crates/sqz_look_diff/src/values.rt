@@ -10,6 +10,16 @@ use sqz_object::{ObjectIndex, Value, value_of};
 use std::alloc::{AllocError, Global};
 use std::collections::BTreeMap;
 
+/// What has a text in the old image, in the new one, or in both.
+#[derive(Drop)]
+pub(crate) struct TextChange {
+    pub(crate) name: String,
+    /// None if only the new image has the name.
+    pub(crate) old: Option<String>,
+    /// None if only the old image has the name.
+    pub(crate) new: Option<String>,
+}
+
 /// A variable of both images with another value.
 #[derive(Drop)]
 pub(crate) struct ValueChange {
@@ -19,7 +29,7 @@ pub(crate) struct ValueChange {
     pub(crate) new: String,
 }
 
-/// The values of variables by their names. Those of variables with the same name are joined.
+/// Texts by their names, as the values of variables. Those with the same name are joined.
 #[derive(Drop)]
 pub(crate) struct Values {
     texts: BTreeMap<String, String>,
@@ -33,7 +43,7 @@ impl Values {
         }
     }
 
-    /// Adds the value of a variable.
+    /// Adds a text.
     pub(crate) fn add(&mut self, name: String, value: String) -> Result<(), AllocError> {
         match self.texts.get_mut(name.as_str()) {
             Some(text) => {
@@ -47,23 +57,47 @@ impl Values {
         }
     }
 
-    /// Returns the variables that have other values in another image, by name.
+    /// Returns the names that have other texts in another image, or that one image alone has: those
+    /// of this image by name, and then those of the other one alone.
     pub(crate) fn changes(
         &self,
         alloc: Global,
-        new: &Values,
-    ) -> Result<Vec<ValueChange>, AllocError> {
+        other: &Values,
+    ) -> Result<Vec<TextChange>, AllocError> {
         let mut changes = Vec::new(alloc);
         for (name, old) in self.texts.iter() {
-            if let Some(new) = new.texts.get(name.as_str()) {
-                if old.as_str() != new.as_str() {
-                    let (name, old, new) = (name.clone()?, old.clone()?, new.clone()?);
-                    changes.push(ValueChange { name, old, new })?;
-                }
+            let new = match other.texts.get(name.as_str()) {
+                Some(new) if new.as_str() == old.as_str() => continue,
+                Some(new) => Some(new.clone()?),
+                None => None,
+            };
+            let (name, old) = (name.clone()?, Some(old.clone()?));
+            changes.push(TextChange { name, old, new })?;
+        }
+        for (name, new) in other.texts.iter() {
+            if !self.texts.contains_key(name.as_str()) {
+                let (name, old, new) = (name.clone()?, None, Some(new.clone()?));
+                changes.push(TextChange { name, old, new })?;
             }
         }
         Ok(changes)
     }
+}
+
+/// Returns the variables of both images with other values.
+pub(crate) fn value_changes(
+    alloc: Global,
+    old: &Values,
+    new: &Values,
+) -> Result<Vec<ValueChange>, AllocError> {
+    let mut changes = Vec::new(alloc);
+    for change in old.changes(alloc, new)? {
+        let TextChange { name, old, new } = change;
+        if let (Some(old), Some(new)) = (old, new) {
+            changes.push(ValueChange { name, old, new })?;
+        }
+    }
+    Ok(changes)
 }
 
 /// Returns the value of an association as text. `value` is the object that it holds, if it does.

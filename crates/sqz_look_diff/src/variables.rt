@@ -3,7 +3,9 @@
 ghost use Rattle.std.specs.Prelude.{◌<◌, IfSome};
 ghost use Rattle.sqz_image.specs.Objects.{object_count};
 
-use crate::values::{ValueChange, Values, value_text};
+use crate::numbers::Numbers;
+use crate::values::{ValueChange, Values, value_changes, value_text};
+use crate::whole_names::WholeNames;
 use sqz_answers::{Change, changes_of, sort_by_difference};
 use sqz_dominators::dominators_of;
 use sqz_look_view::Inspector;
@@ -53,10 +55,11 @@ pub(crate) fn variable_changes(
     new: &Inspector<'_>,
 ) -> Result<VariableChanges, AllocError> {
     let alloc = old.alloc;
-    let (old, new) = (held_in(old)?, held_in(new)?);
+    let mut numbers = Numbers::new(alloc);
+    let (old, new) = (held_in(old, &mut numbers)?, held_in(new, &mut numbers)?);
     let mut changes = changes_of(alloc, &old.bytes, &new.bytes)?;
     sort_by_difference(&mut changes)?;
-    let values = old.values.changes(alloc, &new.values)?;
+    let values = value_changes(alloc, &old.values, &new.values)?;
     Ok(VariableChanges {
         changes,
         values,
@@ -67,8 +70,9 @@ pub(crate) fn variable_changes(
 
 /// Returns what the variables of an image hold, by their names. Variables with one name are added
 /// up.
-fn held_in(inspector: &Inspector<'_>) -> Result<Holdings, AllocError> {
+fn held_in(inspector: &Inspector<'_>, numbers: &mut Numbers) -> Result<Holdings, AllocError> {
     let dominators = dominators_of(inspector.alloc, inspector.live.graph)?;
+    let mut names = WholeNames::new(inspector.alloc);
     let mut held = Holdings {
         bytes: BTreeMap::new(inspector.alloc),
         set: BTreeSet::new(inspector.alloc),
@@ -82,7 +86,7 @@ fn held_in(inspector: &Inspector<'_>) -> Result<Holdings, AllocError> {
         }
         last = Some(association);
         if let Some(variable) = inspector.names.variable(association)? {
-            let label = inspector.names.label(association)?;
+            let label = names.variable(inspector, numbers, *name)?;
             if !is_nil(inspector, variable.value)? {
                 held.set.insert(label.clone()?)?;
             }

@@ -1,7 +1,7 @@
 //! The rows that say what differs.
 
 use crate::methods::MethodChange;
-use crate::values::ValueChange;
+use crate::values::{TextChange, ValueChange};
 use crate::variables::VariableChanges;
 use serde::Serialize;
 use sqz_answers::{Change, Size, bytes_or_none, size_or_nothing};
@@ -162,6 +162,61 @@ impl fmt::Display for ValueView<'_> {
         let (name, old, new) = (self.name, self.old, self.new);
         write!(f, "  {name}: {old} -> {new}")
     }
+}
+
+/// A part of the definition of a class.
+#[derive(Clone, Copy, Drop, Serialize)]
+#[serde(rename_all = "snake_case")]
+pub(crate) enum Part {
+    Superclass,
+    InstanceVariables,
+}
+
+/// A class that came or went, or has another definition.
+#[derive(Drop, Serialize)]
+pub(crate) struct DefinitionView<'a> {
+    kind: &'static str,
+    name: &'a str,
+    part: Part,
+    old: Option<&'a str>,
+    new: Option<&'a str>,
+}
+
+impl<'a> DefinitionView<'a> {
+    /// Returns the row of a part of the definition of a class.
+    pub(crate) fn of(part: Part, change: &'a TextChange) -> Self {
+        DefinitionView {
+            kind: "definition",
+            name: change.name.as_str(),
+            part,
+            old: change.old.as_ref().map(|text| text.as_str()),
+            new: change.new.as_ref().map(|text| text.as_str()),
+        }
+    }
+}
+
+impl fmt::Display for DefinitionView<'_> {
+    fn fmt<W: fmt::Write>(&self, f: &mut fmt::Formatter<W>) -> fmt::Result {
+        let part = match self.part {
+            Part::Superclass => "superclass",
+            Part::InstanceVariables => "instance variables",
+        };
+        let name = self.name;
+        match (self.old, self.new) {
+            (Some(old), Some(new)) => {
+                let (old, new) = (or_none(old), or_none(new));
+                write!(f, "  changed  {name}: {part} {old} -> {new}")
+            }
+            (Some(old), None) => write!(f, "  removed  {name}: {part} {old}"),
+            (None, Some(new)) => write!(f, "  added    {name}: {part} {new}"),
+            (None, None) => Ok(()),
+        }
+    }
+}
+
+/// Returns a list of names, and `none` if it is empty.
+fn or_none(names: &str) -> &str {
+    if names.is_empty() { "none" } else { names }
 }
 
 /// A method that came, went or changed.

@@ -21,6 +21,6 @@ abbrev pub is_cut : Format → Bool
 is_cut (Text all) = not all
 is_cut Json = false
 
--- how many of so many rows are printed: the first 20 of a list that is cut
+-- how many of `count` rows are printed: the first 20 of a list that is cut
 abbrev pub shown_rows : Format → ℕ → ℕ
 shown_rows format count = if is_cut format then min count 20 else count

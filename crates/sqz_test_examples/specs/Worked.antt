@@ -8,7 +8,7 @@ use Rattle.sqz_tool.specs.Compacted.{compacted}
 use Rattle.sqz_test_fixtures.specs.declared.images.TestImage.{TestImage}
 use Rattle.sqz_test_fixtures.specs.Words.{data_words}
 
--- at most so many chunks, each of as many words as it states
+-- at most this number of chunks, each of as many words as it states
 abbrev pub chunks_among : ℕ → List ℕ → List (List ℕ)
 chunks_among zero words = []
 chunks_among (suc more) [] = []

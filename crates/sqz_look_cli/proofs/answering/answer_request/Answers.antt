@@ -1,5 +1,6 @@
-use Rattle.std.proofs.Common.{sym, ◌∙◌}
-use Rattle.sqz_look_cli.proofs.EndingLemmas.{exits_passed, checks_passed, checked_at_one, whole_at_zero, HasPassedOn-written}
+use Rattle.std.proofs.Common.{sym, ◌∙◌, inl}
+use Rattle.sqz_look_cli.proofs.EndingLemmas.{exits_passed, checks_passed, checked_at_one, silent_at_zero, whole_at_zero, HasPassedOn-written}
+use Rattle.sqz_look_cli.proofs.WarningLemmas.{IsSilent-then}
 use Rattle.sqz_look_cli.proofs.answering.answer_request.Goals as goal
 
 pub returns-clause-exits : goal.returns-clause-exits
@@ -33,3 +34,10 @@ pub returns-clause-whole : goal.returns-clause-whole
 returns-clause-whole g c =
     λ zero. whole_at_zero _ c.pass_on-outcome.result (HasPassedOn-written _ _ _ _ c.pass_on-outcome.ensures.written)
     (sym c.finish.ensures.exit ∙ zero)
+
+pub returns-clause-silent : goal.returns-clause-silent
+returns-clause-silent g c zero =
+    let silent = rw c.clear_if-weak.ensures at c.answer-answered.ensures.silent in
+    IsSilent-then _ _ _ _ _
+    (silent_at_zero _ _ _ c.pass_on-outcome.ensures.outcome silent (sym c.finish.ensures.exit ∙ zero))
+    (inl (c.finish.ensures.silent zero))

@@ -1,0 +1,8 @@
+use Rattle.std.proofs.Common.{◌≡◌}
+use Rattle.sqz_look_cli.specs.Failures.{IsAnswerExit}
+use Rattle.sqz_look_cli.specs.Warnings.{IsSilent}
+use Rattle.sqz_look_cli.proofs.each.answer_each.Given as goal
+
+abbrev pub invariant-loop-path : goal.invariant-loop-path
+invariant-loop-path g l =
+    IsAnswerExit l.exit × (l.exit ≡ 0 → IsSilent g.T.File.Read.remaining l.session.weak l.initial.err l.err)

@@ -1,0 +1,132 @@
+//! A question about each of some images.
+
+ghost use Rattle.std.specs.Prelude.{◌≡◌, IfOk};
+ghost use Rattle.sqz_look_cli.specs.Failures.{IsAnswerExit};
+ghost use Rattle.sqz_look_cli.specs.Warnings.{IsSilent};
+
+use crate::failure::Failure;
+use crate::loading::{Loaded, load};
+use crate::messages::explain_failure;
+use crate::session::Session;
+use crate::warnings::warn;
+use sqz_cli::{BAD_IMAGE, DONE};
+use sqz_image::Sink;
+use sqz_look::{print_census, print_dead_census};
+use sqz_look_args::EachQuestion;
+use sqz_look_check::{print_digest, print_info, print_info_unreadable};
+use sqz_look_view::{Out, PrintError, Subject};
+use std::fmt;
+use std::io::Read;
+use std::rt::Files;
+use std::thread::Threads;
+
+/// The line of the text form before the answer about one of several images.
+#[derive(Clone, Copy)]
+struct Heading<'a>(&'a str);
+
+impl fmt::Display for Heading<'_> {
+    fn fmt<W: fmt::Write>(&self, f: &mut fmt::Formatter<W>) -> fmt::Result {
+        write!(f, "{}:", self.0)
+    }
+}
+
+/// Prints the answer to a question about the image in each of some files, each before the next is
+/// read, and returns the exit: that of the worst image. If a file cannot be read or holds no image,
+/// a line on `err` says so, and the next one has its answer all the same.
+pub(crate) fn answer_each<T: Files + Threads + Sync, C: Sink, E: Sink>(
+    session: &Session<'_, T>,
+    paths: &[&str],
+    question: EachQuestion,
+    out: &mut Out<'_, C>,
+    err: &mut E,
+) -> Result<u8, Failure>
+    ensures exits { IfOk result IsAnswerExit }
+    ensures silent { IfOk result (λ exit. exit ≡ 0
+        → IsSilent T.File.remaining session.now.weak err.old err.new) }
+{
+    let mut exit = DONE;
+    for path in paths {
+        if paths.len() > 1 && question != EachQuestion::Digest {
+            out.text(&Heading(path))?;
+        }
+        exit = exit.max(answer_one(session, path, question, out, err)?);
+        out.flush()?;
+    }
+    Ok(exit)
+}
+
+/// Prints the answer to a question about the image in a file, or why there is none, and returns the
+/// exit. Fails if memory runs out or the answer cannot be printed.
+fn answer_one<T: Files + Threads + Sync, C: Sink, E: Sink>(
+    session: &Session<'_, T>,
+    path: &str,
+    question: EachQuestion,
+    out: &mut Out<'_, C>,
+    err: &mut E,
+) -> Result<u8, Failure>
+    ensures exits { IfOk result IsAnswerExit }
+    ensures silent { IfOk result (λ exit. exit ≡ 0
+        → IsSilent T.File.remaining session.now.weak err.old err.new) }
+{
+    match answer_about(session, path, question, out, err) {
+        Ok(exit) => Ok(exit),
+        Err(Failure::OutOfMemory) => Err(Failure::OutOfMemory),
+        Err(Failure::NotPrinted) => Err(Failure::NotPrinted),
+        Err(failure) => Ok(explain_failure(&failure, Some(path), err)),
+    }
+}
+
+/// Prints the answer to a question about the image in a file, and returns the exit.
+fn answer_about<T: Files + Threads + Sync, C: Sink, E: Sink>(
+    session: &Session<'_, T>,
+    path: &str,
+    question: EachQuestion,
+    out: &mut Out<'_, C>,
+    err: &mut E,
+) -> Result<u8, Failure>
+    ensures exits { IfOk result IsAnswerExit }
+    ensures silent { IfOk result (λ exit.
+        IsSilent T.File.remaining session.now.weak err.old err.new) }
+{
+    match load(session.rt, session.alloc, path)? {
+        Loaded::Image(image) => {
+            let subject = session.subject(&image)?;
+            match question {
+                EachQuestion::Info => print_info(session.rt, &subject, path, out)?,
+                EachQuestion::Digest => {
+                    warn(session.rt, &subject, path, err)?;
+                    print_digest(&subject, path, out)?;
+                }
+                EachQuestion::Census { dead } => {
+                    warn(session.rt, &subject, path, err)?;
+                    print_census_of(session.rt, &subject, path, dead, out)?;
+                }
+            }
+            Ok(DONE)
+        }
+        Loaded::Unreadable(unreadable) => match question {
+            EachQuestion::Info => {
+                print_info_unreadable(session.alloc, &unreadable, path, out)?;
+                Ok(BAD_IMAGE)
+            }
+            EachQuestion::Census { .. } | EachQuestion::Digest => {
+                Err(Failure::NotThere(unreadable.message(session.alloc)?))
+            }
+        },
+    }
+}
+
+/// Prints a class histogram of the live objects of an image, or of the dead ones.
+fn print_census_of<T: Threads + Sync, C: Sink>(
+    rt: &T,
+    subject: &Subject<'_>,
+    path: &str,
+    dead: bool,
+    out: &mut Out<'_, C>,
+) -> Result<(), PrintError> {
+    if dead {
+        print_dead_census(rt, subject, path, out)
+    } else {
+        print_census(rt, subject, path, out)
+    }
+}
