@@ -2,11 +2,12 @@
 _sqzlook() {
   local word=${COMP_WORDS[COMP_CWORD]} options='--clear-weak --json --help'
   if ((COMP_CWORD == 1)); then
-    mapfile -t COMPREPLY < <(compgen -W 'check info census list show why refs top diff --help --version' -- "$word")
+    mapfile -t COMPREPLY < <(compgen -W 'check info census digest list show why refs top diff --help --version' -- "$word")
     return
   fi
   case ${COMP_WORDS[1]} in
-    check | list | show | refs | diff) options+=' --all' ;;
+    check | show | refs | diff) options+=' --all' ;;
+    list) options+=' --all --by --dead' ;;
     census) options+=' --all --dead' ;;
     why) options+=' --all --raw' ;;
     top) options+=' --depth --min --folded --svg' ;;

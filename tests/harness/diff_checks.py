@@ -3,7 +3,7 @@
 import typing
 
 from tests.harness.json_rows import difference, rows_of
-from tests.harness.look_checks import LookTest
+from tests.harness.look_checks import LookTest, warning_about
 from tests.harness.sqzlook import CLEAR, look_at_all
 from tests.reference.answers import Answers
 from tests.reference.changes import Changes, Side
@@ -20,6 +20,12 @@ class Pair(typing.NamedTuple):
     new: Side
     paths: tuple
     options: tuple = ()
+
+    @property
+    def warnings(self):
+        """The lines on standard error."""
+        sides = zip((self.old, self.new), self.paths)
+        return "".join(warning_about(side.answers, path) for side, path in sides)
 
 
 def side_of(file, options=()):
@@ -48,11 +54,12 @@ class DiffTest(LookTest):
             changes = Changes(pair.old, pair.new)
             for form in FORMS:
                 with self.subTest(pair.paths, options=pair.options, form=form):
-                    self.check_outcome(next(outcomes), form, changes)
+                    outcome = next(outcomes)
+                    self.assert_warned(outcome, changes.status, pair.warnings)
+                    self.check_printed(outcome, form, changes)
 
-    def check_outcome(self, outcome, form, changes):
-        """Checks how a run ended, and what it printed in a form."""
-        self.assert_quiet(outcome, changes.status)
+    def check_printed(self, outcome, form, changes):
+        """Checks what a run printed in a form."""
         if form == JSON:
             found, expected = rows_of(outcome.stdout), changes.rows()
         else:

@@ -5,15 +5,18 @@ import typing
 from tests.harness.json_rows import difference, rows_of
 from tests.harness.program_checks import ProgramTest
 from tests.harness.sqzlook import CLEAR, look_at_all
+from tests.reference.alike import digest_of
 from tests.reference.answers import Answers
 
 
 class Question(typing.NamedTuple):
-    """The words of a command line with `--json`, the rows that it must print, and its exit."""
+    """The words of a command line with `--json`, the rows that it must print, its exit, and the
+    warnings on standard error."""
 
     words: tuple
     rows: list
     status: int = 0
+    warnings: str = ""
 
 
 def as_words(group, names):
@@ -21,6 +24,12 @@ def as_words(group, names):
     if group.a_class is None:
         return ("compact", str(group.compact))
     return (names.address(group.a_class),)
+
+
+def warning_about(answers, path):
+    """The line on standard error about an image, if it is not sound."""
+    faults, prefix = answers.defects, len(answers.image.prefix)
+    return f"sqzlook: {path}: not sound: {faults[0].line(prefix)}\n" if faults else ""
 
 
 class Asking:
@@ -31,7 +40,10 @@ class Asking:
         self.answers = Answers(image, clear_weak=options == CLEAR)
 
     def question(self, command, *words, rows, status=0):
-        return Question((command, "--json", *self.options, self.path, *words), rows, status)
+        warns = command not in ("check", "info")
+        warnings = warning_about(self.answers, self.path) if warns else ""
+        words = (command, "--json", *self.options, self.path, *words)
+        return Question(words, rows, status, warnings)
 
     def of_image(self):
         """The questions about the whole image."""
@@ -41,8 +53,9 @@ class Asking:
             self.question("check", rows=[answers.check(path)], status=status),
             self.question("check", "--all", rows=[answers.check(path, True)], status=status),
             self.question("info", rows=[answers.info(path)]),
-            self.question("census", rows=answers.census()),
-            self.question("census", "--dead", rows=answers.census(dead=True)),
+            self.question("census", rows=answers.census(path)),
+            self.question("census", "--dead", rows=answers.census(path, dead=True)),
+            self.question("digest", rows=[{"image": path, "digest": digest_of(answers)}]),
         ]
 
     def of_object(self, command, number):
@@ -57,11 +70,16 @@ class Asking:
 
     def of_groups(self, groups):
         """What `list` prints about the live objects of these classes and compact indexes."""
-        names = self.answers.names
-        return [
-            self.question("list", *as_words(group, names), rows=self.answers.list(group))
-            for group in groups
-        ]
+        answers, questions = self.answers, []
+        for group in groups:
+            words, dead = as_words(group, answers.names), answers.dead_list(group)
+            by_size = answers.list(group, by="size")
+            questions += [
+                self.question("list", *words, rows=answers.list(group)),
+                self.question("list", *words, "--by", "size", rows=by_size),
+                self.question("list", *words, "--dead", rows=dead),
+            ]
+        return questions
 
 
 class LookTest(ProgramTest):
@@ -77,8 +95,12 @@ class LookTest(ProgramTest):
 
     def assert_answers(self, outcome, question):
         """Checks the exit of a run, and the rows that it printed."""
-        self.assert_quiet(outcome, question.status)
+        self.assert_warned(outcome, question.status, question.warnings)
         self.assertIsNone(difference(rows_of(outcome.stdout), question.rows))
+
+    def assert_warned(self, outcome, status, warnings):
+        """Checks the exit of a run, and what it printed on standard error."""
+        self.assertEqual((outcome.status, outcome.stderr.decode()), (status, warnings))
 
     def assert_refused(self, outcome, path, message, status=1):
         """Checks for a message about a file, and an exit."""

@@ -5,7 +5,7 @@ import typing
 
 from tests.harness.drawing import Drawing, contrast_with_black
 from tests.harness.json_rows import difference, rows_of
-from tests.harness.look_checks import LookTest
+from tests.harness.look_checks import LookTest, warning_about
 from tests.harness.sqzlook import look_at_all
 from tests.reference.tree import Tree, folded, percent
 
@@ -55,7 +55,7 @@ class TopTest(LookTest):
             outcomes = look_at_all(lines, folder or self.folder)
             for (it, shape), line, outcome in zip(asked, lines, outcomes):
                 with self.subTest(" ".join(line)):
-                    self.assert_quiet(outcome)
+                    self.assert_warned(outcome, 0, warning_about(it.tree.answers, it.path))
                     self.check_form(form, it.tree, shape, outcome.stdout)
 
     def check_form(self, form, tree, shape, text):

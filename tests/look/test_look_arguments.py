@@ -18,10 +18,10 @@ class LookArgumentsTest(DeadArrayTest):
             "an image in place of a command": ("in",),
             "an option of another program": ("info", "--workers", "1", "in"),
             "a value for a flag": ("info", "--json=1", "in"),
-            "two images": ("info", "in", "in"),
+            "two images": ("top", "in", "in"),
             "no object": ("show", "in"),
             "no class": ("list", "in"),
-            "a class for a census": ("census", "in", "Point"),
+            "no order": ("list", "--by", "name", "in", "Point"),
         }.items():
             with self.subTest(name):
                 self.assert_explained(self.look(*words))

@@ -72,7 +72,8 @@ class FolderTest(SavedImageTest):
         """Checks for a line about each of these files."""
         lines = outcome.stdout.decode().splitlines()
         self.assertEqual(len(lines), len(names))
-        size = f"{len(self.image.objects)} objects, {4 * len(self.image.words)} bytes live"
+        count, words = len(self.image.objects), len(self.image.words)
+        size = f"{count} objects, {count} live, {4 * words} bytes live"
         for line, name in zip(lines, names):
             fault = self.checked[name].fault
             self.assertEqual(line, f"{name}: {fault.line(0) if fault else f'sound, {size}'}")

@@ -1,6 +1,7 @@
 """Asks `sqzlook` about a small image with names of all kinds, by name and by address, and about
 copies of it in which random words make names wrong."""
 
+import collections
 import random
 import unittest
 
@@ -158,10 +159,27 @@ class ArgumentsTest(LookTest):
             with self.subTest(name):
                 self.assert_shown(self.names.address(self.names.method_named(name)), name)
 
+    def test_labels(self):
+        """Each label that one object has stands for it."""
+        names, count = self.names, len(self.image.objects)
+        found = collections.Counter(map(names.label, range(count)))
+        alone = [it for it in range(count) if found[names.label(it)] == 1]
+        lines = [("show", "--json", FILE, "--", names.label(it)) for it in alone]
+        for number, line, outcome in zip(alone, lines, look_at_all(lines, self.folder)):
+            with self.subTest(line[-1]):
+                (row,) = rows_of(self.printed_by(outcome))
+                self.assertEqual(row["address"], names.address(number))
+
+    def test_special_objects(self):
+        nil = self.names.address(self.names.target(self.image.special, 0))
+        for words in (("special", "object", "0"), ("special object 0, nil",)):
+            with self.subTest(words):
+                self.assert_shown(nil, *words)
+
     def test_addresses(self):
         address = self.class_address("Point")
         short = address.lstrip("0")
-        for word in (address, short, f"0x{short}", f"0x{address}", short.upper()):
+        for word in (address, short, f"0x{short}", f"0X{address}", short.upper()):
             with self.subTest(word):
                 self.assert_shown(address, word)
 
@@ -181,12 +199,14 @@ class ArgumentsTest(LookTest):
 
     def test_wrong_names(self):
         for command, words, message in (
-            ("show", ("Nowhere",), "no class or method is named Nowhere"),
-            ("why", ("Nowhere", "class"), "no class or method is named Nowhere class"),
-            ("refs", ("Point>>-",), "no class or method is named Point>>-"),
-            ("show", ("123456789",), "no class or method is named 123456789"),
+            ("show", ("Nowhere",), "no object is named Nowhere"),
+            ("why", ("Nowhere", "class"), "no object is named Nowhere class"),
+            ("refs", ("Point>>-",), "no object is named Point>>-; near: Point>>+, Point>>x"),
+            ("show", ("123456789",), "no object is named 123456789"),
+            ("show", ("special object 999",), "there is no special object 999"),
+            ("show", ("origin",), "no object is named origin; near: Point class variable Origin"),
             ("list", ("Nowhere",), "no class is named Nowhere"),
-            ("list", ("Point>>+",), "no class is named Point>>+"),
+            ("list", ("pint",), "no class is named pint; near: Point"),
         ):
             with self.subTest(command, words=words):
                 outcome = look(command, FILE, *words, folder=self.folder)

@@ -86,7 +86,7 @@ class CensusTest(unittest.TestCase):
 
     def check_census(self, answers, text):
         """Compares all but the addresses, which are those of OUT in the text."""
-        *rows, last = answers.census()
+        *rows, last = answers.census("")
         *lines, total = text.splitlines()
         stated = [LINE.fullmatch(line).group(1, 2, 4) for line in lines]
         found = [(str(row["objects"]), str(row["bytes"]), row["class"]) for row in rows]

@@ -4,6 +4,9 @@ Each image is written down by itself: its live objects in the order of a breadth
 the places of objects in that order instead of pointers. Two images are alike if both are the same.
 """
 
+import hashlib
+import struct
+
 from tests.reference.file_format import bytes_of
 from tests.reference.objects import Format, compact_index, format_of, traced_end
 
@@ -61,3 +64,20 @@ def first_difference(old, new):
         if form != other_form:
             return number, other
     return None
+
+
+# The number of each kind of header, by its words before the base header.
+KINDS = {2: 0, 1: 1, 0: 3}
+
+
+def digest_of(answers):
+    """The SHA-256 of what is written down of an image, as words of four bytes, lowest first."""
+    places, hasher = Places(answers), hashlib.sha256()
+    for number, form in places.forms():
+        (before, length), (kind, index, bits), a_class, fields, rest = form
+        words = [KINDS[before], length, kind, index, bits >> 17, len(fields)]
+        for what, value in (*a_class, *fields):
+            words += (1 if what == "object" else 0), value
+        hasher.update(struct.pack(f"<{len(words)}I", *words))
+        hasher.update(rest if isinstance(rest, bytes) else struct.pack(f"<{len(rest)}I", *rest))
+    return hasher.hexdigest()

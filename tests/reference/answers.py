@@ -4,9 +4,11 @@ import functools
 import typing
 
 from tests.reference.faults import Defects
+from tests.reference.fields import SPECIAL_NAMES, AssociationField
 from tests.reference.names import Names, escaped
 from tests.reference.objects import compact_index, format_of, has_bytes, traced_end
 from tests.reference.reachability import Reachability
+from tests.reference.values import preview, signed, value_of
 
 
 class Group(typing.NamedTuple):
@@ -23,11 +25,6 @@ class Slot(typing.NamedTuple):
     kind: str
     word: int
     target: int | None
-
-
-def signed(word):
-    """The number of a SmallInteger."""
-    return (word >> 1) - (word >> 31 << 31)
 
 
 class Answers:
@@ -62,6 +59,7 @@ class Answers:
             "image": path,
             "sound": not self.faults,
             "objects": len(self.image.objects),
+            "live_objects": len(self.live),
             "live_bytes": self.reach.live_bytes,
             "faults": self.faults if show_all else self.faults[:1],
         }
@@ -111,7 +109,7 @@ class Answers:
     def live_groups(self):
         return self.groups(self.live)
 
-    def census(self, dead=False):
+    def census(self, path, dead=False):
         """The class histogram of the live or the dead objects."""
         numbers = range(len(self.image.objects))
         chosen = [number for number in numbers if self.is_live(number) != dead]
@@ -119,7 +117,7 @@ class Answers:
         sizes = {group: self.reach.bytes_of(its) for group, its in groups.items()}
         order = sorted(groups, key=lambda group: (-sizes[group], group.a_class is None, group))
         rows = [self.census_row(group, groups[group]) for group in order]
-        return [*rows, self.census_row(None, chosen)]
+        return [{"image": path, **row} for row in (*rows, self.census_row(None, chosen))]
 
     def census_row(self, group, numbers):
         """The row of the objects of a group, or of all."""
@@ -131,24 +129,47 @@ class Answers:
         size = self.reach.bytes_of(numbers)
         return {"class": name, "address": address, "objects": len(numbers), "bytes": size}
 
-    def list(self, group):
+    def list(self, group, by="retained"):
         """The live objects of a group."""
-        numbers = self.live_groups.get(group, [])
-        sizes = self.reach.sizes
-        rows = [
-            {
-                "address": self.names.address(number),
-                "bytes": sizes[number],
-                "retained": self.retained(number),
-            }
-            for number in sorted(numbers, key=lambda number: (-sizes[number], number))
-        ]
-        last = {
-            "objects": len(numbers),
-            "bytes": self.reach.bytes_of(numbers),
-            "retained_together": self.reach.retained_bytes(numbers),
+        numbers, sizes = self.live_groups.get(group, []), self.reach.sizes
+        rows = sorted(map(self.instance_row, numbers), key=lambda row: -row["bytes"])
+        if by == "retained":
+            rows.sort(key=lambda row: -row["retained"])
+        together = self.reach.retained_bytes(numbers)
+        return [*rows, self.total_row(numbers, together)]
+
+    def dead_list(self, group):
+        """The objects of a group that are not live."""
+        dead = [it for it in range(len(self.image.objects)) if not self.is_live(it)]
+        numbers = self.groups(dead).get(group, [])
+        rows = sorted(map(self.instance_row, numbers), key=lambda row: -row["bytes"])
+        return [*rows, self.total_row(numbers, None)]
+
+    def total_row(self, numbers, together):
+        """The row of all objects of a list."""
+        size = self.reach.bytes_of(numbers)
+        return {"objects": len(numbers), "bytes": size, "retained_together": together}
+
+    def instance_row(self, number):
+        """The row of an object in a list."""
+        return {
+            "address": self.names.address(number),
+            "bytes": self.reach.sizes[number],
+            "retained": self.retained(number),
+            "preview": preview(self.names, number),
+            "variable": self.holders.get(number),
         }
-        return [*rows, last]
+
+    @functools.cached_property
+    def holders(self):
+        """The label of the first live variable that holds each object, if one does."""
+        found = {}
+        for association in sorted(self.names.variables):
+            label = self.names.variables[association]
+            if self.is_live(association) and self.names.label(association) == label:
+                value = self.names.target(association, AssociationField.VALUE)
+                found.setdefault(value, label)
+        return found
 
     def show(self, number):
         """An object, its header, its slots and its text."""
@@ -166,6 +187,7 @@ class Answers:
             "format": format_of(header),
             "hash": header >> 17 & 0xFFF,
             "compact_index": compact_index(header),
+            "value": value_of(self.names, number),
             "slots": [self.slot_row(number, slot) for slot in self.slots(number)],
             "text": None if text is None else escaped(text),
         }
@@ -209,6 +231,8 @@ class Answers:
         if place < base:
             return {"slot": "class", "name": None}
         field = place - base - 1
+        if number == self.image.special:
+            return {"slot": field, "name": SPECIAL_NAMES.get(field)}
         return {"slot": field, "name": self.names.field_name(number, field)}
 
     def is_weak(self, number, place):
@@ -276,6 +300,7 @@ def unreadable_check(path, fault):
         "image": path,
         "sound": False,
         "objects": None,
+        "live_objects": None,
         "live_bytes": None,
         "faults": [fault],
     }

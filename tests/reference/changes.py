@@ -5,17 +5,19 @@ import functools
 import typing
 
 from tests.reference.alike import first_difference
-from tests.reference.answers import signed
-from tests.reference.fields import AssociationField
+from tests.reference.fields import AssociationField, ClassField
 from tests.reference.file_format import bytes_of
 from tests.reference.names import escaped
 from tests.reference.objects import Format, format_of, has_bytes, traced_end
 from tests.reference.tree import Tree
+from tests.reference.values import signed
 
 # The maximum number of rows of each kind in the text, unless all are requested.
 SHOWN = 20
 # The maximum number of characters of the name of a method that is printed.
 LONGEST = 80
+# The parts of the definition of a class.
+PARTS = "superclass", "instance_variables"
 # The elements of an array in a literal are compared down to this depth.
 DEPTH = 3
 # A last byte of at least this says that the last four bytes of a method are a source pointer.
@@ -43,6 +45,27 @@ class Method(typing.NamedTuple):
 
     bytes: int
     contents: tuple
+
+
+class Definition(typing.NamedTuple):
+    """A part of the definition of a class that differs."""
+
+    name: str
+    part: str
+    old: str | None
+    new: str | None
+
+    def row(self):
+        """What `--json` prints."""
+        return {"kind": "definition", **self._asdict()}
+
+    def line(self):
+        """The line of the text."""
+        old, new = (None if it is None else it or "none" for it in (self.old, self.new))
+        text = f"{self.name}: {self.part.replace('_', ' ')}"
+        if old is not None and new is not None:
+            return f"  changed  {text} {old} -> {new}"
+        return f"  added    {text} {new}" if old is None else f"  removed  {text} {old}"
 
 
 class Change(typing.NamedTuple):
@@ -87,12 +110,52 @@ class Side:
     def total(self):
         return Size(len(self.answers.live), self.answers.reach.live_bytes)
 
+    @functools.cache
+    def name(self, a_class):
+        """The whole name of a class."""
+        names = self.names
+        if a_class in names.constants or a_class not in names.class_labels:
+            return names.name(a_class)
+        if not names.is_metaclass(a_class):
+            return self.text(names.target(a_class, ClassField.NAME))
+        name = names.target(a_class, ClassField.INSTANCE, ClassField.NAME)
+        return names.name(a_class) if name is None else f"{self.text(name)} class"
+
+    def text(self, number):
+        """The bytes of a byte object as text. That of any other object is empty."""
+        return escaped(self.image.text(number) or b"")
+
+    @functools.cache
+    def label(self, association):
+        """The label of the association of a variable, with whole names."""
+        a_class = self.tree.variables[association].a_class
+        key = self.text(self.names.target(association, AssociationField.KEY))
+        return f"Smalltalk at: #{key}" if a_class is None else f"{self.name(a_class)} class variable {key}"
+
+    @functools.cached_property
+    def definitions(self):
+        """The superclasses and the instance variables of the live classes, by name."""
+        parts = collections.defaultdict(list), collections.defaultdict(list)
+        names, classes = self.names, set(self.names.classes)
+        for a_class in filter(self.answers.is_live, names.classes):
+            superclass = names.target(a_class, ClassField.SUPERCLASS)
+            array = names.target(a_class, ClassField.VARIABLES)
+            its = [] if array is None else names.fields(array)
+            texts = (
+                self.name(superclass) if superclass in classes else "nil",
+                " ".join("?" if it is None else self.text(it) for it in its),
+            )
+            for part, text in zip(parts, texts):
+                part[self.name(a_class)].append(text)
+        return [{name: ", ".join(its) for name, its in part.items()} for part in parts]
+
     @functools.cached_property
     def classes(self):
         """The size of the live instances of the classes with each name."""
         found = collections.defaultdict(Size)
         for number in self.answers.live:
-            name, size = self.names.class_name(number), self.answers.reach.sizes[number]
+            a_class, size = self.names.class_of(number), self.answers.reach.sizes[number]
+            name = self.names.class_name(number) if a_class is None else self.name(a_class)
             objects, total = found[name]
             found[name] = Size(objects + 1, total + size)
         return dict(found)
@@ -103,11 +166,11 @@ class Side:
         found = collections.defaultdict(Held)
         for number in self.tree.variables:
             if self.answers.is_live(number):
-                size, was_nil = found[self.names.label(number)]
+                size, was_nil = found[self.label(number)]
                 value = self.names.target(number, AssociationField.VALUE)
                 is_nil = self.names.constants.get(value) == "nil"
                 total = size + self.tree.retained[number]
-                found[self.names.label(number)] = Held(total, was_nil and is_nil)
+                found[self.label(number)] = Held(total, was_nil and is_nil)
         return dict(found)
 
     @functools.cached_property
@@ -116,7 +179,7 @@ class Side:
         found = collections.defaultdict(list)
         for number in self.tree.variables:
             if self.answers.is_live(number):
-                found[self.names.label(number)].append(self.value(number))
+                found[self.label(number)].append(self.value(number))
         return {name: ", ".join(texts) for name, texts in found.items()}
 
     def value(self, association):
@@ -143,7 +206,7 @@ class Side:
         for a_class, its in self.names.owned_methods(classes):
             for selector, number in sorted(its, key=lambda it: it[1]):
                 if self.answers.is_live(number):
-                    name = f"{self.names.name(a_class)}>>", escaped(selector)
+                    name = f"{self.name(a_class)}>>", escaped(selector)
                     size = self.answers.reach.sizes[number]
                     found[name, counts[name]] = Method(size, self.contents(number))
                     counts[name] += 1
@@ -192,6 +255,14 @@ def changes_of(old, new):
         yield Change(name, old.get(name), new.get(name))
 
 
+def text_changes(old, new, keeps_single):
+    """What has other texts in two images, first by the old names; with what one alone has, or not."""
+    for name in [*sorted(old), *sorted(new.keys() - old.keys())]:
+        its = old.get(name), new.get(name)
+        if its[0] != its[1] and (keeps_single or None not in its):
+            yield name, *its
+
+
 def cut(name):
     """The name of a method as it is printed."""
     return name if len(name) <= LONGEST else name[:LONGEST] + ".."
@@ -225,6 +296,11 @@ class Changes:
             for it in changes_of(old.values, new.values)
             if None not in (it.old, it.new) and it.old != it.new
         ]
+        self.definitions = [
+            Definition(it[0], part, *it[1:])
+            for part, its in zip(PARTS, zip(old.definitions, new.definitions))
+            for it in text_changes(*its, keeps_single=part == PARTS[0])
+        ]
         self.method_count = len(methods)
         self.methods = [
             it._replace(name=cut("".join(it.name[0])))
@@ -244,7 +320,7 @@ class Changes:
     @property
     def is_nameless(self):
         """Whether the images differ, but nothing by name does."""
-        named = self.classes, self.variables, self.values, self.methods
+        named = self.classes, self.variables, self.values, self.definitions, self.methods
         by_name = any(named) or self.old != self.new
         return self.difference is not None and not by_name
 
@@ -254,6 +330,7 @@ class Changes:
         rows += [self.row("class", change, Size._asdict) for change in self.classes]
         rows += [self.row("retained", change, bytes_in) for change in self.variables]
         rows += [self.row("value", change, str) for change in self.values]
+        rows += [it.row() for it in self.definitions]
         rows += [self.row("method", change, bytes_in) for change in self.methods]
         if self.is_nameless:
             objects = [side.answers.object_row(it) for side, it in self.differing()]
@@ -276,6 +353,10 @@ class Changes:
             (f"classes   {len(self.classes)} changed", map(self.class_line, self.classes)),
             (f"retained  {len(self.variables)} changed", map(self.variable_line, self.variables)),
             (f"values    {len(self.values)} changed", map(self.value_line, self.values)),
+            (
+                f"definitions {len(self.definitions)} changed",
+                (it.line() for it in self.definitions),
+            ),
             (f"methods   {numbers} of {self.method_count}", self.method_lines()),
         )
         yield (

@@ -13,6 +13,28 @@ class SpecialField(enum.IntEnum):
     COMPACT_CLASSES = 28
 
 
+# What fields of the special objects array point to, as `sqzlook` names it.
+SPECIAL_NAMES = {
+    3: "the scheduler",
+    8: "the globals",
+    14: "the display",
+    17: "the low space semaphore",
+    23: "the special selectors",
+    24: "the characters",
+    28: "the compact classes",
+    29: "the timer semaphore",
+    30: "the interrupt semaphore",
+    31: "a Float to copy",
+    32: "a LargePositiveInteger to copy",
+    33: "a Point to copy",
+    35: "a MethodContext to copy",
+    37: "a BlockContext to copy",
+    38: "the external objects",
+    41: "the finalization semaphore",
+    48: "the selector for a return through a dead context",
+}
+
+
 class ClassField(enum.IntEnum):
     """Fields of a class and of a metaclass. `FORMAT` is a SmallInteger that states fixed fields."""
 

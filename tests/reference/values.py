@@ -1,0 +1,71 @@
+"""The values of numbers and characters, and what other objects are in a few words."""
+
+import decimal
+import math
+import struct
+
+from tests.reference.objects import Format, format_of
+
+# A large integer of at most this many bytes is printed as a number.
+LONGEST = 8
+# The sign of a large integer, by its class.
+SIGNS = {"LargePositiveInteger": "", "LargeNegativeInteger": "-"}
+# The characters that are printed as they are.
+PRINTABLE = range(33, 127)
+
+
+def signed(word):
+    """The number of a SmallInteger."""
+    return (word >> 1) - (word >> 31 << 31)
+
+
+def fields_of(image, number):
+    it = image.objects[number]
+    return image.words[it.base + 1 : it.end]
+
+
+def float_text(number):
+    """A float, with all its digits and without an exponent."""
+    if math.isnan(number) or math.isinf(number):
+        return {"nan": "NaN", "inf": "inf", "-inf": "-inf"}[str(number)]
+    return format(decimal.Decimal(repr(number)), "f").removesuffix(".0")
+
+
+def value_of(names, number):
+    """The value of a float, a large integer or a character, as text."""
+    image, name = names.image, names.class_name(number)
+    fields, kind = fields_of(image, number), format_of(image.header_of(number))
+    if name == "Float" and kind in range(5, 8) and len(fields) == 2:
+        return float_text(*struct.unpack(">d", struct.pack(">2I", *fields)))
+    data = image.text(number) if name in SIGNS else None
+    if data is not None and len(data) <= LONGEST:
+        return SIGNS[name] + str(int.from_bytes(data, "little"))
+    if name == "Character" and fields and fields[0] & 1:
+        code = signed(fields[0])
+        return f"${chr(code)}" if code in PRINTABLE else f"Character value: {code}"
+    return None
+
+
+def element_count(names, number):
+    """The number of the indexed fields of an object, or None if its format has none."""
+    image, kind = names.image, format_of(names.image.header_of(number))
+    count = len(fields_of(image, number))
+    if kind == Format.INDEXED:
+        return count
+    if kind not in (Format.FIXED_AND_INDEXED, Format.WEAK):
+        return None
+    a_class = names.class_of(number)
+    fixed = None if a_class is None else image.fixed_fields(a_class)
+    return None if fixed is None or not 0 <= fixed <= count else count - fixed
+
+
+def preview(names, number):
+    """The value of an object, its label, or the number of its elements, if it has one of these."""
+    value = value_of(names, number)
+    if value is not None:
+        return value
+    label = names.label(number)
+    if label != f"{names.class_name(number)} {names.address(number)}":
+        return label
+    count = element_count(names, number)
+    return None if count is None else f"{count} element{'' if count == 1 else 's'}"
