@@ -43,7 +43,7 @@ pub record IsUnreachable (memory : Memory) (weak : Weak) (object : ℕ) : Type 0
   pub is_special : find memory memory.special ≡ Some start
   pub none : IsReachable (graph_from start memory weak) object → ⊥
 
--- steps lead from the first object of the list to the one at an index, as many as that is deep
-pub record IsPathBack (memory : Memory) (weak : Weak) (found from : List ℕ) (place : ℕ) (steps : List Step) : Type 0 where
+-- steps lead from the first object that was found to the one at a place, as many as that is deep
+pub record IsPathBack (memory : Memory) (weak : Weak) (found places from : List ℕ) (place : ℕ) (steps : List Step) : Type 0 where
   pub leads : LeadsBySlots memory weak (slice_index found 0) steps (slice_index found place)
-  pub deep : (search : IsSearchOf memory weak found from place) → length steps ≡ slice_index search.search.depths place
+  pub deep : (law : IsSearchOf memory weak found places from (length found)) → length steps ≡ slice_index law.search.depths place

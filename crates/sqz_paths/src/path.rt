@@ -1,8 +1,8 @@
 //! Paths along strong slots.
 
-ghost use Rattle.std.specs.Prelude.{◌≡◌, ◌<◌, ◌≤◌, length, slice_index, IfOk, IfSome, IfNone};
+ghost use Rattle.std.specs.Prelude.{◌<◌, length, IfOk, IfSome, IfNone};
 ghost use Rattle.sqz_paths.specs.Paths.{IsPathBack, IsShortestPath, IsUnreachable};
-ghost use Rattle.sqz_dominators.specs.Searching.{IsSearching};
+ghost use Rattle.sqz_dominators.specs.Searching.{IsWhole};
 
 use crate::slots_between::slot_between;
 use sqz_dominators::Search;
@@ -32,8 +32,8 @@ pub struct Path {
 /// this index, or None if no path leads to it. A step goes along the first slot of its object that
 /// points to the next one; the class word comes before the fields.
 ///
-/// The search is breadth-first, and ends when it comes to this object. It takes time linear in the
-/// words of the heap, and eight bytes per object. Fails only if out of memory.
+/// A breadth-first search finds all objects. It takes time linear in the words of the heap, and
+/// twelve bytes per object. Fails only if out of memory.
 pub fn path_to(
     alloc: Global,
     graph: ObjectGraph<'_>,
@@ -44,33 +44,26 @@ pub fn path_to(
     ensures none { IfOk result (λ found. IfNone found
         (IsUnreachable graph.entry.heap.now graph.entry.weak object)) }
 {
-    let mut search = Search::new(alloc, graph)?;
-    let mut place = 0;
-    while place < search.found.len() {
-        if search.found[place] == object {
-            let path = path_back(alloc, &search, place)?;
-            return Ok(Some(path));
-        }
-        search.follow(place)?;
-        place += 1;
+    let search = Search::whole(alloc, graph)?;
+    match search.place(object) {
+        Some(place) => Ok(Some(path_back(alloc, &search, place)?)),
+        None => Ok(None),
     }
-    Ok(None)
 }
 
-/// Returns the path to the object at index `place` of the list of found objects, by following back
-/// the objects that led to each.
+/// Returns the path to the object at a place, by following back the objects that led to each.
 fn path_back(alloc: Global, search: &Search<'_>, place: usize) -> Result<Path, AllocError>
-    requires searching { IsSearching search.now place }
+    requires whole { IsWhole search.now }
     requires inside { place < length search.now.found.items }
     ensures { IfOk result (λ path.
         IsPathBack search.now.graph.heap.now search.now.graph.weak search.now.found.items
-        search.now.from.items place path.steps.items) }
+        search.now.places.items search.now.from.items place path.steps.items) }
 {
     let mut steps = Vec::new(alloc);
     let mut next = place;
     while next > 0 {
         let object = search.found[next];
-        next = search.from[object as usize] as usize;
+        next = search.from[next] as usize;
         let edges = search.graph.edges(search.found[next]);
         match slot_between(&edges, object) {
             Some(slot) => steps.push(Step { slot, object })?,

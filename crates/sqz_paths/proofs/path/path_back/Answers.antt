@@ -5,17 +5,17 @@ use Rattle.sqz_trace.specs.Edges.{OutEdges, out_edges, strong_slots, HasEdge}
 use Rattle.sqz_trace.proofs.TargetLemmas.{IsTargetAmong-edge}
 use Rattle.sqz_paths.specs.declared.path.Step.{Step}
 use Rattle.sqz_paths.specs.Paths.{IsFirstSlotTo, LeadsBySlots}
-use Rattle.sqz_paths.proofs.PathLemmas.{IsReadBack, found-is, found-inside, before-earlier, before-edge, before-deep, before-is}
+use Rattle.sqz_paths.proofs.PathLemmas.{IsReadBack, found-is, before-earlier, before-edge, before-deep, before-is}
 use Rattle.sqz_paths.proofs.path.path_back.Goals as goal
 use Rattle.sqz_paths.proofs.path.path_back.Goals.{After-edges-arg-1}
 
 -- what was read of the object at the place, and of the one before
 read : (c : After-edges-arg-1)
-    → IsReadBack c.args.search.now.graph.heap.now c.args.search.now.graph.weak c.args.search.now.found.items c.args.search.now.from.items c.args.place
-    c.loop-next.next c.index-object.result.now c.index.result.now
+    → IsReadBack c.args.search.now.graph.heap.now c.args.search.now.graph.weak c.args.search.now.found.items c.args.search.now.places.items
+    c.args.search.now.from.items c.loop-next.next c.index-object.result.now c.index.result.now
 read c =
     record {
-      law = c.requires.searching;
+      law = c.requires.whole;
       here = c.loop-next.invariant.inside;
       some = c.loop-next-test.true;
       object_is = c.index-object.ensures;
@@ -24,12 +24,7 @@ read c =
 
 pub index-requires : goal.index-requires
 index-requires c =
-    omega (
-      arith,
-      found-inside c.args.search.now.graph.heap.now c.args.search.now.graph.weak _ _ c.args.place c.requires.searching c.loop-next.next c.loop-next.invariant.inside
-          c.index-object.result.now c.index-object.ensures,
-      c.args.search.now.from.ok.0,
-    )
+    omega (arith, c.loop-next.invariant.inside, c.requires.whole.search.linked, c.args.search.now.from.ok.0)
 
 pub index-requires-in-loop-next : goal.index-requires-in-loop-next
 index-requires-in-loop-next c =
@@ -40,7 +35,7 @@ edges-edges-requires c =
     let read = read (goal.at.edges-edges-requires c).After-edges-arg-1 in
     let is = before-is _ _ _ _ _ _ _ _ read c.index-in-loop-next.result.now c.index-in-loop-next.ensures in
     let earlier = before-earlier _ _ _ _ _ _ _ _ read in
-    omega (arith, is, c.requires.searching.search.inside c.index.result.now (omega (arith, earlier, c.loop-next.invariant.inside)))
+    omega (arith, is, c.requires.whole.search.order.inside c.index.result.now (omega (arith, earlier, c.loop-next.invariant.inside)))
 
 pub loop-next-smaller : goal.loop-next-smaller
 loop-next-smaller c = before-earlier _ _ _ _ _ _ _ _ (read (goal.at.loop-next-smaller c).After-edges-arg-1)
@@ -55,9 +50,7 @@ loop-next-preserved c =
     let step : Step = record { slot = c.in-Some.slot; object = object } in
     let pushed = c.in_ok-push-in-Some.ensures.items in
     let end = slice_index found c.args.place in
-    let is =
-    found-is memory c.args.search.now.graph.weak found _ c.args.place c.requires.searching c.loop-next.next so_far.inside object c.index-object.ensures
-    in
+    let is = found-is _ _ _ _ _ _ _ _ read in
     let there = before-is _ _ _ _ _ _ _ _ read c.index-in-loop-next.result.now c.index-in-loop-next.ensures in
     let rest = subst (λ (i : ℕ). LeadsBySlots memory c.args.search.now.graph.weak i (reverse c.loop-next.steps.items) end) (sym is) so_far.leads in
     let leads = subst (λ (it : OutEdges). IsFirstSlotTo it object c.in-Some.slot) c.edges-edges.ensures c.in-Some.ensures.first in

@@ -10,7 +10,8 @@ invariant-loop-next l =
       inside : l.next < length l.search.found.items;
       leads : LeadsBySlots l.search.graph.heap.now l.search.graph.weak (slice_index l.search.found.items l.next) (reverse l.steps.items)
           (slice_index l.search.found.items l.place);
-      deep : (law : IsSearchOf l.search.graph.heap.now l.search.graph.weak l.search.found.items l.search.from.items l.place)
+      deep : (law : IsSearchOf l.search.graph.heap.now l.search.graph.weak l.search.found.items l.search.places.items
+          l.search.from.items (length l.search.found.items))
           → slice_index law.search.depths l.next + length l.steps.items ≡ slice_index law.search.depths l.place;
     }
 
