@@ -8,6 +8,7 @@ mod find;
 mod holders;
 mod labelled;
 mod list;
+mod method_view;
 mod near_names;
 mod path_rows;
 mod paths;

@@ -16,6 +16,9 @@ use std::fmt;
 /// A reference: the object that holds it, and its slot.
 #[derive(Drop, Serialize)]
 struct ReferenceView {
+    /// The address of the object that it points to.
+    #[serde(rename = "to")]
+    target: Hex,
     address: Hex,
     class: String,
     label: ObjectLabel,
@@ -31,6 +34,7 @@ impl ReferenceView {
     /// Returns the row of a reference. `names` are the names of the slots of any object.
     fn of(
         inspector: &Inspector<'_>,
+        target: Hex,
         names: &mut SlotNames,
         reference: Reference,
     ) -> Result<Self, AllocError>
@@ -39,6 +43,7 @@ impl ReferenceView {
         let object = reference.object;
         names.set_object(inspector, object)?;
         Ok(ReferenceView {
+            target,
             address: inspector.address(object),
             class: inspector.names.name_of_class_of(object)?,
             label: ObjectLabel::of(inspector, object)?,
@@ -69,9 +74,10 @@ pub fn print_refs<C: Sink>(
     let references = references_to(inspector.alloc, &inspector.live, object)?;
     let references = references.as_slice();
     out.text(&head_line(inspector, object, references.len())?)?;
+    let target = inspector.address(object);
     let mut names = SlotNames::none(inspector.alloc);
     for reference in &references[..out.shown(references.len())] {
-        out.emit(&ReferenceView::of(inspector, &mut names, *reference)?)?;
+        out.emit(&ReferenceView::of(inspector, target, &mut names, *reference)?)?;
     }
     out.rest(references.len(), "reference")
 }

@@ -4,6 +4,7 @@ ghost use Rattle.std.specs.Prelude.{◌<◌, ◌≤◌};
 ghost use Rattle.sqz_image.specs.Objects.{object_count, chunk_words};
 ghost use Rattle.sqz_answers.specs.Shown.{shown_count};
 
+use crate::method_view::MethodView;
 use crate::slot_rows::SlotView;
 use crate::slots::SlotNames;
 use crate::values::value_text;
@@ -36,6 +37,8 @@ struct ObjectView {
     compact_index: u32,
     /// The value of a number or a character.
     value: Option<String>,
+    /// What the header of a method says.
+    method: Option<MethodView>,
     /// The first slots, or all.
     slots: Vec<SlotView>,
     /// The number of slots that are left out.
@@ -91,6 +94,7 @@ pub fn print_show<C: Sink>(
         hash: facts.hash,
         compact_index: facts.compact_index,
         value: value_text(inspector, object)?,
+        method: MethodView::of(inspector.live.graph.heap, object),
         slots: slots_of(inspector, object, shown)?,
         more_slots: (count - shown) as usize,
         text,
@@ -181,8 +185,11 @@ impl ObjectView {
             "\n  {:<10}{words}, format {format}, hash {hash}, compact index {compact}",
             "header"
         )?;
-        match &self.value {
-            Some(value) => write!(f, "\n  {:<10}{}", "value", value.as_str()),
+        if let Some(value) = &self.value {
+            write!(f, "\n  {:<10}{}", "value", value.as_str())?;
+        }
+        match &self.method {
+            Some(method) => write!(f, "\n  {:<10}{method}", "method"),
             None => Ok(()),
         }
     }

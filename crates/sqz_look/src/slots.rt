@@ -42,6 +42,8 @@ pub(crate) struct SlotNames {
     has_variables: bool,
     /// Whether the object is the special objects array.
     is_special: bool,
+    /// Whether the object is a compiled method.
+    is_method: bool,
     /// The first indexed field, if the object has such fields.
     first_indexed: Option<u32>,
 }
@@ -55,6 +57,7 @@ impl SlotNames {
             variables: Vec::new(alloc),
             has_variables: false,
             is_special: false,
+            is_method: false,
             first_indexed: None,
         }
     }
@@ -80,7 +83,8 @@ impl SlotNames {
         let graph = inspector.live.graph;
         let layout = graph.heap.object(object).layout();
         let facts = object_facts(graph, object);
-        self.has_variables = !matches!(layout, Layout::Bytes { .. } | Layout::Method);
+        self.is_method = layout == Layout::Method;
+        self.has_variables = !self.is_method && !matches!(layout, Layout::Bytes { .. });
         self.is_special = object == graph.heap.special();
         self.first_indexed = match facts.format {
             INDEXED => Some(0),
@@ -113,20 +117,21 @@ impl SlotNames {
     }
 
     /// Returns a slot as text: `.NAME`, `[K]` with the index of an indexed field counted from 1,
-    /// `special object K` with the number of a field of the special objects array and its name,
-    /// `class`, or `field K`.
+    /// `literal K` counted from 1 and `header` of a method, `special object K` with the number of a
+    /// field of the special objects array and its name, `class`, or `field K`.
     pub(crate) fn text(&self, slot: Slot) -> Result<String, AllocError> {
         let alloc = self.alloc;
         let Slot::Field(index) = slot else {
             return String::from_str(alloc, "class");
         };
-        match self.name(slot)? {
-            Some(name) if self.is_special => {
-                return format!(in alloc; "special object {index}, {name}");
-            }
-            None if self.is_special => return format!(in alloc; "special object {index}"),
-            Some(name) => return format!(in alloc; ".{name}"),
-            None => {}
+        if self.is_special {
+            return special_text(alloc, index);
+        }
+        if self.is_method {
+            return method_text(alloc, index);
+        }
+        if let Some(name) = self.name(slot)? {
+            return format!(in alloc; ".{name}");
         }
         match self
             .first_indexed
@@ -135,6 +140,22 @@ impl SlotNames {
             Some(place) => format!(in alloc; "[{}]", u64::from(place) + 1),
             None => format!(in alloc; "field {index}"),
         }
+    }
+}
+
+/// Returns a field of the special objects array as text.
+fn special_text(alloc: Global, index: u32) -> Result<String, AllocError> {
+    match special_name(index) {
+        Some(name) => format!(in alloc; "special object {index}, {name}"),
+        None => format!(in alloc; "special object {index}"),
+    }
+}
+
+/// Returns a field of a compiled method as text.
+fn method_text(alloc: Global, index: u32) -> Result<String, AllocError> {
+    match index {
+        0 => String::from_str(alloc, "header"),
+        _ => format!(in alloc; "literal {index}"),
     }
 }
 

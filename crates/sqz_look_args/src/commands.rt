@@ -227,7 +227,8 @@ fn arg_of<'a>(alloc: Global, argument: Argument) -> Result<Arg<'a>, AllocError>
         Argument::Object => several(
             alloc,
             "OBJECT",
-            "An address in hexadecimal digits, a class, or a method as Point>>+",
+            "An address in hexadecimal digits, a class, or a method as Point>>+; after `--` each \
+             word is an object, and `-` takes those of standard input, one on each line",
         ),
         Argument::Class => several(
             alloc,

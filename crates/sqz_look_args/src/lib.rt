@@ -13,5 +13,7 @@ pub use bad_request::BadRequest;
 pub use commands::command;
 pub use list_order::{BadOrder, ListOrder};
 pub use percent::{BadPercent, Percent};
-pub use requests::{EachQuestion, Instances, NamedQuestion, ObjectQuestion, Question, Request};
+pub use requests::{
+    EachQuestion, Instances, NamedQuestion, ObjectQuestion, ObjectsAsked, Question, Request,
+};
 pub use top_options::{TopForm, TopOptions};

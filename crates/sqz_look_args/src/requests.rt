@@ -59,15 +59,16 @@ pub enum EachQuestion {
 /// for it, joined by spaces.
 #[derive(Drop)]
 pub enum NamedQuestion {
-    List {
-        class: String,
-        which: Instances,
-    },
+    List { class: String, which: Instances },
     Top(TopOptions),
-    About {
-        object: String,
-        question: ObjectQuestion,
-    },
+    About(ObjectsAsked),
+}
+
+/// A question that is asked about each of some objects.
+#[derive(Drop)]
+pub struct ObjectsAsked {
+    pub objects: Vec<String>,
+    pub question: ObjectQuestion,
 }
 
 /// Which instances of a class are listed.
@@ -88,9 +89,10 @@ pub enum ObjectQuestion {
 }
 
 impl<'a> Request<'a> {
-    /// Returns what the matches of `command` ask for. Fails if out of memory, and if an argument is
-    /// missing or `--min` has no percentage.
-    pub fn of(alloc: Global, matches: &ArgMatches<'a>) -> Result<Self, BadRequest<'a>>
+    /// Returns what the matches of `command` ask for. The last words of a line may stand apart, after
+    /// `--`: each is an object of its own. Fails if out of memory, and if an argument is missing or
+    /// `--min` has no percentage.
+    pub fn of(alloc: Global, matches: &ArgMatches<'a>, apart: usize) -> Result<Self, BadRequest<'a>>
         requires { HasCommand matches.now }
         ensures check { (rows : List Row)
             → subcommand_rows_of matches.now ≡ Some (codes "check", rows)
@@ -99,7 +101,7 @@ impl<'a> Request<'a> {
         let (word, matches) = matches.subcommand().unwrap();
         let name = Name::of(word).unwrap();
         Ok(Request {
-            question: question_of(alloc, name, matches)?,
+            question: question_of(alloc, name, matches, apart)?,
             clear_weak: flag_of(matches, "clear-weak"),
             json: flag_of(matches, "json"),
             all: flag_of(matches, "all"),
@@ -126,6 +128,7 @@ fn question_of<'a>(
     alloc: Global,
     name: Name,
     matches: &ArgMatches<'a>,
+    apart: usize,
 ) -> Result<Question<'a>, BadRequest<'a>>
     ensures check { let rows = rows_of (found_of matches.now) in name ≡ Name.Check
         → MatchResult result
@@ -156,12 +159,12 @@ fn question_of<'a>(
             which: asked_instances(matches)?,
         },
         Name::Top => NamedQuestion::Top(top_options(matches)?),
-        Name::Show => about_object(alloc, matches, ObjectQuestion::Show)?,
-        Name::Refs => about_object(alloc, matches, ObjectQuestion::Refs)?,
+        Name::Show => about_objects(alloc, matches, apart, ObjectQuestion::Show)?,
+        Name::Refs => about_objects(alloc, matches, apart, ObjectQuestion::Refs)?,
         Name::Why => {
             // JSON has each step
             let raw = flag_of(matches, "raw") || flag_of(matches, "json");
-            about_object(alloc, matches, ObjectQuestion::Why { raw })?
+            about_objects(alloc, matches, apart, ObjectQuestion::Why { raw })?
         }
     };
     let image = value_of(matches, "IMAGE")?;
@@ -178,14 +181,24 @@ fn about_each<'a>(
     Ok(Question::Each { images, question })
 }
 
-/// Returns a question about the object that the matches name.
-fn about_object(
+/// Returns a question about the objects that the matches name: the words before `--` name one
+/// together, and each of the words that stand apart names one.
+fn about_objects(
     alloc: Global,
     matches: &ArgMatches<'_>,
+    apart: usize,
     question: ObjectQuestion,
 ) -> Result<NamedQuestion, AllocError> {
-    let object = joined(alloc, &values_of(alloc, matches, "OBJECT")?)?;
-    Ok(NamedQuestion::About { object, question })
+    let words = values_of(alloc, matches, "OBJECT")?;
+    let (together, others) = words.split_at(words.len() - apart.min(words.len()));
+    let mut objects = Vec::new(alloc);
+    if !together.is_empty() {
+        objects.push(joined(alloc, together)?)?;
+    }
+    for word in others {
+        objects.push(String::from_str(alloc, word)?)?;
+    }
+    Ok(NamedQuestion::About(ObjectsAsked { objects, question }))
 }
 
 /// Returns which instances are asked for.

@@ -10,6 +10,8 @@ use std::fmt;
 pub(crate) enum Cause {
     File(FileKind),
     Pointer(BadWord),
+    /// Why a file cannot be read.
+    Read { reason: &'static str },
 }
 
 /// What a file is that is no supported image.
@@ -45,6 +47,7 @@ impl fmt::Display for Cause {
                 write!(f, " (version {version}, {name})")
             }
             Cause::Pointer(bad) => write!(f, "{bad}"),
+            Cause::Read { reason } => write!(f, ": {reason}"),
         }
     }
 }

@@ -3,7 +3,9 @@
 ghost use Rattle.std.specs.Prelude.{IfOk, IsTrue, ◌≡◌, ◌↔◌};
 ghost use Rattle.sqz_trace.specs.Faults.{first_fault};
 
+use crate::causes::Cause;
 use crate::faults::FaultView;
+use crate::read_failure::ReadFailure;
 use crate::unreadable::Unreadable;
 use serde::Serialize;
 use sqz_answers::{Findings, findings_of};
@@ -114,12 +116,14 @@ pub fn print_check_unreadable<C: Sink>(
     out.emit(&view)
 }
 
-/// Prints that a file could not be read.
+/// Prints that a file could not be read, and why.
 pub fn print_check_missing<C: Sink>(
     alloc: Global,
     path: &str,
+    failure: ReadFailure,
     out: &mut Out<'_, C>,
 ) -> Result<(), PrintError> {
-    let fault = FaultView::of(alloc, Fault::ReadFailed, None)?;
+    let cause = failure.reason().map(|reason| Cause::Read { reason });
+    let fault = FaultView::of(alloc, Fault::ReadFailed, cause)?;
     out.emit(&CheckView::unread(alloc, path, fault)?)
 }

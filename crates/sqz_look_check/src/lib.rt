@@ -8,6 +8,7 @@ mod digest;
 mod faults;
 mod file_kinds;
 mod info;
+mod read_failure;
 mod unreadable;
 mod versions;
 
@@ -15,4 +16,5 @@ pub use check::{print_check, print_check_missing, print_check_unreadable};
 pub use digest::print_digest;
 pub use faults::fault_message;
 pub use info::{print_info, print_info_unreadable};
+pub use read_failure::ReadFailure;
 pub use unreadable::Unreadable;

@@ -23,8 +23,8 @@ StopsChecks-printing printing.WriteFailed failure same = inr same
 pub exit_of_failure-range : (failure : Failure) → (1 ≤ exit_of_failure failure) × (exit_of_failure failure ≤ 4) × (exit_of_failure failure ≢ 2)
 exit_of_failure-range OutOfMemory = (omega arith, omega arith, λ same. omega arith)
 exit_of_failure-range NotPrinted = (omega arith, omega arith, λ same. omega arith)
-exit_of_failure-range NotRead = (omega arith, omega arith, λ same. omega arith)
-exit_of_failure-range (NotReadAt path) = (omega arith, omega arith, λ same. omega arith)
+exit_of_failure-range (NotRead why) = (omega arith, omega arith, λ same. omega arith)
+exit_of_failure-range (NotReadAt path why) = (omega arith, omega arith, λ same. omega arith)
 exit_of_failure-range (NotThere message) = (omega arith, omega arith, λ same. omega arith)
 
 -- the exit of an outcome is at most 4 and not 2

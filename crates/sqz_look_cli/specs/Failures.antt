@@ -10,8 +10,8 @@ use Rattle.sqz_look_cli.specs.declared.failure.Failure.TheVariants.{OutOfMemory,
 abbrev pub exit_of_failure : Failure → ℕ
 exit_of_failure OutOfMemory = 4
 exit_of_failure NotPrinted = 3
-exit_of_failure NotRead = 3
-exit_of_failure (NotReadAt path) = 3
+exit_of_failure (NotRead why) = 3
+exit_of_failure (NotReadAt path why) = 3
 exit_of_failure (NotThere message) = 1
 
 -- the exit of an answer, or that of the failure in its place

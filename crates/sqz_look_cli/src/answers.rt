@@ -1,6 +1,6 @@
 //! Answers to questions.
 
-ghost use Rattle.std.specs.Prelude.{◌≡◌, IfOk};
+ghost use Rattle.std.specs.Prelude.{◌≡◌, ◌≤◌, IfOk};
 ghost use Rattle.sqz_look_cli.specs.Checks.{EndsChecks};
 ghost use Rattle.sqz_look_cli.specs.Endings.{IfCheck};
 ghost use Rattle.sqz_look_cli.specs.Failures.{IsAnswerExit};
@@ -11,14 +11,13 @@ use crate::comparison::compare;
 use crate::each::answer_each;
 use crate::failure::Failure;
 use crate::loading::{Loaded, load};
+use crate::objects::answer_about_objects;
 use crate::session::Session;
 use crate::warnings::warn;
-use sqz_cli::DONE;
+use sqz_cli::{BAD_IMAGE, DONE};
 use sqz_image::Sink;
-use sqz_look::{
-    Found, find_class, find_object, print_dead_list, print_list, print_refs, print_show, print_why,
-};
-use sqz_look_args::{Instances, NamedQuestion, ObjectQuestion, Question};
+use sqz_look::{Found, find_class, print_dead_list, print_list};
+use sqz_look_args::{Instances, NamedQuestion, Question};
 use sqz_look_top::print_top;
 use sqz_look_view::{Inspector, Out};
 use std::io::Read;
@@ -55,38 +54,45 @@ fn answer_about<T: Files + Threads + Sync, C: Sink, E: Sink>(
     out: &mut Out<'_, C>,
     err: &mut E,
 ) -> Result<u8, Failure>
-    ensures exit { IfOk result (λ exit. exit ≡ DONE) }
-    ensures silent { IfOk result (λ exit.
-        IsSilent T.File.remaining session.now.weak err.old err.new) }
+    ensures exit { IfOk result (λ exit. exit ≤ BAD_IMAGE) }
+    ensures silent { IfOk result (λ exit. exit ≡ 0
+        → IsSilent T.File.remaining session.now.weak err.old err.new) }
 {
     let alloc = session.alloc;
     match load(session.rt, alloc, path)? {
         Loaded::Image(image) => {
             let subject = session.subject(&image)?;
             warn(session.rt, &subject, path, err)?;
-            answer_by_names(&Inspector::of(subject)?, question, out)?;
-            Ok(DONE)
+            let inspector = Inspector::of(subject)?;
+            let exit = answer_by_names(&inspector, path, question, out, err)?;
+            Ok(exit)
         }
         Loaded::Unreadable(unreadable) => Err(Failure::NotThere(unreadable.message(alloc)?)),
     }
 }
 
-/// Prints the answer to a question about what an image holds.
-fn answer_by_names<C: Sink>(
+/// Prints the answer to a question about what the image of a file holds, and returns the exit.
+fn answer_by_names<C: Sink, E: Sink>(
     inspector: &Inspector<'_>,
+    path: &str,
     question: &NamedQuestion,
     out: &mut Out<'_, C>,
-) -> Result<(), Failure> {
+    err: &mut E,
+) -> Result<u8, Failure>
+    ensures exit { IfOk result (λ exit. exit ≤ BAD_IMAGE) }
+    ensures silent { IfOk result (λ exit. exit ≡ 0 → err.new ≡ err.old) }
+{
     match question {
         NamedQuestion::List { class, which } => {
             answer_about_class(inspector, class.as_str(), *which, out)?;
+            Ok(DONE)
         }
-        NamedQuestion::Top(options) => print_top(inspector, *options, out)?,
-        NamedQuestion::About { object, question } => {
-            answer_about_object(inspector, object.as_str(), *question, out)?;
+        NamedQuestion::Top(options) => {
+            print_top(inspector, *options, out)?;
+            Ok(DONE)
         }
+        NamedQuestion::About(asked) => answer_about_objects(inspector, path, asked, out, err),
     }
-    Ok(())
 }
 
 /// Prints instances of the class that words stand for.
@@ -103,25 +109,6 @@ fn answer_about_class<C: Sink>(
     match which {
         Instances::Live(order) => print_list(inspector, group, order, out)?,
         Instances::Dead => print_dead_list(inspector, group, out)?,
-    }
-    Ok(())
-}
-
-/// Prints the answer to a question about the object that words stand for.
-fn answer_about_object<C: Sink>(
-    inspector: &Inspector<'_>,
-    words: &str,
-    question: ObjectQuestion,
-    out: &mut Out<'_, C>,
-) -> Result<(), Failure> {
-    let object = match find_object(inspector, words)? {
-        Found::One(object) => object,
-        Found::Nothing(message) => return Err(Failure::NotThere(message)),
-    };
-    match question {
-        ObjectQuestion::Show => print_show(inspector, object, out)?,
-        ObjectQuestion::Why { raw } => print_why(inspector, object, raw, out)?,
-        ObjectQuestion::Refs => print_refs(inspector, object, out)?,
     }
     Ok(())
 }

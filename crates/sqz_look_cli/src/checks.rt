@@ -53,8 +53,8 @@ fn check_one<T: Files + Threads + Sync, C: Sink>(
             print_check_unreadable(session.alloc, &unreadable, path, out)?;
             Ok(BAD_IMAGE)
         }
-        Err(LoadError::NotRead) => {
-            print_check_missing(session.alloc, path, out)?;
+        Err(LoadError::NotRead(failure)) => {
+            print_check_missing(session.alloc, path, failure, out)?;
             Ok(DEVICE_FAILED)
         }
         Err(LoadError::OutOfMemory) => Err(Failure::OutOfMemory),

@@ -53,7 +53,9 @@ fn image_at<T: Files>(rt: &T, alloc: Global, path: &str) -> Result<Image, Failur
             let message = format!(in alloc; "{path}: {message}")?;
             Err(Failure::NotThere(message))
         }
-        Err(LoadError::NotRead) => Err(Failure::NotReadAt(String::from_str(alloc, path)?)),
+        Err(LoadError::NotRead(failure)) => {
+            Err(Failure::NotReadAt(String::from_str(alloc, path)?, failure))
+        }
         Err(LoadError::OutOfMemory) => Err(Failure::OutOfMemory),
     }
 }

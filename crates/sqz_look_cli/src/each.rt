@@ -20,6 +20,23 @@ use std::io::Read;
 use std::rt::Files;
 use std::thread::Threads;
 
+/// A file with an image that is asked about.
+#[derive(Clone, Copy)]
+struct ImageFile<'a> {
+    path: &'a str,
+    is_one_of_several: bool,
+}
+
+impl ImageFile<'_> {
+    /// Prints the line of the text form before the answer, if there are several files.
+    fn print_heading<C: Sink>(&self, out: &mut Out<'_, C>) -> Result<(), PrintError> {
+        if self.is_one_of_several {
+            out.text(&Heading(self.path))?;
+        }
+        Ok(())
+    }
+}
+
 /// The line of the text form before the answer about one of several images.
 #[derive(Clone, Copy)]
 struct Heading<'a>(&'a str);
@@ -46,10 +63,11 @@ pub(crate) fn answer_each<T: Files + Threads + Sync, C: Sink, E: Sink>(
 {
     let mut exit = DONE;
     for path in paths {
-        if paths.len() > 1 && question != EachQuestion::Digest {
-            out.text(&Heading(path))?;
-        }
-        exit = exit.max(answer_one(session, path, question, out, err)?);
+        let file = ImageFile {
+            path,
+            is_one_of_several: paths.len() > 1,
+        };
+        exit = exit.max(answer_one(session, file, question, out, err)?);
         out.flush()?;
     }
     Ok(exit)
@@ -59,7 +77,7 @@ pub(crate) fn answer_each<T: Files + Threads + Sync, C: Sink, E: Sink>(
 /// exit. Fails if memory runs out or the answer cannot be printed.
 fn answer_one<T: Files + Threads + Sync, C: Sink, E: Sink>(
     session: &Session<'_, T>,
-    path: &str,
+    file: ImageFile<'_>,
     question: EachQuestion,
     out: &mut Out<'_, C>,
     err: &mut E,
@@ -68,18 +86,18 @@ fn answer_one<T: Files + Threads + Sync, C: Sink, E: Sink>(
     ensures silent { IfOk result (λ exit. exit ≡ 0
         → IsSilent T.File.remaining session.now.weak err.old err.new) }
 {
-    match answer_about(session, path, question, out, err) {
+    match answer_about(session, file, question, out, err) {
         Ok(exit) => Ok(exit),
         Err(Failure::OutOfMemory) => Err(Failure::OutOfMemory),
         Err(Failure::NotPrinted) => Err(Failure::NotPrinted),
-        Err(failure) => Ok(explain_failure(&failure, Some(path), err)),
+        Err(failure) => Ok(explain_failure(&failure, Some(file.path), err)),
     }
 }
 
 /// Prints the answer to a question about the image in a file, and returns the exit.
 fn answer_about<T: Files + Threads + Sync, C: Sink, E: Sink>(
     session: &Session<'_, T>,
-    path: &str,
+    file: ImageFile<'_>,
     question: EachQuestion,
     out: &mut Out<'_, C>,
     err: &mut E,
@@ -88,17 +106,22 @@ fn answer_about<T: Files + Threads + Sync, C: Sink, E: Sink>(
     ensures silent { IfOk result (λ exit.
         IsSilent T.File.remaining session.now.weak err.old err.new) }
 {
+    let path = file.path;
     match load(session.rt, session.alloc, path)? {
         Loaded::Image(image) => {
             let subject = session.subject(&image)?;
             match question {
-                EachQuestion::Info => print_info(session.rt, &subject, path, out)?,
+                EachQuestion::Info => {
+                    file.print_heading(out)?;
+                    print_info(session.rt, &subject, path, out)?;
+                }
                 EachQuestion::Digest => {
                     warn(session.rt, &subject, path, err)?;
                     print_digest(&subject, path, out)?;
                 }
                 EachQuestion::Census { dead } => {
                     warn(session.rt, &subject, path, err)?;
+                    file.print_heading(out)?;
                     print_census_of(session.rt, &subject, path, dead, out)?;
                 }
             }
@@ -106,6 +129,7 @@ fn answer_about<T: Files + Threads + Sync, C: Sink, E: Sink>(
         }
         Loaded::Unreadable(unreadable) => match question {
             EachQuestion::Info => {
+                file.print_heading(out)?;
                 print_info_unreadable(session.alloc, &unreadable, path, out)?;
                 Ok(BAD_IMAGE)
             }

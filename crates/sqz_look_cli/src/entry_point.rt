@@ -12,7 +12,8 @@ ghost use Rattle.sqz_trace.specs.declared.weak.Weak.{Weak};
 ghost use Rattle.sqz_trace.specs.WeakSlots.{weak_of};
 
 use crate::answering::answer_request;
-use crate::messages::{print_fault, print_message};
+use crate::lines::words_apart;
+use crate::messages::{print_fault, print_message, print_names};
 use clap::error::ErrorKind;
 use clap::{ArgMatches, Error};
 use sqz_cli::{BAD_ARGUMENTS, DONE, explain};
@@ -49,9 +50,22 @@ pub fn look<T: Files + Threads + Sync, C: Sink, E: Sink>(
         → (weak : Weak) × IsSilent T.File.remaining weak err.old err.new }
 {
     match matches_of(alloc, words) {
-        Ok(matches) => answer_matches(rt, alloc, &matches, out, err),
+        Ok(matches) => {
+            let asked = Asked {
+                matches: &matches,
+                apart: words_apart(words),
+            };
+            answer_matches(rt, alloc, asked, out, err)
+        }
         Err(error) => explain_words(&error, out, err),
     }
+}
+
+/// What the words of a command line say: the matches, and how many words stand apart, after `--`.
+#[derive(Clone, Copy)]
+struct Asked<'a, 'b> {
+    matches: &'a ArgMatches<'b>,
+    apart: usize,
 }
 
 /// Parses the words of a command line.
@@ -76,6 +90,9 @@ fn explain_words<C: Sink, E: Sink>(error: &Error, out: &mut C, err: &mut E) -> u
     if error.kind() == ErrorKind::OutOfMemory {
         return print_fault(None, &Fault::OutOfMemory, err);
     }
+    if is_wrong(error.kind()) {
+        print_names(None, err);
+    }
     let exit = explain(error, out, err);
     if exit == DONE && out.failed() {
         return print_fault(None, &Fault::WriteFailed, err);
@@ -83,17 +100,19 @@ fn explain_words<C: Sink, E: Sink>(error: &Error, out: &mut C, err: &mut E) -> u
     exit
 }
 
-/// Answers the question of a command line that was parsed, and returns the exit.
+/// Answers the question of a command line that was parsed, and returns the exit. The last words may
+/// stand apart, after `--`.
 fn answer_matches<T: Files + Threads + Sync, C: Sink, E: Sink>(
     rt: &T,
     alloc: Global,
-    matches: &ArgMatches<'_>,
+    asked: Asked<'_, '_>,
     out: &mut C,
     err: &mut E,
 ) -> u8
-    requires { HasCommand matches.now }
+    requires { HasCommand asked.matches.now }
     ensures exits { result ≤ 4 }
-    ensures check { (rows : List Row) → subcommand_rows_of matches.now ≡ Some (codes "check", rows)
+    ensures check { (rows : List Row)
+        → subcommand_rows_of asked.entry.matches.now ≡ Some (codes "check", rows)
         → result ≤ 1
         → AreChecked T.File.remaining (weak_of (has_flag (codes "clear-weak") rows))
         (length (given (codes "IMAGE") rows)) result }
@@ -101,9 +120,22 @@ fn answer_matches<T: Files + Threads + Sync, C: Sink, E: Sink>(
     ensures silent { result ≡ 0
         → (weak : Weak) × IsSilent T.File.remaining weak err.old err.new }
 {
-    match Request::of(alloc, matches) {
+    match Request::of(alloc, asked.matches, asked.apart) {
         Ok(request) => answer_request(rt, alloc, &request, out, err),
         Err(bad) => explain_request(alloc, bad, err),
+    }
+}
+
+/// Returns whether the text of an error says what is wrong, and is not the help or the version.
+fn is_wrong(kind: ErrorKind) -> bool
+    ensures help { kind ≡ ErrorKind.DisplayHelp → result ≡ false }
+    ensures version { kind ≡ ErrorKind.DisplayVersion → result ≡ false }
+{
+    match kind {
+        ErrorKind::DisplayHelp
+        | ErrorKind::DisplayVersion
+        | ErrorKind::DisplayHelpOnMissingArgumentOrSubcommand => false,
+        _ => true,
     }
 }
 

@@ -5,6 +5,7 @@ ghost use Rattle.sqz_look_cli.specs.Failures.{failure_of_printing};
 ghost use Rattle.sqz_look_cli.specs.declared.failure.Failure.TheVariants.{OutOfMemory};
 
 use crate::loading::LoadError;
+use sqz_look_check::ReadFailure;
 use sqz_look_view::PrintError;
 use std::alloc::AllocError;
 
@@ -16,9 +17,9 @@ pub(crate) enum Failure {
     /// The answer could not be printed.
     NotPrinted,
     /// The file of the image that the question is about cannot be read.
-    NotRead,
+    NotRead(ReadFailure),
     /// The file with this path cannot be read.
-    NotReadAt(String),
+    NotReadAt(String, ReadFailure),
     /// What is asked about is not there, or no image could be read.
     NotThere(String),
 }
@@ -35,7 +36,7 @@ impl From<LoadError> for Failure {
     fn from(error: LoadError) -> Failure {
         match error {
             LoadError::OutOfMemory => Failure::OutOfMemory,
-            LoadError::NotRead => Failure::NotRead,
+            LoadError::NotRead(failure) => Failure::NotRead(failure),
         }
     }
 }

@@ -8,12 +8,15 @@ mod comparison;
 mod each;
 mod entry_point;
 mod failure;
+mod lines;
 mod loading;
 mod messages;
+mod objects;
 mod quiet_pipe;
 mod session;
 mod warnings;
 
 pub use answering::answer_request;
 pub use entry_point::look;
+pub use lines::with_lines;
 pub use quiet_pipe::QuietPipe;

@@ -4,9 +4,9 @@ ghost use Rattle.std.specs.Prelude.{IfOk};
 ghost use Rattle.sqz_look_cli.specs.Checks.{IsHeldBy, IsLoaded, ReadsFile};
 
 use sqz_image::{Fault, Image, ReadSource, image_or_file, read_all};
-use sqz_look_check::Unreadable;
+use sqz_look_check::{ReadFailure, Unreadable};
 use std::alloc::{AllocError, Global};
-use std::fs::File;
+use std::fs::{File, OpenFile};
 use std::io::Read;
 use std::rt::Files;
 
@@ -23,7 +23,7 @@ pub(crate) enum LoadError {
     /// Memory ran out.
     OutOfMemory,
     /// The file cannot be read.
-    NotRead,
+    NotRead(ReadFailure),
 }
 
 impl From<AllocError> for LoadError {
@@ -44,14 +44,26 @@ pub(crate) fn load<T: Files>(rt: &T, alloc: Global, path: &str) -> Result<Loaded
 fn bytes_of<T: Files>(rt: &T, alloc: Global, path: &str) -> Result<Vec<u8>, LoadError>
     ensures { IfOk result (λ bytes. ReadsFile T.File.remaining bytes.items) }
 {
-    let Ok(file) = File::open(rt, path) else {
-        return Err(LoadError::NotRead);
+    let file = match File::open(rt, path) {
+        Ok(file) => file,
+        Err(error) => return Err(LoadError::NotRead(ReadFailure::of(error.kind()))),
     };
+    if is_directory(&file) {
+        return Err(LoadError::NotRead(ReadFailure::Directory));
+    }
     let mut source = ReadSource::new(file);
     match read_all(alloc, &mut source) {
         Ok(bytes) => Ok(bytes),
         Err(Fault::OutOfMemory) => Err(LoadError::OutOfMemory),
-        Err(_) => Err(LoadError::NotRead),
+        Err(_) => Err(LoadError::NotRead(ReadFailure::Other)),
+    }
+}
+
+/// Returns whether a file is known to be a directory, which can be opened but not read.
+fn is_directory<F: OpenFile>(file: &F) -> bool {
+    match file.metadata() {
+        Ok(metadata) => metadata.is_dir(),
+        Err(_) => false,
     }
 }
 

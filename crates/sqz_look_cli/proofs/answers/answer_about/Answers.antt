@@ -3,11 +3,12 @@ use Rattle.sqz_image.specs.Objects.{SavedImage}
 use Rattle.sqz_look_cli.proofs.WarningLemmas.{IsSilent-warned}
 use Rattle.sqz_look_cli.proofs.answers.answer_about.Goals as goal
 
-pub returns-in_ok-answer_by_names-in-Image-clause-silent : goal.returns-in_ok-answer_by_names-in-Image-clause-silent
-returns-in_ok-answer_by_names-in-Image-clause-silent g c =
+pub returns-in_ok-exit-in-Image-clause-silent : goal.returns-in_ok-exit-in-Image-clause-silent
+returns-in_ok-exit-in-Image-clause-silent g c zero =
     let loaded = rw c.in-Image.is at c.in_ok-image.ensures in
     let known = c.in_ok-subject-in-Image in
     let live = known.subject.live in
     let same_memory = known.subject.one_heap ∙ ap (λ (image : SavedImage). image.memory) known.ensures.image in
-    IsSilent-warned _ _ c.in-Image.image _ _ live.marks _ _ loaded same_memory known.ensures.weak live.reachable
-    c.warn.ensures
+    rw (c.in_ok-exit-in-Image.ensures.silent zero)
+    (IsSilent-warned _ _ c.in-Image.image _ _ live.marks _ _ loaded same_memory known.ensures.weak live.reachable
+    c.warn.ensures)

@@ -1,0 +1,6 @@
+//! The code of compiled methods.
+#![tactic(auto)]
+
+mod header;
+
+pub use header::MethodHeader;

@@ -1,0 +1,63 @@
+//! Questions about objects.
+
+ghost use Rattle.std.specs.Prelude.{◌≡◌, ◌≤◌, ◌<◌, IfOk};
+ghost use Rattle.sqz_image.specs.Objects.{object_count};
+
+use crate::failure::Failure;
+use crate::messages::print_message;
+use sqz_cli::{BAD_IMAGE, DONE};
+use sqz_image::Sink;
+use sqz_look::{Found, find_object, print_refs, print_show, print_why};
+use sqz_look_args::{ObjectQuestion, ObjectsAsked};
+use sqz_look_view::{Inspector, Out, PrintError};
+use sqz_object::ObjectIndex;
+
+/// Prints the answer to a question about each of some objects in the image of a file, with an empty
+/// line between two, and returns the exit: 1 if one of them is not there. A line on `err` says so,
+/// and the next one has its answer all the same.
+pub(crate) fn answer_about_objects<C: Sink, E: Sink>(
+    inspector: &Inspector<'_>,
+    path: &str,
+    asked: &ObjectsAsked,
+    out: &mut Out<'_, C>,
+    err: &mut E,
+) -> Result<u8, Failure>
+    ensures exit { IfOk result (λ exit. exit ≤ BAD_IMAGE) }
+    ensures silent { IfOk result (λ exit. exit ≡ 0 → err.new ≡ err.old) }
+{
+    let mut exit = DONE;
+    let mut is_first = true;
+    for words in &asked.objects {
+        match find_object(inspector, words.as_str())? {
+            Found::One(object) => {
+                if !is_first {
+                    out.text(&"")?;
+                }
+                is_first = false;
+                print_about(inspector, object, asked.question, out)?;
+            }
+            Found::Nothing(message) => {
+                print_message(Some(path), message.as_str(), err);
+                exit = BAD_IMAGE;
+            }
+        }
+        out.flush()?;
+    }
+    Ok(exit)
+}
+
+/// Prints the answer to a question about an object.
+fn print_about<C: Sink>(
+    inspector: &Inspector<'_>,
+    object: ObjectIndex,
+    question: ObjectQuestion,
+    out: &mut Out<'_, C>,
+) -> Result<(), PrintError>
+    requires { object < object_count inspector.now.live.graph.heap.now }
+{
+    match question {
+        ObjectQuestion::Show => print_show(inspector, object, out),
+        ObjectQuestion::Why { raw } => print_why(inspector, object, raw, out),
+        ObjectQuestion::Refs => print_refs(inspector, object, out),
+    }
+}
