@@ -360,7 +360,7 @@ class CommandLineTest(FailedOutputs, DeadArrayTest):
 
     def test_missing_file(self):
         """The message has the path of the file that cannot be read, the old one first."""
-        message = "sqzlook: {}: fault 16: cannot read the image\n"
+        message = "sqzlook: {}: fault 16: cannot read the image: no such file\n"
         for words, path in (
             (("none", "in"), "none"),
             (("in", "none"), "none"),

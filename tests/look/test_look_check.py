@@ -14,7 +14,7 @@ from tests.reference.faults import OTHER_VERSIONS, Defects, Fault
 from tests.reference.file_format import PREFIX
 from tests.reference.names import Names
 
-UNREADABLE = Fault(16, "cannot read the image")
+UNREADABLE = Fault(16, "cannot read the image", cause={"reason": "no such file"})
 # Bad pointers that are put into a small image.
 BAD = 6
 

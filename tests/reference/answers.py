@@ -8,7 +8,7 @@ from tests.reference.fields import SPECIAL_NAMES, AssociationField
 from tests.reference.names import Names, escaped
 from tests.reference.objects import compact_index, format_of, has_bytes, traced_end
 from tests.reference.reachability import Reachability
-from tests.reference.values import preview, signed, value_of
+from tests.reference.values import method_of, preview, signed, value_of
 
 
 class Group(typing.NamedTuple):
@@ -188,6 +188,7 @@ class Answers:
             "hash": header >> 17 & 0xFFF,
             "compact_index": compact_index(header),
             "value": value_of(self.names, number),
+            "method": method_of(self.image, number),
             "slots": [self.slot_row(number, slot) for slot in self.slots(number)],
             "text": None if text is None else escaped(text),
         }
@@ -289,7 +290,11 @@ class Answers:
     def refs(self, number):
         """The slots of live objects that point to an object."""
         return [
-            {**self.object_row(owner), **self.step_row(owner, place)}
+            {
+                "to": self.names.address(number),
+                **self.object_row(owner),
+                **self.step_row(owner, place),
+            }
             for owner, place in self.references.get(number, [])
         ]
 

@@ -68,6 +68,8 @@ def text_of(cause):
             return f" (a {kind} file)"
         case {"version": version, "name": name}:
             return f" (version {version}, {name})"
+        case {"reason": reason}:
+            return f": {reason}"
         case {"word": word, "near": None}:
             return f": word {word}"
         case {"word": word, "near": {"address": address, "class": name}}:

@@ -46,6 +46,21 @@ def value_of(names, number):
     return None
 
 
+def method_of(image, number):
+    """What the header of a compiled method says, or None of another object."""
+    fields = fields_of(image, number)
+    if format_of(image.header_of(number)) not in range(12, 16) or not fields or not fields[0] & 1:
+        return None
+    header = fields[0] >> 1
+    return {
+        "arguments": header >> 24 & 0xF,
+        "temporaries": header >> 18 & 0x3F,
+        "literals": header >> 9 & 0xFF,
+        "primitive": (header & 0x1FF) + (header >> 28 & 1) * 512,
+        "large_frame": bool(header >> 17 & 1),
+    }
+
+
 def element_count(names, number):
     """The number of the indexed fields of an object, or None if its format has none."""
     image, kind = names.image, format_of(names.image.header_of(number))
