@@ -4,3 +4,4 @@ pub mod MatchingLemmas
 pub mod StepLemmas
 pub mod WalkLemmas
 pub mod CorrespondenceLemmas
+pub mod PartnerLemmas

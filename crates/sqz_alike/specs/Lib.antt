@@ -2,3 +2,4 @@ pub mod Seen
 pub mod Alike
 pub mod Matching
 pub mod Walk
+pub mod Partners

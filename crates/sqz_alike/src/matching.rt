@@ -1,7 +1,7 @@
 //! The pairs of objects that must correspond, as far as they were found.
 
-ghost use Rattle.std.specs.Prelude.{◌≡◌, ◌<◌, length, [], IfOk, OnOk};
-ghost use Rattle.sqz_alike.specs.Matching.{IsMatching, Joins};
+ghost use Rattle.std.specs.Prelude.{◌≡◌, ◌<◌, ◌∷◌, ◌++◌, length, [], None, IfOk, OnOk};
+ghost use Rattle.sqz_alike.specs.Matching.{IsMatching, Joins, partner_in};
 
 use sqz_object::ObjectIndex;
 use std::alloc::{AllocError, Global};
@@ -15,13 +15,13 @@ pub struct Pair {
 
 /// Pairs of objects: no object is in two of them.
 #[derive(Drop)]
-pub(crate) struct Matching {
+pub struct Matching {
     /// The pairs, in the order in which they were found.
-    pub(crate) pairs: Vec<Pair>,
+    pub pairs: Vec<Pair>,
     /// The partner of each object of the old image.
-    new_of: Vec<Option<ObjectIndex>>,
+    pub(crate) new_of: Vec<Option<ObjectIndex>>,
     /// The partner of each object of the new image.
-    old_of: Vec<Option<ObjectIndex>>,
+    pub(crate) old_of: Vec<Option<ObjectIndex>>,
 }
 
 impl Matching {
@@ -50,6 +50,9 @@ impl Matching {
         requires old { pair.old < length self.old.new_of.items }
         requires new { pair.new < length self.old.old_of.items }
         ensures joins { IfOk result (Joins pair self.old.pairs.items self.new.pairs.items) }
+        ensures more { OnOk result (partner_in self.old.new_of.items pair.old ≡ None
+            → partner_in self.old.old_of.items pair.new ≡ None
+            → self.new.pairs.items ≡ self.old.pairs.items ++ pair ∷ []) }
         ensures matching { OnOk result (IsMatching self.new.pairs.items self.new.new_of.items
             self.new.old_of.items) }
         ensures old { OnOk result (length self.new.new_of.items ≡ length self.old.new_of.items) }
@@ -66,5 +69,19 @@ impl Matching {
             (Some(partner), _) => Ok(partner == pair.new),
             (None, Some(_)) => Ok(false),
         }
+    }
+
+    /// Returns the partner of an object of the old image. None if it has none.
+    pub fn new_of(&self, old: ObjectIndex) -> Option<ObjectIndex>
+        ensures { result ≡ partner_in self.now.new_of.items old }
+    {
+        self.new_of.get(old as usize).copied().flatten()
+    }
+
+    /// Returns the partner of an object of the new image. None if it has none.
+    pub fn old_of(&self, new: ObjectIndex) -> Option<ObjectIndex>
+        ensures { result ≡ partner_in self.now.old_of.items new }
+    {
+        self.old_of.get(new as usize).copied().flatten()
     }
 }

@@ -10,7 +10,7 @@ use sqz_trace::ObjectGraph;
 
 /// Returns the group of an object: that of its class, or that of its compact index if it has no
 /// class.
-pub(crate) fn group_of(graph: ObjectGraph<'_>, object: ObjectIndex) -> Group
+pub fn group_of(graph: ObjectGraph<'_>, object: ObjectIndex) -> Group
     requires { object < object_count graph.heap.now }
     ensures { result ≡ group_of graph.entry.heap.now graph.entry.weak
         (chunk_words graph.entry.heap.now object) }

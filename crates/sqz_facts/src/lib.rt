@@ -16,6 +16,7 @@ mod sums;
 
 pub use all_defects::defects_of;
 pub use files::{FileFacts, file_facts};
+pub use groups::group_of;
 pub use members::{Member, members_of};
 pub use objects::{ObjectFacts, object_facts};
 pub use referrers::{Referrer, referrers_of};

@@ -47,3 +47,14 @@ pub const KEY: u32 = 0;
 
 /// The field of an association that points to its value.
 pub const VALUE: u32 = 1;
+
+/// The field of the system organizer that points to the array of the categories of classes.
+pub const CATEGORIES: u32 = 1;
+
+/// The field of the system organizer that points to the array that has for each category the number
+/// of class names up to its last one.
+pub const CATEGORY_ENDS: u32 = 2;
+
+/// The field of the system organizer that points to the array of the names of all classes, in the
+/// order of their categories.
+pub const CATEGORIZED: u32 = 3;

@@ -1,0 +1,3 @@
+pub mod NewObjects
+pub mod Holders
+pub mod Referrers

@@ -1,0 +1,15 @@
+//! What grew from one image to another: the objects that are new, and those that retain more than
+//! their partners.
+#![tactic(auto)]
+
+mod first_referrers;
+mod growth;
+mod holder;
+mod holders;
+mod new_objects;
+
+pub use first_referrers::{FirstReferrers, find_referrers};
+pub use growth::Growth;
+pub use holder::Holder;
+pub use holders::find_holders;
+pub use new_objects::mark_new;
