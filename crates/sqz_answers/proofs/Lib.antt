@@ -11,3 +11,6 @@ pub mod LevelSumLemmas
 pub mod RowSumLemmas
 pub mod ChangeLemmas
 pub mod SizeLemmas
+pub mod OutermostLemmas
+pub mod TogetherLemmas
+pub mod GroupCountLemmas

@@ -78,7 +78,7 @@ few_apart xs bound apart low =
 
 -- ---- the children of an object
 
-abbrev kids : List Child → ℕ → List ℕ
+abbrev pub kids : List Child → ℕ → List ℕ
 kids children part = map (λ child. child.object) (children_under part children)
 
 not_true : (b : Bool) → not b ≡ true → b ≡ false
@@ -95,14 +95,14 @@ module _ (tree : DominatorTree) (children : List Child) (are : AreChildren tree 
   each_child : All IsChild children
   each_child = All-from_get_or IsChild children no_child are.each
 
-  each_kid : (part : ℕ) → All (HasParent part) (kids children part)
+  pub each_kid : (part : ℕ) → All (HasParent part) (kids children part)
   each_kid part =
       let test : Child → Bool = λ child. eqb child.parent part in
       All-map (HasParent part) (λ (child : Child). child.object) (children_under part children)
       (λ k d lt. All-filter test IsChild children each_child k d lt
       ∙ ap (λ (n : ℕ). Some n) (eqb-true _ _ (filter_passes test children k d lt)))
 
-  all_kids : (part child : ℕ) → HasParent part child → Contains (kids children part) child
+  pub all_kids : (part child : ℕ) → HasParent part child → Contains (kids children part) child
   all_kids part child is =
       let its : Child = record { parent = part; object = child } in
       Contains-map (λ (child : Child). child.object) (children_under part children) its

@@ -9,9 +9,16 @@ use Rattle.std.proofs.lemmas.List.{get_or_append_left, get_or_past, get_or_push,
 use Rattle.std.proofs.lemmas.List.Elements.{All-nil, All-cons, All-append, All-filter}
 use Rattle.std.proofs.lemmas.List.Sums.{sum_by-cons}
 use Rattle.std.proofs.lemmas.Option.{same_Some}
-use Rattle.sqz_image.specs.Objects.{Memory, Object, objects, object_count, find}
+use Rattle.sqz_image.specs.Objects.{Memory, Object, objects, object_count}
 use Rattle.sqz_trace.specs.declared.weak.Weak.{Weak}
+use Rattle.sqz_trace.specs.Graph.{Graph, IsReachable, MarksReachable, is_marked}
 use Rattle.sqz_trace.specs.Live.{marked}
+use Rattle.sqz_trace.specs.Reachability.{graph_from, IsReachability}
+use Rattle.sqz_dominators.proofs.BasicLemmas.{Contains-first}
+use mathlib.Core.Bool.{Bool-set}
+use Rattle.std.proofs.Math.Logic.{∥∥₁_elim}
+use Rattle.sqz_image.proofs.ObjectLemmas.{find_in-lt}
+use Rattle.sqz_answers.proofs.DescentLemmas.{reached-inside}
 use Rattle.sqz_dominators.specs.declared.retained.Retained.{Retained}
 use Rattle.sqz_dominators.specs.Children.{retained_bytes}
 use Rattle.sqz_dominators.specs.Retained.{DominatorTree, AreDominators, nothing}
@@ -112,24 +119,50 @@ module _ (memory : Memory) (weak : Weak) (tree : DominatorTree) (dominators : Ar
           (All-cons IsRow _ (is.shown ++ smaller) (row-inside depth parent object is.own is.own inside above)
           (All-append IsRow is.shown smaller shown (smaller-inside (depth + 1) object (filter (is_smaller tree limits) is.below) inside)))
 
--- ---- from the special objects array
+-- ---- from a live object
 
-module _ (memory : Memory) (weak : Weak) (tree : DominatorTree) (dominators : AreDominators memory weak tree) (variables : Variables)
-    (limits : TopLimits) (special : ℕ) (is_special : find memory memory.special ≡ Some special) (inside : special < object_count memory)
-    (rows new : List TopRow) (are : AreRowsFrom memory tree variables limits (limits.depth - 0) 0 None special rows) (same : new ≡ rows) where
-  pub AreTopRows-first : AreTopRows memory weak variables limits new
-  AreTopRows-first =
-      let whole : limits.depth - 0 ≡ limits.depth = omega arith in
-      let starts : special ≡ dominators.start = same_Some _ _ (sym is_special ∙ dominators.is_special) in
-      record {
-        tree = tree;
-        dominators = dominators;
-        are = subst (λ (list : List TopRow). AreRowsFrom memory tree variables limits limits.depth 0 None dominators.start list) (sym same)
-            (subst (λ (object : ℕ). AreRowsFrom memory tree variables limits limits.depth 0 None object rows) starts
-            (subst (λ (levels : ℕ). AreRowsFrom memory tree variables limits levels 0 None special rows) whole are));
-      }
+module _ (memory : Memory) (weak : Weak) (tree : DominatorTree) (dominators : AreDominators memory weak tree) where
+  abbrev graph : Graph
+  graph = graph_from dominators.start memory weak
 
-  pub all-inside : All (IsRowInside (object_count memory)) new
-  all-inside =
-      subst (All (IsRowInside (object_count memory))) (sym same)
-      (rows-inside memory weak tree dominators variables limits (limits.depth - 0) 0 None special rows inside tt are)
+  -- what is marked as live is reachable
+  marked-dominated : (marks : List Bool) (object : ℕ) → is_marked marks object ≡ true → (inside : dominators.start < object_count memory)
+      → IsReachability memory weak marks → is_marked (dominators.retained dominators.start inside).marks object ≡ true
+  marked-dominated marks object marked inside reach =
+      let same : reach.start ≡ dominators.start = same_Some _ _ (sym reach.is_special ∙ dominators.is_special) in
+      let reached = subst (λ (i : ℕ). MarksReachable (graph_from i memory weak) marks) same reach.reached in
+      (dominators.retained dominators.start inside).dominated.complete object
+      (record { reachable = reached.sound object marked; on_all = λ path leads. Contains-first graph.start path })
+
+  pub live-reached : (marks : List Bool) (object : ℕ) → ∥ IsReachability memory weak marks ∥₁ → is_marked marks object ≡ true
+      → IsReachable graph object
+  live-reached marks object reach marked =
+      let inside = find_in-lt memory.base (objects memory) memory.special dominators.start dominators.is_special in
+      let found = ∥∥₁_elim reach (Bool-set _ _) (marked-dominated marks object marked inside) in
+      ((dominators.retained dominators.start inside).dominated.sound object found).reachable
+
+  module _ (variables : Variables) (limits : TopLimits) (marks : List Bool) (reach : ∥ IsReachability memory weak marks ∥₁)
+      (marked : is_marked marks limits.root ≡ true) where
+    root-reached : IsReachable graph limits.root
+    root-reached = live-reached marks limits.root reach marked
+
+    pub root-inside : limits.root < object_count memory
+    root-inside = reached-inside memory weak tree dominators limits.root root-reached
+
+    module _ (rows new : List TopRow) (are : AreRowsFrom memory tree variables limits (limits.depth - 0) 0 None limits.root rows)
+        (same : new ≡ rows) where
+      pub AreTopRows-first : AreTopRows memory weak variables limits new
+      AreTopRows-first =
+          let whole : limits.depth - 0 ≡ limits.depth = omega arith in
+          record {
+            tree = tree;
+            dominators = dominators;
+            reached = root-reached;
+            are = subst (λ (list : List TopRow). AreRowsFrom memory tree variables limits limits.depth 0 None limits.root list) (sym same)
+                (subst (λ (levels : ℕ). AreRowsFrom memory tree variables limits levels 0 None limits.root rows) whole are);
+          }
+
+      pub all-inside : All (IsRowInside (object_count memory)) new
+      all-inside =
+          subst (All (IsRowInside (object_count memory))) (sym same)
+          (rows-inside memory weak tree dominators variables limits (limits.depth - 0) 0 None limits.root rows root-inside tt are)

@@ -15,3 +15,8 @@ pub mod Splits
 pub mod Changes
 pub mod Differences
 pub mod Sizes
+pub mod Outermost
+pub mod Together
+pub mod RetainedHistograms
+pub mod GroupCounts
+pub mod Smaller

@@ -4,6 +4,8 @@ use Rattle.std.specs.Prelude.{slice_index_or, Option, Some, None, IfSome}
 use Rattle.std.specs.List.{filter, take_while}
 use Rattle.sqz_image.specs.Objects.{Memory}
 use Rattle.sqz_trace.specs.declared.weak.Weak.{Weak}
+use Rattle.sqz_trace.specs.Graph.{IsReachable}
+use Rattle.sqz_trace.specs.Reachability.{graph_from}
 use Rattle.sqz_dominators.specs.Children.{retained_bytes}
 use Rattle.sqz_dominators.specs.Retained.{DominatorTree, AreDominators, nothing}
 use Rattle.sqz_answers.specs.declared.limits.TopLimits.{TopLimits}
@@ -80,11 +82,12 @@ module _ (memory : Memory) (tree : DominatorTree) (variables : Variables) (limit
   AreRowsFrom (suc levels) depth parent object rows =
       IsInner (λ child below. AreRowsFrom levels (depth + 1) (Some object) child below) depth parent object rows
 
--- the rows of the dominator tree, from that of the special objects array
+-- the rows of the dominator tree, from that of a live object
 pub record AreTopRows (memory : Memory) (weak : Weak) (variables : Variables) (limits : TopLimits) (rows : List TopRow) : Type 0 where
   pub tree : DominatorTree
   pub dominators : AreDominators memory weak tree
-  pub are : AreRowsFrom memory tree variables limits limits.depth 0 None dominators.start rows
+  pub reached : IsReachable (graph_from dominators.start memory weak) limits.root
+  pub are : AreRowsFrom memory tree variables limits limits.depth 0 None limits.root rows
 
 -- ---- rows below a row
 

@@ -1,11 +1,15 @@
-//! How many rows a tree has.
+//! Which part of a dominator tree has rows.
 
 ghost use Rattle.std.specs.Prelude.{◌≤◌};
 ghost use Rattle.sqz_answers.specs.Limits.{most_depth};
 
-/// The bounds of the rows of a dominator tree.
+use sqz_object::ObjectIndex;
+
+/// The part of a dominator tree that has rows.
 #[derive(Clone, Copy, Debug, PartialEq, Eq)]
 pub struct TopLimits {
+    /// The object of the first row.
+    pub root: ObjectIndex,
     /// The depth of the deepest rows, at most `MOST_DEPTH`.
     pub depth: u32,
     /// The least number of bytes that a row for one object retains.

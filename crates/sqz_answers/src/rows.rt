@@ -1,18 +1,23 @@
 //! What retains most: the rows of a dominator tree.
 
-ghost use Rattle.std.specs.Prelude.{◌≡◌, ◌<◌, ◌≤◌, ◌+◌, ◌^◌, All, IfOk, OnOk, length, option_to_list, sum_by};
+ghost use Rattle.std.specs.Prelude.{◌≡◌, ◌<◌, ◌≤◌, ◌+◌, ◌^◌, true, All, IfOk, OnOk, length, option_to_list, sum_by};
 ghost use Rattle.std.specs.List.{filter};
 ghost use Rattle.sqz_image.specs.Objects.{object_count};
+ghost use Rattle.sqz_trace.specs.Graph.{is_marked};
 ghost use Rattle.sqz_dominators.specs.Children.{retained_bytes};
+ghost use Rattle.sqz_dominators.specs.Retained.{AreDominators};
+ghost use Rattle.sqz_answers.specs.GroupCounts.{AreCountsWithin};
 ghost use Rattle.sqz_answers.specs.Levels.{held_value};
+ghost use Rattle.sqz_answers.specs.Smaller.{AreGroupsOfRows};
 ghost use Rattle.sqz_answers.specs.TopRows.{AreTopRows, IsRowInside, is_smaller, object_row, retained_objects, smaller_rows};
 ghost use Rattle.sqz_answers.specs.TopTrees.{AddsRows, IsTopTree};
 
+use crate::group_counts::GroupCount;
 use crate::levels::Level;
 use crate::limits::TopLimits;
 use crate::top_tree::TopTree;
 use crate::variable_parts::VariableParts;
-use sqz_dominators::{children_of, dominators_of};
+use sqz_dominators::{Dominators, children_of};
 use sqz_image::laws::heap_bounds;
 use sqz_object::ObjectIndex;
 use sqz_trace::Live;
@@ -52,6 +57,16 @@ pub struct TopRow {
     pub objects: u64,
 }
 
+/// The rows of a dominator tree, with the groups of the objects that have no rows of their own.
+#[derive(Drop)]
+pub struct TopRows {
+    pub rows: Vec<TopRow>,
+    /// For each row the groups of the smaller objects that it stands for, with their numbers of
+    /// these objects: more objects come first, and on a tie classes by address, then compact
+    /// indexes. A row of one object has no such groups.
+    pub groups: Vec<Vec<GroupCount>>,
+}
+
 /// Where a row is.
 #[derive(Clone, Copy, Debug, PartialEq, Eq)]
 pub(crate) struct Place {
@@ -73,38 +88,45 @@ struct Sums {
     objects: u64,
 }
 
-/// Returns the rows of the dominator tree, from that of the special objects array: each row before
-/// those below it, and below a row those that retain most first. Below each row, the objects that
-/// retain too little have one row together.
+/// Returns the rows of the dominator tree, from that of a live object: each row before those below
+/// it, and below a row those that retain most first. Below each row, the objects that retain too
+/// little have one row together, for which the result has their groups.
 pub fn top_rows(
     alloc: Global,
     live: &Live<'_>,
+    dominators: &Dominators,
     parts: &VariableParts,
     limits: TopLimits,
-) -> Result<Vec<TopRow>, AllocError>
-    ensures rows { IfOk result (λ rows. AreTopRows live.now.graph.heap.now
-        live.now.graph.weak parts.now limits rows.items) }
-    ensures inside { IfOk result (λ rows.
-        All (IsRowInside (object_count live.now.graph.heap.now)) rows.items) }
+) -> Result<TopRows, AllocError>
+    requires dominators { AreDominators live.now.graph.heap.now live.now.graph.weak dominators.now }
+    requires live { is_marked live.now.marks limits.root ≡ true }
+    ensures rows { IfOk result (λ top. AreTopRows live.now.graph.heap.now
+        live.now.graph.weak parts.now limits top.rows.items) }
+    ensures groups { IfOk result (λ top. AreGroupsOfRows live.now.graph.heap.now
+        live.now.graph.weak dominators.now parts.now limits top.rows.items top.groups.items) }
+    ensures inside { IfOk result (λ top.
+        All (IsRowInside (object_count live.now.graph.heap.now)) top.rows.items) }
+    ensures within { IfOk result (λ top. All (λ counts.
+        AreCountsWithin (object_count live.now.graph.heap.now) counts.items) top.groups.items) }
 {
     heap_bounds(live.graph.heap); // fewer than 2^30 objects and words
-    let dominators = dominators_of(alloc, live.graph)?;
-    let children = children_of(alloc, &dominators)?;
+    let children = children_of(alloc, dominators)?;
     let tree = TopTree {
         graph: live.graph,
-        dominators: &dominators,
+        dominators,
         children: &children,
         parts,
         limits,
     };
     let first = Place {
-        object: live.graph.heap.special(),
+        object: limits.root,
         depth: 0,
         parent: None,
     };
     let mut rows = Vec::new(alloc);
     push_rows(alloc, &tree, first, &mut rows)?;
-    Ok(rows)
+    let groups = tree.groups_of_rows(alloc, &rows)?;
+    Ok(TopRows { rows, groups })
 }
 
 /// Appends the row of an object and the rows below it.
