@@ -59,16 +59,24 @@ HasFirst-more old new argument s i d inside added is has =
     (sym (map-take_more argument_rule s.arguments i d inside)) (HasShape-arg old new argument _ _ added is has)
 
 -- all of them, and then the options of each subcommand
-pub HasShape-whole : (old one two : Command) (weak json : Arg) (s : Listed) (i : ℕ) → length s.arguments ≤ i → HasFirst s i old
+pub HasShape-whole : (old one two three : Command) (weak human json : Arg) (s : Listed) (i : ℕ) → length s.arguments ≤ i → HasFirst s i old
     → AddsArg old weak one → HasRule (flag_option (codes "clear-weak")) weak
-    → AddsArg one json two → HasRule (flag_option (codes "json")) json → HasShape (shape_of_listed s) two
-HasShape-whole old one two weak json s i all is added_weak has_weak added_json has_json =
+    → AddsArg one human two → HasRule (flag_option (codes "human")) human
+    → AddsArg two json three → HasRule (flag_option (codes "json")) json → HasShape (shape_of_listed s) three
+HasShape-whole old one two three weak human json s i all is added_weak has_weak added_human has_human added_json has_json =
     let own = map argument_rule s.arguments in
+    let first = flag_option (codes "clear-weak") ∷ [] in
+    let second = flag_option (codes "human") ∷ [] in
+    let third = flag_option (codes "json") ∷ [] in
     let start = subst (λ (xs : List Argument). HasShape (record (new_shape s.word) { rules = map argument_rule xs }) old)
     (take_all i s.arguments all) is in
-    subst (λ (rules : List Rule). HasShape (record (new_shape s.word) { rules = rules }) two)
-    (append_assoc own (flag_option (codes "clear-weak") ∷ []) (flag_option (codes "json") ∷ []))
-    (HasShape-arg one two json _ _ added_json (HasShape-arg old one weak _ _ added_weak start has_weak) has_json)
+    let same : ((own ++ first) ++ second) ++ third ≡ own ++ flag_option (codes "clear-weak") ∷ flag_option (codes "human") ∷ third =
+    ap (λ (rules : List Rule). rules ++ third) (append_assoc own first second)
+    ∙ append_assoc own (flag_option (codes "clear-weak") ∷ second) third
+    in
+    subst (λ (rules : List Rule). HasShape (record (new_shape s.word) { rules = rules }) three) same
+    (HasShape-arg two three json _ _ added_json
+    (HasShape-arg one two human _ _ added_human (HasShape-arg old one weak _ _ added_weak start has_weak) has_human) has_json)
 
 -- the program with the first of some subcommands
 abbrev pub line_of_first : List Subcommand → ℕ → App

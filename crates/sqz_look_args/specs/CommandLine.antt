@@ -12,8 +12,8 @@ use Rattle.sqz_look_args.specs.declared.commands.Name.{Name}
 use Rattle.sqz_look_args.specs.declared.commands.Name.TheVariants.{Check, Info, Census, Digest, List as ListName, Show, Why, Refs, Top, Diff}
 use Rattle.sqz_look_args.specs.declared.commands.Subcommand.{Subcommand}
 use Rattle.sqz_look_args.specs.declared.commands.Argument.{Argument}
-use Rattle.sqz_look_args.specs.declared.commands.Argument.TheVariants.{Image, Images, Old, New, Object, Class, AllFaults, All}
-use Rattle.sqz_look_args.specs.declared.commands.Argument.TheVariants.{Dead, DeadInstances, By, Raw, Depth, Min, Folded, Svg}
+use Rattle.sqz_look_args.specs.declared.commands.Argument.TheVariants.{Image, Images, Old, New, Object, Root, Class, AllFaults, All}
+use Rattle.sqz_look_args.specs.declared.commands.Argument.TheVariants.{Dead, Retained, DeadInstances, By, Raw, Depth, Min, Folded, Svg}
 
 -- a required word
 abbrev pub required_word : Text → Rule
@@ -23,6 +23,10 @@ required_word name = record (new_rule name) { required = true; action = Some Set
 abbrev pub required_words : Text → Rule
 required_words name =
     record (required_word name) { range = Some (record { start_inclusive = 1; end_inclusive = usize_max }) }
+
+-- no word, or one or more
+abbrev pub optional_words : Text → Rule
+optional_words name = record (required_words name) { required = false }
 
 -- `--NAME`
 abbrev pub flag_option : Text → Rule
@@ -47,10 +51,12 @@ argument_rule Images = required_words (codes "IMAGE")
 argument_rule Old = required_word (codes "OLD")
 argument_rule New = required_word (codes "NEW")
 argument_rule Object = required_words (codes "OBJECT")
+argument_rule Root = optional_words (codes "OBJECT")
 argument_rule Class = required_words (codes "CLASS")
 argument_rule AllFaults = flag_option (codes "all")
 argument_rule All = flag_option (codes "all")
 argument_rule Dead = flag_option (codes "dead")
+argument_rule Retained = exclusive_flag (codes "retained")
 argument_rule DeadInstances = flag_option (codes "dead")
 argument_rule By = value_option (codes "by")
 argument_rule Raw = flag_option (codes "raw")
@@ -73,13 +79,13 @@ abbrev pub subcommands : List Listed
 subcommands =
     listed Check (codes "check") (Images ∷ AllFaults ∷ [])
     ∷ listed Info (codes "info") (Images ∷ [])
-    ∷ listed Census (codes "census") (Images ∷ Dead ∷ All ∷ [])
+    ∷ listed Census (codes "census") (Images ∷ Dead ∷ Retained ∷ All ∷ [])
     ∷ listed Digest (codes "digest") (Images ∷ [])
     ∷ listed ListName (codes "list") (Image ∷ Class ∷ By ∷ DeadInstances ∷ All ∷ [])
     ∷ listed Show (codes "show") (Image ∷ Object ∷ All ∷ [])
     ∷ listed Why (codes "why") (Image ∷ Object ∷ Raw ∷ All ∷ [])
     ∷ listed Refs (codes "refs") (Image ∷ Object ∷ All ∷ [])
-    ∷ listed Top (codes "top") (Image ∷ Depth ∷ Min ∷ Folded ∷ Svg ∷ [])
+    ∷ listed Top (codes "top") (Image ∷ Root ∷ Depth ∷ Min ∷ Folded ∷ Svg ∷ [])
     ∷ listed Diff (codes "diff") (Old ∷ New ∷ All ∷ [])
     ∷ []
 
@@ -87,10 +93,11 @@ subcommands =
 abbrev pub name_of : Text → Option Name
 name_of word = option_map (λ s. s.name) (find (λ s. bytes_eq s.word word) subcommands)
 
--- a subcommand has its own arguments, `--clear-weak` and `--json`
+-- a subcommand has its own arguments, `--clear-weak`, `--human` and `--json`
 abbrev pub shape_of_listed : Listed → Shape
 shape_of_listed s = record (new_shape s.word) {
-  rules = map argument_rule s.arguments ++ flag_option (codes "clear-weak") ∷ flag_option (codes "json") ∷ [];
+  rules = map argument_rule s.arguments ++ flag_option (codes "clear-weak") ∷ flag_option (codes "human")
+      ∷ flag_option (codes "json") ∷ [];
 }
 
 -- the program without its subcommands: it requires one of them, has no subcommand `help`, prints

@@ -35,6 +35,7 @@ pub record AsksSoundness (rows : List Row) (request : Request) : Type 0 where
   pub clear_weak : request.clear_weak ≡ has_flag (codes "clear-weak") rows
   pub json : request.json ≡ has_flag (codes "json") rows
   pub all : request.all ≡ has_flag (codes "all") rows
+  pub human : request.human ≡ has_flag (codes "human") rows
 
 -- the words are accepted, and their subcommand is `check` with these values
 pub record AsksCheck (words : List Text) (rows : List Row) : Type 0 where

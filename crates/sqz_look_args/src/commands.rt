@@ -4,7 +4,7 @@ ghost use Rattle.std.specs.Prelude.{◌≡◌, IfOk, codes, map};
 ghost use Rattle.clap.specs.Words.{app_of};
 ghost use Rattle.sqz_look_args.specs.CommandLine.{HasRule, HasShape, argument_rule, exclusive_flag};
 ghost use Rattle.sqz_look_args.specs.CommandLine.{flag_option, listed_of, look_line, name_of};
-ghost use Rattle.sqz_look_args.specs.CommandLine.{number_option, required_word, required_words};
+ghost use Rattle.sqz_look_args.specs.CommandLine.{number_option, optional_words, required_word, required_words};
 ghost use Rattle.sqz_look_args.specs.CommandLine.{shape_of_listed, subcommands, value_option};
 
 use clap::builder::ValueParser;
@@ -59,10 +59,12 @@ enum Argument {
     Old,
     New,
     Object,
+    Root,
     Class,
     AllFaults,
     All,
     Dead,
+    Retained,
     DeadInstances,
     By,
     Raw,
@@ -92,7 +94,12 @@ const CENSUS: Subcommand = Subcommand {
     name: Name::Census,
     word: "census",
     about: "Print a class histogram of the live objects",
-    arguments: &[Argument::Images, Argument::Dead, Argument::All],
+    arguments: &[
+        Argument::Images,
+        Argument::Dead,
+        Argument::Retained,
+        Argument::All,
+    ],
     example: "Example:\n  sqzlook census --all Scratch.image",
 };
 
@@ -153,6 +160,7 @@ const TOP: Subcommand = Subcommand {
     about: "Print what retains most, as a tree",
     arguments: &[
         Argument::Image,
+        Argument::Root,
         Argument::Depth,
         Argument::Min,
         Argument::Folded,
@@ -212,6 +220,7 @@ fn command_of<'a>(alloc: Global, subcommand: Subcommand) -> Result<Command<'a>, 
             "clear-weak",
             "Treat weak references to objects that nothing else keeps as cleared",
         ))?
+        .arg(flag(alloc, "human", "Print numbers of bytes in KB and MB"))?
         .arg(flag(alloc, "json", "Print lines of JSON"))
 }
 
@@ -230,6 +239,7 @@ fn arg_of<'a>(alloc: Global, argument: Argument) -> Result<Arg<'a>, AllocError>
             "An address in hexadecimal digits, a class, or a method as Point>>+; after `--` each \
              word is an object, and `-` takes those of standard input, one on each line",
         ),
+        Argument::Root => root(alloc),
         Argument::Class => several(
             alloc,
             "CLASS",
@@ -242,6 +252,7 @@ fn arg_of<'a>(alloc: Global, argument: Argument) -> Result<Arg<'a>, AllocError>
         ),
         Argument::All => flag(alloc, "all", "Print all, and not only the first 20 rows"),
         Argument::Dead => flag(alloc, "dead", "Count the objects that are not live"),
+        Argument::Retained => retained(alloc)?,
         Argument::DeadInstances => flag(alloc, "dead", "List the instances that are not live"),
         Argument::By => by(alloc),
         Argument::Raw => flag(alloc, "raw", "Print each step of the path"),
@@ -250,6 +261,16 @@ fn arg_of<'a>(alloc: Global, argument: Argument) -> Result<Arg<'a>, AllocError>
         Argument::Folded => folded(alloc)?,
         Argument::Svg => svg(alloc)?,
     })
+}
+
+/// Returns the positional arguments with the object of the first row of a tree.
+fn root<'a>(alloc: Global) -> Arg<'a>
+    ensures { HasRule (optional_words (codes "OBJECT")) result }
+{
+    Arg::new(alloc, "OBJECT")
+        .help("The object of the first row, as for `why` [default: the special objects array]")
+        .action(ArgAction::Set)
+        .num_args(1..)
 }
 
 /// Returns the option with the number of levels of a tree.
@@ -264,14 +285,16 @@ fn depth<'a>(alloc: Global) -> Arg<'a>
         .value_parser(ValueParser::unsigned(0, 100))
 }
 
-/// Returns the option with the least share of the live bytes that is a row of a tree.
+/// Returns the option with the least share of the first row's bytes that is a row of a tree.
 fn min<'a>(alloc: Global) -> Arg<'a>
     ensures { HasRule (value_option (codes "min")) result }
 {
     Arg::new(alloc, "min")
         .long("min")
         .value_name("PERCENT")
-        .help("Print rows of at least PERCENT of the live bytes [default: 1, or 0.2 with --svg]")
+        .help(
+            "Print rows of at least PERCENT of the first row's bytes [default: 1, or 0.2 with --svg]",
+        )
         .action(ArgAction::Set)
 }
 
@@ -284,6 +307,18 @@ fn by<'a>(alloc: Global) -> Arg<'a>
         .value_name("ORDER")
         .help("List first those that retain most, or the largest: retained or size")
         .action(ArgAction::Set)
+}
+
+/// Returns the option that adds to a class histogram what instances retain.
+fn retained<'a>(alloc: Global) -> Result<Arg<'a>, AllocError>
+    ensures { IfOk result (HasRule (exclusive_flag (codes "retained"))) }
+{
+    flag(
+        alloc,
+        "retained",
+        "Print what the instances of each class retain, the classes that retain most first",
+    )
+    .conflicts_with("dead")
 }
 
 /// Returns the option that asks for folded stacks.

@@ -3,6 +3,7 @@
 
 mod bad_request;
 mod commands;
+mod counting;
 pub mod laws;
 mod list_order;
 mod percent;
@@ -11,6 +12,7 @@ mod top_options;
 
 pub use bad_request::BadRequest;
 pub use commands::command;
+pub use counting::Counting;
 pub use list_order::{BadOrder, ListOrder};
 pub use percent::{BadPercent, Percent};
 pub use requests::{

@@ -8,6 +8,7 @@ ghost use Rattle.sqz_look_args.specs.Requests.{AsksSoundness, HasCommand, IsChec
 
 use crate::bad_request::BadRequest;
 use crate::commands::Name;
+use crate::counting::Counting;
 use crate::list_order::ListOrder;
 use crate::percent::Percent;
 use crate::top_options::{TopForm, TopOptions};
@@ -24,6 +25,8 @@ pub struct Request<'a> {
     pub json: bool,
     /// Whether all rows of the text form are asked for.
     pub all: bool,
+    /// Whether numbers of bytes are in KB and MB in the text form.
+    pub human: bool,
 }
 
 /// A question. An image is the path of its file.
@@ -51,7 +54,7 @@ pub enum Question<'a> {
 #[derive(Clone, Copy, Debug, PartialEq, Eq)]
 pub enum EachQuestion {
     Info,
-    Census { dead: bool },
+    Census(Counting),
     Digest,
 }
 
@@ -59,8 +62,15 @@ pub enum EachQuestion {
 /// for it, joined by spaces.
 #[derive(Drop)]
 pub enum NamedQuestion {
-    List { class: String, which: Instances },
-    Top(TopOptions),
+    List {
+        class: String,
+        which: Instances,
+    },
+    /// The dominator tree below an object, or from the special objects array.
+    Top {
+        object: Option<String>,
+        options: TopOptions,
+    },
     About(ObjectsAsked),
 }
 
@@ -105,6 +115,7 @@ impl<'a> Request<'a> {
             clear_weak: flag_of(matches, "clear-weak"),
             json: flag_of(matches, "json"),
             all: flag_of(matches, "all"),
+            human: flag_of(matches, "human"),
         })
     }
 
@@ -150,15 +161,18 @@ fn question_of<'a>(
         }
         Name::Info => return about_each(alloc, matches, EachQuestion::Info),
         Name::Census => {
-            let dead = flag_of(matches, "dead");
-            return about_each(alloc, matches, EachQuestion::Census { dead });
+            let question = EachQuestion::Census(Counting::asked(matches));
+            return about_each(alloc, matches, question);
         }
         Name::Digest => return about_each(alloc, matches, EachQuestion::Digest),
         Name::List => NamedQuestion::List {
             class: joined(alloc, &values_of(alloc, matches, "CLASS")?)?,
             which: asked_instances(matches)?,
         },
-        Name::Top => NamedQuestion::Top(top_options(matches)?),
+        Name::Top => NamedQuestion::Top {
+            object: asked_root(alloc, matches)?,
+            options: top_options(matches)?,
+        },
         Name::Show => about_objects(alloc, matches, apart, ObjectQuestion::Show)?,
         Name::Refs => about_objects(alloc, matches, apart, ObjectQuestion::Refs)?,
         Name::Why => {
@@ -217,6 +231,15 @@ fn asked_instances<'a>(matches: &ArgMatches<'a>) -> Result<Instances, BadRequest
     })
 }
 
+/// Returns the object of the first row of a tree, if the matches name one.
+fn asked_root(alloc: Global, matches: &ArgMatches<'_>) -> Result<Option<String>, AllocError> {
+    let words = values_of(alloc, matches, "OBJECT")?;
+    if words.is_empty() {
+        return Ok(None);
+    }
+    Ok(Some(joined(alloc, &words)?))
+}
+
 /// Returns what is asked for of a tree.
 fn top_options<'a>(matches: &ArgMatches<'a>) -> Result<TopOptions, BadRequest<'a>> {
     let form = if flag_of(matches, "svg") {
@@ -265,7 +288,7 @@ fn values_of<'a>(
 }
 
 /// Returns whether an option without a value is given.
-fn flag_of(matches: &ArgMatches<'_>, id: &str) -> bool
+pub(crate) fn flag_of(matches: &ArgMatches<'_>, id: &str) -> bool
     ensures { result ≡ has_flag id.now (rows_of (found_of matches.now)) }
 {
     // the contract of `get_flag` is silent about other texts than `true` and `false`

@@ -17,8 +17,8 @@ pub enum TopForm {
 #[derive(Clone, Copy, Debug, PartialEq, Eq)]
 pub struct TopOptions {
     pub form: TopForm,
-    /// The number of levels below the special objects array, at most 100.
+    /// The number of levels below the first row, at most 100.
     pub depth: Option<u32>,
-    /// The least share of the live bytes that has a row of its own.
+    /// The least share of what the first row retains that has a row of its own.
     pub min: Option<Percent>,
 }
