@@ -18,7 +18,7 @@ unwritten out = string_bytes out.text
 
 -- whether long lists are cut
 abbrev pub is_cut : Format → Bool
-is_cut (Text all) = not all
+is_cut (Text all human) = not all
 is_cut Json = false
 
 -- how many of `count` rows are printed: the first 20 of a list that is cut

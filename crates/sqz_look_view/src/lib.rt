@@ -2,6 +2,7 @@
 //! view as text for a person or as a line of JSON.
 #![tactic(auto)]
 
+mod amounts;
 mod counted;
 mod hex;
 mod inspector;
@@ -10,8 +11,11 @@ mod object_label;
 mod out;
 mod places;
 mod print_error;
+mod slots;
+mod special_names;
 mod subject;
 
+pub use amounts::{write_amount, write_bytes, write_difference, write_unit};
 pub use counted::Counted;
 pub use hex::Hex;
 pub use inspector::Inspector;
@@ -20,4 +24,5 @@ pub use object_label::ObjectLabel;
 pub use out::{Format, Out};
 pub use places::object_at;
 pub use print_error::PrintError;
+pub use slots::{SlotName, SlotNames};
 pub use subject::Subject;

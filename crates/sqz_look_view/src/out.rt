@@ -22,8 +22,9 @@ const PIECE: usize = 65536;
 /// The form in which answers are printed.
 #[derive(Clone, Copy, Debug, PartialEq, Eq)]
 pub enum Format {
-    /// Text for a person. Long lists are cut, unless `all`.
-    Text { all: bool },
+    /// Text for a person. Long lists are cut, unless `all`. If `human`, numbers of bytes are in KB
+    /// and MB.
+    Text { all: bool, human: bool },
     /// Lines of JSON, whole.
     Json,
 }
@@ -58,8 +59,8 @@ impl<'a, C: Sink> Out<'a, C> {
         ensures bounded { result ≤ count }
     {
         match self.format {
-            Format::Text { all: false } => count.min(MOST_ROWS as usize),
-            Format::Text { all: true } | Format::Json => count,
+            Format::Text { all: false, .. } => count.min(MOST_ROWS as usize),
+            Format::Text { all: true, .. } | Format::Json => count,
         }
     }
 
@@ -69,8 +70,8 @@ impl<'a, C: Sink> Out<'a, C> {
         ensures bounded { result ≤ count }
     {
         match self.format {
-            Format::Text { all: false } => count.min(MOST_ROWS),
-            Format::Text { all: true } | Format::Json => count,
+            Format::Text { all: false, .. } => count.min(MOST_ROWS),
+            Format::Text { all: true, .. } | Format::Json => count,
         }
     }
 
@@ -78,7 +79,7 @@ impl<'a, C: Sink> Out<'a, C> {
     pub fn is_cut(&self) -> bool
         ensures { result ≡ is_cut (format_of self.now) }
     {
-        self.format == Format::Text { all: false }
+        matches!(self.format, Format::Text { all: false, .. })
     }
 
     /// Prints a row: as text, or as a line of JSON. Fails with `WriteFailed` if the sink does, and
@@ -131,9 +132,12 @@ impl<'a, C: Sink> Out<'a, C> {
         self.text
     }
 
-    /// Prints a row as text.
+    /// Prints a row as text: in the alternate form, numbers of bytes are in KB and MB.
     fn line<V: Display>(&mut self, view: &V) -> Result<(), PrintError> {
-        writeln!(self.text, "{view}")?;
+        match self.format {
+            Format::Text { human: true, .. } => writeln!(self.text, "{view:#}")?,
+            Format::Text { human: false, .. } | Format::Json => writeln!(self.text, "{view}")?,
+        }
         self.end_line()
     }
 
