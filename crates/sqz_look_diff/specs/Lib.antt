@@ -1,1 +1,2 @@
 pub mod ClassSizes
+pub mod Matched

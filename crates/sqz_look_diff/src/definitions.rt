@@ -1,57 +1,137 @@
 //! The definitions of classes.
 
+ghost use Rattle.std.specs.Prelude.{◌<◌};
+ghost use Rattle.sqz_image.specs.Objects.{object_count};
+
+use crate::categories::Categories;
+use crate::name_list::NameList;
 use crate::numbers::Numbers;
-use crate::values::{TextChange, Values};
 use crate::whole_names::{WholeNames, field_of};
+use sqz_answers::Change;
 use sqz_look_view::Inspector;
 use sqz_names::fields::{INSTANCE_VARIABLES, SUPERCLASS};
-use std::alloc::AllocError;
+use sqz_object::ObjectIndex;
+use std::alloc::{AllocError, Global};
+use std::collections::BTreeMap;
 
-/// The classes that came or went, or whose definitions differ.
+/// The classes that came or went, or whose definitions differ, by name.
 #[derive(Drop)]
 pub(crate) struct DefinitionChanges {
     /// Those that came or went, or have another superclass: their superclasses.
-    pub(crate) superclasses: Vec<TextChange>,
+    pub(crate) superclasses: Vec<Change<String>>,
     /// Those of both images that add other instance variables to those of their superclasses.
-    pub(crate) variables: Vec<TextChange>,
+    pub(crate) variables: Vec<Change<NameList>>,
+    /// Those of both images with another category. None if the class has no category.
+    pub(crate) categories: Vec<Change<String>>,
 }
 
+/// The definition of a class.
+#[derive(Drop)]
+struct Definition {
+    superclass: String,
+    variables: NameList,
+    category: Option<String>,
+}
+
+/// The definitions of live classes, by their names. Classes with one name are in the order of their
+/// addresses.
+type Definitions = BTreeMap<String, Vec<Definition>>;
+
 impl DefinitionChanges {
+    /// Returns no changes.
+    fn none(alloc: Global) -> Self {
+        DefinitionChanges {
+            superclasses: Vec::new(alloc),
+            variables: Vec::new(alloc),
+            categories: Vec::new(alloc),
+        }
+    }
+
     /// Returns the number of changes.
     pub(crate) fn len(&self) -> usize {
-        self.superclasses.len() + self.variables.len()
+        let (some, others) = (self.superclasses.len(), self.variables.len());
+        some.saturating_add(others)
+            .saturating_add(self.categories.len())
+    }
+
+    /// Adds what differs between the classes that have one name in two images. Several are compared
+    /// by their order.
+    fn add(
+        &mut self,
+        alloc: Global,
+        name: &str,
+        old: &[Definition],
+        new: &[Definition],
+    ) -> Result<(), AllocError> {
+        for place in 0..old.len().max(new.len()) {
+            match (old.get(place), new.get(place)) {
+                (Some(old), Some(new)) => self.add_differences(alloc, name, old, new)?,
+                (old, new) => self.superclasses.push(Change {
+                    name: String::from_str(alloc, name)?,
+                    old: superclass_of(old)?,
+                    new: superclass_of(new)?,
+                })?,
+            }
+        }
+        Ok(())
+    }
+
+    /// Adds what differs between two definitions of a class.
+    fn add_differences(
+        &mut self,
+        alloc: Global,
+        name: &str,
+        old: &Definition,
+        new: &Definition,
+    ) -> Result<(), AllocError> {
+        if old.superclass.as_str() != new.superclass.as_str() {
+            self.superclasses.push(Change {
+                name: String::from_str(alloc, name)?,
+                old: superclass_of(Some(old))?,
+                new: superclass_of(Some(new))?,
+            })?;
+        }
+        if !old.variables.is_same(&new.variables) {
+            self.variables.push(Change {
+                name: String::from_str(alloc, name)?,
+                old: Some(old.variables.copied(alloc)?),
+                new: Some(new.variables.copied(alloc)?),
+            })?;
+        }
+        if !is_same_text(&old.category, &new.category) {
+            self.categories.push(Change {
+                name: String::from_str(alloc, name)?,
+                old: text_copy(&old.category)?,
+                new: text_copy(&new.category)?,
+            })?;
+        }
+        Ok(())
     }
 }
 
-/// The definitions of the live classes of an image, by their names.
-#[derive(Drop)]
-struct Definitions {
-    superclasses: Values,
-    variables: Values,
-}
-
-/// Returns the classes that came or went, or whose definitions differ.
+/// Returns the classes that came or went, or whose definitions differ: those of the old image by
+/// name, and then those of the new one alone.
 pub(crate) fn definition_changes(
     old: &Inspector<'_>,
     new: &Inspector<'_>,
 ) -> Result<DefinitionChanges, AllocError> {
     let alloc = old.alloc;
     let mut numbers = Numbers::new(alloc);
-    let (old, new) = (
-        definitions_in(old, &mut numbers)?,
-        definitions_in(new, &mut numbers)?,
-    );
-    let superclasses = old.superclasses.changes(alloc, &new.superclasses)?;
-    let mut variables = Vec::new(alloc);
-    for change in old.variables.changes(alloc, &new.variables)? {
-        if change.old.is_some() && change.new.is_some() {
-            variables.push(change)?;
+    let old = definitions_in(old, &mut numbers)?;
+    let new = definitions_in(new, &mut numbers)?;
+    let mut changes = DefinitionChanges::none(alloc);
+    for (name, definitions) in old.iter() {
+        match new.get(name.as_str()) {
+            Some(others) => changes.add(alloc, name.as_str(), definitions, others)?,
+            None => changes.add(alloc, name.as_str(), definitions, &[])?,
         }
     }
-    Ok(DefinitionChanges {
-        superclasses,
-        variables,
-    })
+    for (name, definitions) in new.iter() {
+        if !old.contains_key(name.as_str()) {
+            changes.add(alloc, name.as_str(), &[], definitions)?;
+        }
+    }
+    Ok(changes)
 }
 
 /// Returns the definitions of the live classes of an image.
@@ -61,27 +141,77 @@ fn definitions_in(
 ) -> Result<Definitions, AllocError> {
     let alloc = inspector.alloc;
     let mut names = WholeNames::new(alloc);
-    let mut found = Definitions {
-        superclasses: Values::new(alloc),
-        variables: Values::new(alloc),
-    };
+    let categories = Categories::of(inspector, &mut names, numbers)?;
+    let mut found = BTreeMap::new(alloc);
     for class in 0..inspector.live.graph.heap.len() {
         if !inspector.names.is_class(class) || !inspector.live.marks.has(class) {
             continue;
         }
         let name = names.class(inspector, numbers, class)?;
-        let superclass = match field_of(inspector, class, SUPERCLASS) {
-            Some(superclass) if inspector.names.is_class(superclass) => {
-                names.class(inspector, numbers, superclass)?
-            }
-            _ => String::from_str(alloc, "nil")?,
+        let definition = Definition {
+            superclass: superclass_text(inspector, &mut names, numbers, class)?,
+            variables: variables_of(inspector, &mut names, numbers, class)?,
+            category: categories.of_class(inspector, class)?,
         };
-        let variables = match field_of(inspector, class, INSTANCE_VARIABLES) {
-            Some(array) => names.list(inspector, numbers, array)?,
-            None => String::new(alloc),
-        };
-        found.superclasses.add(name.clone()?, superclass)?;
-        found.variables.add(name, variables)?;
+        let same_name = found.entry(name)?.or_insert(Vec::new(alloc));
+        same_name.push(definition)?;
     }
     Ok(found)
+}
+
+/// Returns the name of the superclass of a class, or `nil`.
+fn superclass_text(
+    inspector: &Inspector<'_>,
+    names: &mut WholeNames,
+    numbers: &mut Numbers,
+    class: ObjectIndex,
+) -> Result<String, AllocError>
+    requires { class < object_count inspector.now.live.graph.heap.now }
+{
+    match field_of(inspector, class, SUPERCLASS) {
+        Some(superclass) if inspector.names.is_class(superclass) => {
+            names.class(inspector, numbers, superclass)
+        }
+        _ => String::from_str(inspector.alloc, "nil"),
+    }
+}
+
+/// Returns the names of the instance variables that a class adds to those of its superclass.
+fn variables_of(
+    inspector: &Inspector<'_>,
+    names: &mut WholeNames,
+    numbers: &mut Numbers,
+    class: ObjectIndex,
+) -> Result<NameList, AllocError>
+    requires { class < object_count inspector.now.live.graph.heap.now }
+{
+    match field_of(inspector, class, INSTANCE_VARIABLES) {
+        Some(array) => names.list(inspector, numbers, array),
+        None => Ok(NameList::empty(inspector.alloc)),
+    }
+}
+
+/// Returns the superclass in a definition, if there is one.
+fn superclass_of(definition: Option<&Definition>) -> Result<Option<String>, AllocError> {
+    match definition {
+        Some(definition) => Ok(Some(definition.superclass.clone()?)),
+        None => Ok(None),
+    }
+}
+
+/// Returns whether two texts are the same, or both are missing.
+fn is_same_text(one: &Option<String>, other: &Option<String>) -> bool {
+    match (one, other) {
+        (Some(one), Some(other)) => one.as_str() == other.as_str(),
+        (None, None) => true,
+        _ => false,
+    }
+}
+
+/// Returns a copy of a text, if there is one.
+fn text_copy(text: &Option<String>) -> Result<Option<String>, AllocError> {
+    match text {
+        Some(text) => Ok(Some(text.clone()?)),
+        None => Ok(None),
+    }
 }

@@ -1,31 +1,32 @@
 //! What changed between two images.
 
-ghost use Rattle.std.specs.Prelude.{IfOk, IsTrue, ◌↔◌};
+ghost use Rattle.std.specs.Prelude.{All, IfOk, IsTrue, ◌<◌, ◌↔◌};
 ghost use Rattle.sqz_image.specs.Objects.{object_count};
 ghost use Rattle.sqz_alike.specs.Alike.{AreAlike, IsInside};
 ghost use Rattle.sqz_alike.specs.Seen.{seen};
 
+use crate::definition_view::DefinitionView;
 use crate::definitions::DefinitionChanges;
 use crate::differences::Differences;
 use crate::first_difference::{DifferenceView, ObjectView};
+use crate::holder_view::HolderView;
 use crate::methods::MethodChanges;
 use crate::values::ValueChange;
 use crate::variables::VariableChanges;
-use crate::views::{
-    ClassView, DefinitionView, MethodView, Part, TotalView, ValueView, VariableView,
-};
+use crate::views::{ClassView, MethodView, TotalView, ValueView, VariableView};
 use sqz_alike::{Alikeness, compare};
 use sqz_answers::{Change, Size};
 use sqz_image::Sink;
-use sqz_look_view::{Inspector, Out, PrintError};
+use sqz_look_view::{Inspector, Out, PrintError, SlotNames};
+use sqz_match::{Holder, find_referrers};
 use std::alloc::{AllocError, Global};
 use std::thread::Threads;
 
 /// Prints what changed from the old image to the new one: the number of live objects and their
 /// bytes, the classes whose instances differ in number or size, the variables that retain more or
 /// less or have other values, the classes whose definitions differ, and the methods that came, went
-/// or changed; if there is no such change, the first objects that differ. Returns whether the images
-/// are alike.
+/// or changed, and the objects without names that retain more; if there is no such change, the
+/// first objects that differ. Returns whether the images are alike.
 pub fn print_diff<C: Sink>(
     rt: &(impl Threads + Sync),
     old: &Inspector<'_>,
@@ -38,12 +39,13 @@ pub fn print_diff<C: Sink>(
     let alloc = old.alloc;
     let alikeness = compare(alloc, &old.live, &new.live)?;
     let differences = Differences::between(rt, old, new)?;
-    out.emit(&TotalView::of(alloc, differences.old, differences.new)?)?;
+    out.emit(&TotalView::of(differences.old, differences.new))?;
     print_classes(alloc, &differences.classes, out)?;
     print_variables(alloc, &differences.variables, out)?;
     print_values(alloc, &differences.variables.values, out)?;
     print_definitions(alloc, &differences.definitions, out)?;
     print_methods(alloc, &differences.methods, out)?;
+    print_holders(new, &differences.holders, out)?;
     print_alikeness(old, new, alikeness, differences.is_empty(), out)?;
     Ok(alikeness == Alikeness::Alike)
 }
@@ -125,11 +127,15 @@ fn print_definitions<C: Sink>(
     out.text(&format!(in alloc; "definitions {count} changed")?)?;
     let most = out.shown(count);
     for change in changes.superclasses.iter().take(most) {
-        out.emit(&DefinitionView::of(Part::Superclass, change))?;
+        out.emit(&DefinitionView::of_superclass(change))?;
     }
     let most = most.saturating_sub(changes.superclasses.len());
     for change in changes.variables.iter().take(most) {
-        out.emit(&DefinitionView::of(Part::InstanceVariables, change))?;
+        out.emit(&DefinitionView::of_variables(change))?;
+    }
+    let most = most.saturating_sub(changes.variables.len());
+    for change in changes.categories.iter().take(most) {
+        out.emit(&DefinitionView::of_category(change))?;
     }
     out.rest(count, "row")
 }
@@ -146,6 +152,27 @@ fn print_methods<C: Sink>(
         out.emit(&MethodView::of(methods.name(alloc, *change)?, *change))?;
     }
     out.rest(changes.len(), "row")
+}
+
+/// Prints the objects without names that retain more.
+fn print_holders<C: Sink>(
+    new: &Inspector<'_>,
+    holders: &[Holder],
+    out: &mut Out<'_, C>,
+) -> Result<(), PrintError>
+    requires { All (λ holder. holder.object < object_count new.now.live.graph.heap.now)
+        holders.now }
+{
+    let alloc = new.alloc;
+    let count = holders.len();
+    out.text(&format!(in alloc; "holders   {count} changed")?)?;
+    let shown = &holders[..out.shown(count)];
+    let referrers = find_referrers(alloc, &new.live, shown)?;
+    let mut names = SlotNames::none(alloc);
+    for (holder, first) in shown.iter().zip(&referrers) {
+        out.emit(&HolderView::of(new, &mut names, *holder, *first)?)?;
+    }
+    out.rest(count, "row")
 }
 
 /// Returns the line about all methods.

@@ -1,12 +1,18 @@
 //! What differs between two images.
 
+ghost use Rattle.std.specs.Prelude.{◌<◌, All, IfOk};
+ghost use Rattle.sqz_image.specs.Objects.{object_count};
+
 use crate::classes::class_changes;
 use crate::definitions::{DefinitionChanges, definition_changes};
+use crate::holders::holders_in;
+use crate::matched::Matched;
 use crate::methods::{MethodChanges, method_changes};
 use crate::variables::{VariableChanges, variable_changes};
 use sqz_answers::{Change, Size};
 use sqz_facts::marked_bytes;
 use sqz_look_view::Inspector;
+use sqz_match::Holder;
 use std::alloc::AllocError;
 use std::thread::Threads;
 
@@ -21,6 +27,8 @@ pub(crate) struct Differences {
     pub(crate) variables: VariableChanges,
     pub(crate) definitions: DefinitionChanges,
     pub(crate) methods: MethodChanges,
+    /// The objects of the new image that have no name and retain more, or are new.
+    pub(crate) holders: Vec<Holder>,
 }
 
 impl Differences {
@@ -29,14 +37,19 @@ impl Differences {
         rt: &(impl Threads + Sync),
         old: &Inspector<'_>,
         new: &Inspector<'_>,
-    ) -> Result<Self, AllocError> {
+    ) -> Result<Self, AllocError>
+        ensures { IfOk result (λ found. All (λ holder.
+            holder.object < object_count new.now.live.graph.heap.now) found.holders.items) }
+    {
+        let matched = Matched::between(old, new)?;
         Ok(Differences {
             old: size_of(old),
             new: size_of(new),
             classes: class_changes(rt, old, new)?,
-            variables: variable_changes(old, new)?,
+            variables: variable_changes(old, new, &matched)?,
             definitions: definition_changes(old, new)?,
             methods: method_changes(old, new)?,
+            holders: holders_in(new, &matched)?,
         })
     }
 
@@ -48,6 +61,7 @@ impl Differences {
             && self.variables.values.is_empty()
             && self.definitions.len() == 0
             && self.methods.changes.is_empty()
+            && self.holders.is_empty()
     }
 }
 

@@ -3,6 +3,7 @@
 ghost use Rattle.std.specs.Prelude.{◌<◌};
 ghost use Rattle.sqz_image.specs.Objects.{object_count};
 
+use crate::path_view::PathView;
 use serde::Serialize;
 use sqz_look_view::{Hex, Inspector, ObjectLabel};
 use sqz_object::ObjectIndex;
@@ -15,6 +16,8 @@ pub(crate) struct ObjectView {
     address: Hex,
     class: String,
     label: ObjectLabel,
+    /// A shortest path to the object.
+    path: Option<PathView>,
 }
 
 impl ObjectView {
@@ -26,6 +29,7 @@ impl ObjectView {
             address: inspector.address(object),
             class: inspector.names.name_of_class_of(object)?,
             label: ObjectLabel::of(inspector, object)?,
+            path: PathView::of(inspector, object)?,
         })
     }
 }
@@ -61,6 +65,13 @@ impl DifferenceView {
 impl fmt::Display for DifferenceView {
     fn fmt<W: fmt::Write>(&self, f: &mut fmt::Formatter<W>) -> fmt::Result {
         let (old, new) = (&self.old, &self.new);
-        write!(f, "first difference: {old} -> {new}")
+        write!(f, "first difference: {old} -> {new}")?;
+        if let Some(path) = &old.path {
+            write!(f, "\n  old: {path}")?;
+        }
+        if let Some(path) = &new.path {
+            write!(f, "\n  new: {path}")?;
+        }
+        Ok(())
     }
 }

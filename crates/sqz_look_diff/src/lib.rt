@@ -3,16 +3,26 @@
 #![tactic(auto)]
 
 mod bytecodes;
+mod categories;
 mod classes;
 mod contents;
+mod definition_view;
 mod definitions;
 mod diff;
 mod differences;
 mod first_difference;
+mod holder_view;
+mod holders;
+mod kinds;
 mod literals;
+mod matched;
 mod method_names;
 mod methods;
+mod name_list;
+mod named_objects;
 mod numbers;
+mod path_view;
+mod signed;
 mod values;
 mod variables;
 mod views;

@@ -10,16 +10,6 @@ use sqz_object::{ObjectIndex, Value, value_of};
 use std::alloc::{AllocError, Global};
 use std::collections::BTreeMap;
 
-/// What has a text in the old image, in the new one, or in both.
-#[derive(Drop)]
-pub(crate) struct TextChange {
-    pub(crate) name: String,
-    /// None if only the new image has the name.
-    pub(crate) old: Option<String>,
-    /// None if only the old image has the name.
-    pub(crate) new: Option<String>,
-}
-
 /// A variable of both images with another value.
 #[derive(Drop)]
 pub(crate) struct ValueChange {
@@ -56,45 +46,24 @@ impl Values {
             }
         }
     }
-
-    /// Returns the names that have other texts in another image, or that one image alone has: those
-    /// of this image by name, and then those of the other one alone.
-    pub(crate) fn changes(
-        &self,
-        alloc: Global,
-        other: &Values,
-    ) -> Result<Vec<TextChange>, AllocError> {
-        let mut changes = Vec::new(alloc);
-        for (name, old) in self.texts.iter() {
-            let new = match other.texts.get(name.as_str()) {
-                Some(new) if new.as_str() == old.as_str() => continue,
-                Some(new) => Some(new.clone()?),
-                None => None,
-            };
-            let (name, old) = (name.clone()?, Some(old.clone()?));
-            changes.push(TextChange { name, old, new })?;
-        }
-        for (name, new) in other.texts.iter() {
-            if !self.texts.contains_key(name.as_str()) {
-                let (name, old, new) = (name.clone()?, None, Some(new.clone()?));
-                changes.push(TextChange { name, old, new })?;
-            }
-        }
-        Ok(changes)
-    }
 }
 
-/// Returns the variables of both images with other values.
+/// Returns the variables of both images with other values, by name.
 pub(crate) fn value_changes(
     alloc: Global,
     old: &Values,
     new: &Values,
 ) -> Result<Vec<ValueChange>, AllocError> {
     let mut changes = Vec::new(alloc);
-    for change in old.changes(alloc, new)? {
-        let TextChange { name, old, new } = change;
-        if let (Some(old), Some(new)) = (old, new) {
-            changes.push(ValueChange { name, old, new })?;
+    for (name, old) in old.texts.iter() {
+        if let Some(new) = new.texts.get(name.as_str())
+            && new.as_str() != old.as_str()
+        {
+            changes.push(ValueChange {
+                name: name.clone()?,
+                old: old.clone()?,
+                new: new.clone()?,
+            })?;
         }
     }
     Ok(changes)

@@ -3,11 +3,12 @@
 ghost use Rattle.std.specs.Prelude.{◌<◌, IfSome};
 ghost use Rattle.sqz_image.specs.Objects.{object_count};
 
+use crate::matched::Matched;
 use crate::numbers::Numbers;
 use crate::values::{ValueChange, Values, value_changes, value_text};
 use crate::whole_names::WholeNames;
 use sqz_answers::{Change, changes_of, sort_by_difference};
-use sqz_dominators::dominators_of;
+use sqz_dominators::Dominators;
 use sqz_look_view::Inspector;
 use sqz_names::{Known, Label};
 use sqz_object::ObjectIndex;
@@ -19,6 +20,8 @@ use std::collections::{BTreeMap, BTreeSet};
 struct Holdings {
     /// By name, the bytes that the associations retain.
     bytes: BTreeMap<String, u64>,
+    /// By name, those of these bytes that the shares count.
+    shares: BTreeMap<String, u64>,
     /// The names whose values are not all nil.
     set: BTreeSet<String>,
     /// The values.
@@ -35,6 +38,8 @@ pub(crate) struct VariableChanges {
     /// The names whose values are not nil in the old image, and in the new one.
     old_set: BTreeSet<String>,
     new_set: BTreeSet<String>,
+    /// By name, the bytes of new objects that the variables of the new image retain.
+    new_bytes: BTreeMap<String, u64>,
 }
 
 impl VariableChanges {
@@ -47,16 +52,25 @@ impl VariableChanges {
     pub(crate) fn is_nil(&self, name: &str) -> bool {
         !self.new_set.contains(name)
     }
+
+    /// Returns how many of the bytes that a variable retains now are those of new objects. None if
+    /// the new image has no such variable.
+    pub(crate) fn new_bytes(&self, name: &str) -> Option<u64> {
+        self.new_bytes.get(name).copied()
+    }
 }
 
 /// Returns the variables that came, went, retain more or less, or have another value.
 pub(crate) fn variable_changes(
     old: &Inspector<'_>,
     new: &Inspector<'_>,
+    matched: &Matched,
 ) -> Result<VariableChanges, AllocError> {
     let alloc = old.alloc;
     let mut numbers = Numbers::new(alloc);
-    let (old, new) = (held_in(old, &mut numbers)?, held_in(new, &mut numbers)?);
+    let old = held_in(old, &mut numbers, &matched.old, &[])?;
+    let shares = matched.new.shares.as_slice();
+    let new = held_in(new, &mut numbers, &matched.new.dominators, shares)?;
     let mut changes = changes_of(alloc, &old.bytes, &new.bytes)?;
     sort_by_difference(&mut changes)?;
     let values = value_changes(alloc, &old.values, &new.values)?;
@@ -65,16 +79,22 @@ pub(crate) fn variable_changes(
         values,
         old_set: old.set,
         new_set: new.set,
+        new_bytes: new.shares,
     })
 }
 
 /// Returns what the variables of an image hold, by their names. Variables with one name are added
-/// up.
-fn held_in(inspector: &Inspector<'_>, numbers: &mut Numbers) -> Result<Holdings, AllocError> {
-    let dominators = dominators_of(inspector.alloc, inspector.live.graph)?;
+/// up. `shares` has bytes by object, if they are to be added up, too.
+fn held_in(
+    inspector: &Inspector<'_>,
+    numbers: &mut Numbers,
+    dominators: &Dominators,
+    shares: &[u64],
+) -> Result<Holdings, AllocError> {
     let mut names = WholeNames::new(inspector.alloc);
     let mut held = Holdings {
         bytes: BTreeMap::new(inspector.alloc),
+        shares: BTreeMap::new(inspector.alloc),
         set: BTreeSet::new(inspector.alloc),
         values: Values::new(inspector.alloc),
     };
@@ -85,13 +105,18 @@ fn held_in(inspector: &Inspector<'_>, numbers: &mut Numbers) -> Result<Holdings,
             continue;
         }
         last = Some(association);
-        if let Some(variable) = inspector.names.variable(association)? {
-            let label = names.variable(inspector, numbers, *name)?;
+        if let Some(variable) = inspector.names.variable(association)?
+            && let Some(label) = names.variable(inspector, numbers, *name)?
+        {
             if !is_nil(inspector, variable.value)? {
                 held.set.insert(label.clone()?)?;
             }
             let value = value_text(inspector, association, variable.value)?;
             held.values.add(label.clone()?, value)?;
+            if let Some(share) = shares.get(association as usize) {
+                let total = held.shares.entry(label.clone()?)?.or_insert(0);
+                *total = total.saturating_add(*share);
+            }
             let bytes = held.bytes.entry(label)?.or_insert(0);
             *bytes = bytes.saturating_add(dominators.retained(association).bytes);
         }

@@ -1,10 +1,12 @@
 //! The rows that say what differs.
 
 use crate::methods::MethodChange;
-use crate::values::{TextChange, ValueChange};
+use crate::signed::signed_difference;
+use crate::values::ValueChange;
 use crate::variables::VariableChanges;
 use serde::Serialize;
 use sqz_answers::{Change, Size, bytes_or_none, size_or_nothing};
+use sqz_look_view::{write_amount, write_difference, write_unit};
 use std::alloc::{AllocError, Global};
 use std::fmt;
 
@@ -30,32 +32,30 @@ pub(crate) struct TotalView {
     name: Option<&'static str>,
     old: SizeView,
     new: SizeView,
-    /// The difference of the bytes, with its sign.
-    #[serde(skip)]
-    bytes: String,
 }
 
 impl TotalView {
     /// Returns the row of all live objects.
-    pub(crate) fn of(alloc: Global, old: Size, new: Size) -> Result<Self, AllocError> {
-        Ok(TotalView {
+    pub(crate) fn of(old: Size, new: Size) -> Self {
+        TotalView {
             kind: "total",
             name: None,
             old: SizeView::of(old),
             new: SizeView::of(new),
-            bytes: signed(alloc, old.bytes, new.bytes)?,
-        })
+        }
     }
 }
 
 impl fmt::Display for TotalView {
     fn fmt<W: fmt::Write>(&self, f: &mut fmt::Formatter<W>) -> fmt::Result {
-        let (old, new, bytes) = (self.old, self.new, self.bytes.as_str());
-        write!(
-            f,
-            "objects   {} -> {}, bytes {} -> {} ({bytes})",
-            old.objects, new.objects, old.bytes, new.bytes
-        )
+        let (old, new) = (self.old, self.new);
+        write!(f, "objects   {} -> {}, bytes ", old.objects, new.objects)?;
+        write_amount(f, old.bytes, 0)?;
+        f.write_str(" -> ")?;
+        write_amount(f, new.bytes, 0)?;
+        f.write_str(" (")?;
+        write_difference(f, old.bytes, new.bytes, 0)?;
+        f.write_str(")")
     }
 }
 
@@ -66,9 +66,12 @@ pub(crate) struct ClassView<'a> {
     name: &'a str,
     old: Option<SizeView>,
     new: Option<SizeView>,
-    /// The differences of the bytes and of the objects, with their signs.
+    /// The bytes in both images, 0 if an image has no such class.
     #[serde(skip)]
-    bytes: String,
+    was: u64,
+    #[serde(skip)]
+    is: u64,
+    /// The difference of the objects, with its sign.
     #[serde(skip)]
     objects: String,
 }
@@ -82,16 +85,19 @@ impl<'a> ClassView<'a> {
             name: change.name.as_str(),
             old: change.old.map(SizeView::of),
             new: change.new.map(SizeView::of),
-            bytes: signed(alloc, old.bytes, new.bytes)?,
-            objects: signed(alloc, old.objects, new.objects)?,
+            was: old.bytes,
+            is: new.bytes,
+            objects: signed_difference(alloc, old.objects, new.objects)?,
         })
     }
 }
 
 impl fmt::Display for ClassView<'_> {
     fn fmt<W: fmt::Write>(&self, f: &mut fmt::Formatter<W>) -> fmt::Result {
-        let (bytes, objects, name) = (self.bytes.as_str(), self.objects.as_str(), self.name);
-        write!(f, "{bytes:>11} bytes {objects:>10} objects  {name}")
+        let (objects, name) = (self.objects.as_str(), self.name);
+        write_difference(f, self.was, self.is, 11)?;
+        write_unit(f)?;
+        write!(f, " {objects:>10} objects  {name}")
     }
 }
 
@@ -102,9 +108,11 @@ pub(crate) struct VariableView<'a> {
     name: &'a str,
     old: Option<u64>,
     new: Option<u64>,
-    /// The difference of the bytes, with its sign.
+    /// Of the bytes that it retains now, those of new objects. None if it is gone.
+    new_bytes: Option<u64>,
+    /// How many of them are new, as text.
     #[serde(skip)]
-    bytes: String,
+    share: String,
     /// What became of the variable, as text.
     #[serde(skip)]
     note: &'static str,
@@ -118,12 +126,14 @@ impl<'a> VariableView<'a> {
         change: &'a Change<u64>,
     ) -> Result<Self, AllocError> {
         let (old, new) = (change.old, change.new);
+        let new_bytes = variables.new_bytes(change.name.as_str());
         Ok(VariableView {
             kind: "retained",
             name: change.name.as_str(),
             old,
             new,
-            bytes: signed(alloc, bytes_or_none(old), bytes_or_none(new))?,
+            new_bytes,
+            share: share_text(alloc, change, new_bytes)?,
             note: note_of(variables, change),
         })
     }
@@ -131,8 +141,26 @@ impl<'a> VariableView<'a> {
 
 impl fmt::Display for VariableView<'_> {
     fn fmt<W: fmt::Write>(&self, f: &mut fmt::Formatter<W>) -> fmt::Result {
-        let (bytes, name, note) = (self.bytes.as_str(), self.name, self.note);
-        write!(f, "{bytes:>11} bytes  {name}{note}")
+        let (name, note) = (self.name, self.note);
+        write_difference(f, bytes_or_none(self.old), bytes_or_none(self.new), 11)?;
+        write_unit(f)?;
+        f.write_str(" ")?;
+        self.write_share(f)?;
+        write!(f, " {name}{note}")
+    }
+}
+
+impl VariableView<'_> {
+    /// Writes how many of the bytes are new.
+    fn write_share<W: fmt::Write>(&self, f: &mut fmt::Formatter<W>) -> fmt::Result {
+        match self.new_bytes {
+            Some(bytes) if bytes > 0 && f.alternate() => {
+                f.write_str("(")?;
+                write_amount(f, bytes, 0)?;
+                f.write_str(" new)")
+            }
+            _ => write!(f, "{:<16}", self.share.as_str()),
+        }
     }
 }
 
@@ -162,61 +190,6 @@ impl fmt::Display for ValueView<'_> {
         let (name, old, new) = (self.name, self.old, self.new);
         write!(f, "  {name}: {old} -> {new}")
     }
-}
-
-/// A part of the definition of a class.
-#[derive(Clone, Copy, Drop, Serialize)]
-#[serde(rename_all = "snake_case")]
-pub(crate) enum Part {
-    Superclass,
-    InstanceVariables,
-}
-
-/// A class that came or went, or has another definition.
-#[derive(Drop, Serialize)]
-pub(crate) struct DefinitionView<'a> {
-    kind: &'static str,
-    name: &'a str,
-    part: Part,
-    old: Option<&'a str>,
-    new: Option<&'a str>,
-}
-
-impl<'a> DefinitionView<'a> {
-    /// Returns the row of a part of the definition of a class.
-    pub(crate) fn of(part: Part, change: &'a TextChange) -> Self {
-        DefinitionView {
-            kind: "definition",
-            name: change.name.as_str(),
-            part,
-            old: change.old.as_ref().map(|text| text.as_str()),
-            new: change.new.as_ref().map(|text| text.as_str()),
-        }
-    }
-}
-
-impl fmt::Display for DefinitionView<'_> {
-    fn fmt<W: fmt::Write>(&self, f: &mut fmt::Formatter<W>) -> fmt::Result {
-        let part = match self.part {
-            Part::Superclass => "superclass",
-            Part::InstanceVariables => "instance variables",
-        };
-        let name = self.name;
-        match (self.old, self.new) {
-            (Some(old), Some(new)) => {
-                let (old, new) = (or_none(old), or_none(new));
-                write!(f, "  changed  {name}: {part} {old} -> {new}")
-            }
-            (Some(old), None) => write!(f, "  removed  {name}: {part} {old}"),
-            (None, Some(new)) => write!(f, "  added    {name}: {part} {new}"),
-            (None, None) => Ok(()),
-        }
-    }
-}
-
-/// Returns a list of names, and `none` if it is empty.
-fn or_none(names: &str) -> &str {
-    if names.is_empty() { "none" } else { names }
 }
 
 /// A method that came, went or changed.
@@ -252,6 +225,22 @@ impl fmt::Display for MethodView {
     }
 }
 
+/// Returns how many of the bytes that a variable retains now are new, as text. Empty if it does not
+/// retain more, and none are new.
+fn share_text(
+    alloc: Global,
+    change: &Change<u64>,
+    new_bytes: Option<u64>,
+) -> Result<String, AllocError> {
+    match new_bytes {
+        Some(0) if bytes_or_none(change.old) < bytes_or_none(change.new) => {
+            String::from_str(alloc, "(none new)")
+        }
+        Some(0) | None => Ok(String::new(alloc)),
+        Some(bytes) => format!(in alloc; "({bytes} new)"),
+    }
+}
+
 /// Returns what the row of a variable ends with: whether it came or went, or its value was or is
 /// nil.
 fn note_of(variables: &VariableChanges, change: &Change<u64>) -> &'static str {
@@ -264,14 +253,5 @@ fn note_of(variables: &VariableChanges, change: &Change<u64>) -> &'static str {
             (false, true) => " (now nil)",
             _ => "",
         },
-    }
-}
-
-/// Returns the difference of two numbers with its sign.
-fn signed(alloc: Global, old: u64, new: u64) -> Result<String, AllocError> {
-    if new >= old {
-        format!(in alloc; "+{}", new - old)
-    } else {
-        format!(in alloc; "-{}", old - new)
     }
 }

@@ -3,6 +3,7 @@
 ghost use Rattle.std.specs.Prelude.{◌<◌, IfSome};
 ghost use Rattle.sqz_image.specs.Objects.{object_count};
 
+use crate::name_list::{NameList, Names};
 use crate::numbers::Numbers;
 use sqz_histogram::first_bytes;
 use sqz_image::Slot;
@@ -15,7 +16,7 @@ use std::alloc::{AllocError, Global};
 use std::collections::BTreeMap;
 
 /// The maximum number of bytes of a text that is printed whole.
-const MOST_BYTES: usize = 255;
+pub(crate) const MOST_BYTES: usize = 255;
 
 /// The texts of names in an image, each of which is read once. A long one is cut, and ends with the
 /// number of the whole text: equal texts are equal names.
@@ -23,8 +24,8 @@ const MOST_BYTES: usize = 255;
 pub(crate) struct WholeNames {
     /// The texts of byte objects.
     texts: BTreeMap<ObjectIndex, String>,
-    /// The names that arrays have, as texts.
-    lists: BTreeMap<ObjectIndex, String>,
+    /// The names that arrays have.
+    lists: BTreeMap<ObjectIndex, NameList>,
 }
 
 impl WholeNames {
@@ -36,7 +37,8 @@ impl WholeNames {
         }
     }
 
-    /// Returns the name of a class. A metaclass is named `NAME class`.
+    /// Returns the name of a class. A metaclass is named `NAME class`. A class whose name is no
+    /// byte object is named as in the class histogram.
     pub(crate) fn class(
         &mut self,
         inspector: &Inspector<'_>,
@@ -45,7 +47,8 @@ impl WholeNames {
     ) -> Result<String, AllocError>
         requires { class < object_count inspector.now.live.graph.heap.now }
     {
-        let name = match inspector.names.label_of(class)? {
+        let label = inspector.names.label_of(class)?;
+        let name = match label {
             Label::Class => field_of(inspector, class, NAME),
             Label::Metaclass => match field_of(inspector, class, INSTANCE) {
                 Some(instance) => field_of(inspector, instance, NAME),
@@ -53,52 +56,60 @@ impl WholeNames {
             },
             _ => None,
         };
-        let Some(name) = name else {
+        let text = match name {
+            Some(name) => self.text(inspector, numbers, name)?,
+            None => None,
+        };
+        let Some(mut text) = text else {
             return inspector.names.name_of_class(class);
         };
-        let mut text = self.text(inspector, numbers, name)?;
-        if inspector.names.label_of(class)? == Label::Metaclass {
+        if label == Label::Metaclass {
             text.push_str(" class")?;
         }
         Ok(text)
     }
 
-    /// Returns the label of the association of a variable.
+    /// Returns the label of the association of a variable. None if its key is no byte object.
     pub(crate) fn variable(
         &mut self,
         inspector: &Inspector<'_>,
         numbers: &mut Numbers,
         name: VariableName,
-    ) -> Result<String, AllocError>
+    ) -> Result<Option<String>, AllocError>
         requires class { IfSome name.class (λ class.
             class < object_count inspector.now.live.graph.heap.now) }
         requires key { name.key < object_count inspector.now.live.graph.heap.now }
     {
-        let key = self.text(inspector, numbers, name.key)?;
-        match name.class {
-            None => format!(in inspector.alloc; "Smalltalk at: #{key}"),
+        let Some(key) = self.text(inspector, numbers, name.key)? else {
+            return Ok(None);
+        };
+        let label = match name.class {
+            None => format!(in inspector.alloc; "Smalltalk at: #{key}")?,
             Some(class) => {
                 let class = self.class(inspector, numbers, class)?;
-                format!(in inspector.alloc; "{class} class variable {key}")
+                format!(in inspector.alloc; "{class} class variable {key}")?
             }
-        }
+        };
+        Ok(Some(label))
     }
 
-    /// Returns the bytes of a byte object as text. That of any other object is empty.
+    /// Returns the bytes of a byte object as text. None for any other object.
     pub(crate) fn text(
         &mut self,
         inspector: &Inspector<'_>,
         numbers: &mut Numbers,
         object: ObjectIndex,
-    ) -> Result<String, AllocError>
+    ) -> Result<Option<String>, AllocError>
         requires { object < object_count inspector.now.live.graph.heap.now }
     {
         if let Some(text) = self.texts.get(&object) {
-            return text.clone();
+            return Ok(Some(text.clone()?));
         }
         let (alloc, heap) = (inspector.alloc, inspector.live.graph.heap);
         let bytes = first_bytes(alloc, heap.order(), &heap.object(object), usize::MAX)?;
-        let bytes = bytes.unwrap_or(Vec::new(alloc));
+        let Some(bytes) = bytes else {
+            return Ok(None);
+        };
         let text = if bytes.len() <= MOST_BYTES {
             escaped(alloc, &bytes)?
         } else {
@@ -107,45 +118,41 @@ impl WholeNames {
             numbered(alloc, first.as_str(), numbers.number_of(bytes)?)?
         };
         self.texts.insert(object, text.clone()?)?;
-        Ok(text)
+        Ok(Some(text))
     }
 
-    /// Returns the names that an array has, with a space between two.
+    /// Returns the names that an array has.
     pub(crate) fn list(
         &mut self,
         inspector: &Inspector<'_>,
         numbers: &mut Numbers,
         array: ObjectIndex,
-    ) -> Result<String, AllocError>
+    ) -> Result<NameList, AllocError>
         requires { array < object_count inspector.now.live.graph.heap.now }
     {
-        if let Some(text) = self.lists.get(&array) {
-            return text.clone();
+        if let Some(list) = self.lists.get(&array) {
+            return list.copied(inspector.alloc);
         }
-        let (alloc, heap) = (inspector.alloc, inspector.live.graph.heap);
-        let (mut text, mut whole) = (String::new(alloc), Vec::new(alloc));
-        for field in 0..heap.fields(array) {
+        let mut names = Names::new(inspector.alloc);
+        for field in 0..inspector.live.graph.heap.fields(array) {
             let name = match field_of(inspector, array, field) {
                 Some(name) => self.text(inspector, numbers, name)?,
-                None => String::from_str(alloc, "?")?,
+                None => None,
             };
-            if text.len() <= MOST_BYTES {
-                text.push_str(if field == 0 { "" } else { " " })?;
-                text.push_str(name.as_str())?;
-            }
-            let number = numbers.number_of(name.into_bytes())?;
-            whole.extend_from_slice(&number.to_le_bytes())?;
+            names.push(numbers, name)?;
         }
-        if text.len() > MOST_BYTES {
-            text = numbered(alloc, text.as_str(), numbers.number_of(whole)?)?;
-        }
-        self.lists.insert(array, text.clone()?)?;
-        Ok(text)
+        let list = names.list(numbers)?;
+        self.lists.insert(array, list.copied(inspector.alloc)?)?;
+        Ok(list)
     }
 }
 
 /// Returns the beginning of a text, with the number of the whole one.
-fn numbered(alloc: Global, beginning: &str, number: usize) -> Result<String, AllocError> {
+pub(crate) fn numbered(
+    alloc: Global,
+    beginning: &str,
+    number: usize,
+) -> Result<String, AllocError> {
     format!(in alloc; "{beginning}..#{number}")
 }
 

@@ -1,0 +1,47 @@
+//! The partners of the objects of two images, and what the objects retain.
+
+ghost use Rattle.std.specs.Prelude.{IfOk};
+ghost use Rattle.sqz_look_diff.specs.Matched.{AreMatched};
+
+use crate::kinds::kinds_of;
+use crate::named_objects::named_pairs;
+use crate::numbers::Numbers;
+use sqz_alike::{Matching, Sides, partners_of};
+use sqz_dominators::{Dominators, SharedDominators, dominators_of, dominators_with};
+use sqz_look_view::Inspector;
+use sqz_match::mark_new;
+use std::alloc::AllocError;
+
+/// The partners of the objects of two images, and what the objects retain.
+#[derive(Drop)]
+pub(crate) struct Matched {
+    pub(crate) partners: Matching,
+    /// What the objects of the old image retain.
+    pub(crate) old: Dominators,
+    /// What the objects of the new image retain, and how much of it are objects without partners.
+    pub(crate) new: SharedDominators,
+}
+
+impl Matched {
+    /// Returns the partners of the objects of two images, and what the objects retain.
+    pub(crate) fn between(old: &Inspector<'_>, new: &Inspector<'_>) -> Result<Self, AllocError>
+        ensures { IfOk result (AreMatched old.now.live new.now.live) }
+    {
+        let alloc = old.alloc;
+        let mut numbers = Numbers::new(alloc);
+        let old_kinds = kinds_of(old, &mut numbers)?;
+        let new_kinds = kinds_of(new, &mut numbers)?;
+        let named = named_pairs(old, new, &mut numbers)?;
+        let sides = Sides {
+            old: &old.live,
+            new: &new.live,
+            old_kinds: &old_kinds,
+            new_kinds: &new_kinds,
+        };
+        let partners = partners_of(alloc, &sides, &named)?;
+        let marks = mark_new(alloc, &new.live, &partners.pairs)?;
+        let old = dominators_of(alloc, old.live.graph)?;
+        let new = dominators_with(alloc, new.live.graph, &marks)?;
+        Ok(Matched { partners, old, new })
+    }
+}
