@@ -16,13 +16,11 @@ mod preview;
 mod refs;
 mod show;
 mod slot_rows;
-mod slots;
-mod special_names;
 mod values;
 mod weak_note;
 mod why;
 
-pub use census::{print_census, print_dead_census};
+pub use census::{print_census, print_dead_census, print_retained_census};
 pub use find::{Found, find_class, find_object};
 pub use list::{print_dead_list, print_list};
 pub use refs::print_refs;

@@ -11,7 +11,7 @@ use sqz_facts::Member;
 use sqz_histogram::Group;
 use sqz_image::Sink;
 use sqz_look_args::ListOrder;
-use sqz_look_view::{Counted, Hex, Inspector, Out, PrintError};
+use sqz_look_view::{Counted, Hex, Inspector, Out, PrintError, write_amount, write_bytes};
 use sqz_object::ObjectIndex;
 use std::alloc::AllocError;
 use std::fmt;
@@ -76,11 +76,13 @@ impl InstanceView {
 impl fmt::Display for InstanceView {
     fn fmt<W: fmt::Write>(&self, f: &mut fmt::Formatter<W>) -> fmt::Result {
         let (address, bytes) = (self.address, self.bytes);
-        write!(f, "{bytes:>12}")?;
+        write_amount(f, bytes, 12)?;
+        f.write_str(" ")?;
         match self.retained {
-            Some(retained) => write!(f, " {retained:>12}  {address}")?,
-            None => write!(f, " {:>12}  {address}", "-")?,
+            Some(retained) => write_amount(f, retained, 12)?,
+            None => write!(f, "{:>12}", "-")?,
         }
+        write!(f, "  {address}")?;
         if let Some(preview) = &self.preview {
             write!(f, "  {}", preview.as_str())?;
         }
@@ -123,9 +125,14 @@ impl fmt::Display for ListingView {
     fn fmt<W: fmt::Write>(&self, f: &mut fmt::Formatter<W>) -> fmt::Result {
         let objects = Counted(self.objects as u64, "object");
         let bytes = self.bytes;
-        write!(f, "{objects}, {bytes} bytes")?;
+        write!(f, "{objects}, ")?;
+        write_bytes(f, bytes)?;
         match self.retained_together {
-            Some(retained) => write!(f, ", retain {retained} bytes together"),
+            Some(retained) => {
+                f.write_str(", retain ")?;
+                write_bytes(f, retained)?;
+                f.write_str(" together")
+            }
             None => f.write_str(", not live"),
         }
     }

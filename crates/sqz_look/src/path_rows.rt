@@ -4,11 +4,12 @@ ghost use Rattle.std.specs.Prelude.{◌<◌, All};
 ghost use Rattle.sqz_image.specs.Objects.{object_count};
 
 use crate::paths::{PathStep, visible_steps};
-use crate::slots::{SlotName, SlotNames};
 use crate::weak_note::weak_note;
 use serde::{Described, Serialize, Serializer};
 use sqz_answers::HoldingPath;
-use sqz_look_view::{Counted, Hex, Inspector, More, ObjectLabel};
+use sqz_look_view::{
+    Counted, Hex, Inspector, More, ObjectLabel, SlotName, SlotNames, write_amount,
+};
 use sqz_names::Label;
 use sqz_object::ObjectIndex;
 use std::alloc::AllocError;
@@ -177,6 +178,8 @@ impl StepView {
         for _ in lead.len()..width {
             f.write_str(" ")?;
         }
-        write!(f, "  {address} {label:<24}  retains {retained:>9}{weak}")
+        write!(f, "  {address} {label:<24}  retains ")?;
+        write_amount(f, retained, 9)?;
+        f.write_str(weak)
     }
 }

@@ -3,12 +3,11 @@
 ghost use Rattle.std.specs.Prelude.{◌<◌};
 ghost use Rattle.sqz_image.specs.Objects.{object_count};
 
-use crate::slots::{SlotName, SlotNames};
 use crate::weak_note::weak_note;
 use serde::Serialize;
 use sqz_answers::{Reference, references_to};
 use sqz_image::Sink;
-use sqz_look_view::{Counted, Hex, Inspector, ObjectLabel, Out, PrintError};
+use sqz_look_view::{Counted, Hex, Inspector, ObjectLabel, Out, PrintError, SlotName, SlotNames};
 use sqz_object::ObjectIndex;
 use std::alloc::AllocError;
 use std::fmt;

@@ -6,13 +6,15 @@ ghost use Rattle.sqz_answers.specs.Shown.{shown_count};
 
 use crate::method_view::MethodView;
 use crate::slot_rows::SlotView;
-use crate::slots::SlotNames;
 use crate::values::value_text;
 use serde::Serialize;
 use sqz_answers::{Shown, shown_object, slot_at, slot_count};
 use sqz_histogram::first_bytes;
 use sqz_image::Sink;
-use sqz_look_view::{Counted, Hex, Inspector, More, ObjectLabel, Out, PrintError};
+use sqz_look_view::{
+    Counted, Hex, Inspector, More, ObjectLabel, Out, PrintError, SlotNames, write_amount,
+    write_bytes,
+};
 use sqz_names::escaped;
 use sqz_object::ObjectIndex;
 use std::alloc::AllocError;
@@ -173,9 +175,14 @@ impl ObjectView {
             write!(f, " {address}")?;
         }
         let bytes = self.bytes;
-        write!(f, "\n  {:<10}{bytes} bytes, ", "size")?;
+        write!(f, "\n  {:<10}", "size")?;
+        write_bytes(f, bytes)?;
+        f.write_str(", ")?;
         match self.retained {
-            Some(retained) => write!(f, "retains {retained}")?,
+            Some(retained) => {
+                f.write_str("retains ")?;
+                write_amount(f, retained, 0)?;
+            }
             None => f.write_str("not reachable")?,
         }
         let words = Counted(u64::from(self.header_words), "word");

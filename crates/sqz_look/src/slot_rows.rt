@@ -4,11 +4,10 @@ ghost use Rattle.std.specs.Prelude.{◌<◌};
 ghost use Rattle.sqz_image.specs.Objects.{object_count};
 ghost use Rattle.sqz_facts.specs.Held.{PointsBelow};
 
-use crate::slots::{SlotName, SlotNames};
 use serde::Serialize;
 use sqz_answers::ShownSlot;
 use sqz_facts::{Held, SlotFacts};
-use sqz_look_view::{Hex, Inspector, ObjectLabel};
+use sqz_look_view::{Hex, Inspector, ObjectLabel, SlotName, SlotNames};
 use std::alloc::AllocError;
 use std::fmt;
 

@@ -7,7 +7,7 @@ use crate::path_rows::PathView;
 use serde::Serialize;
 use sqz_answers::{HoldingPath, why_kept};
 use sqz_image::Sink;
-use sqz_look_view::{Hex, Inspector, ObjectLabel, Out, PrintError};
+use sqz_look_view::{Hex, Inspector, ObjectLabel, Out, PrintError, write_amount, write_bytes};
 use sqz_object::ObjectIndex;
 use std::alloc::AllocError;
 use std::fmt;
@@ -30,16 +30,20 @@ struct WhyView {
 impl fmt::Display for WhyView {
     fn fmt<W: fmt::Write>(&self, f: &mut fmt::Formatter<W>) -> fmt::Result {
         let (label, address, bytes) = (&self.label, self.address, self.bytes);
-        write!(f, "{label} {address}, {bytes} bytes")?;
+        write!(f, "{label} {address}, ")?;
+        write_bytes(f, bytes)?;
         match self.retained {
-            Some(retained) => write!(f, ", retains {retained}")?,
+            Some(retained) => {
+                f.write_str(", retains ")?;
+                write_amount(f, retained, 0)?;
+            }
             None => f.write_str(", not reachable")?,
         }
         if self.is_weakly_held {
             f.write_str(", held weakly only")?;
         }
         match &self.path {
-            Some(path) => write!(f, "{path}"),
+            Some(path) => path.fmt(f),
             None => Ok(()),
         }
     }

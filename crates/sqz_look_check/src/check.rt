@@ -10,7 +10,7 @@ use crate::unreadable::Unreadable;
 use serde::Serialize;
 use sqz_answers::{Findings, findings_of};
 use sqz_image::{Fault, Sink};
-use sqz_look_view::{Counted, Hex, Out, PrintError, Subject};
+use sqz_look_view::{Counted, Hex, Out, PrintError, Subject, write_bytes};
 use std::alloc::{AllocError, Global};
 use std::fmt;
 use std::thread::Threads;
@@ -69,10 +69,9 @@ impl fmt::Display for CheckView<'_> {
         let numbers = (self.objects, self.live_objects, self.live_bytes);
         if let ((Some(objects), Some(live), Some(bytes)), true) = (numbers, self.sound) {
             let objects = Counted(u64::from(objects), "object");
-            return write!(
-                f,
-                "{path}: sound, {objects}, {live} live, {bytes} bytes live"
-            );
+            write!(f, "{path}: sound, {objects}, {live} live, ")?;
+            write_bytes(f, bytes)?;
+            return f.write_str(" live");
         }
         for (index, fault) in self.faults.iter().enumerate() {
             if index > 0 {

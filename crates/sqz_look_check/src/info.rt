@@ -5,7 +5,7 @@ use crate::unreadable::Unreadable;
 use serde::Serialize;
 use sqz_facts::{FileFacts, file_facts};
 use sqz_image::{Header, Sink};
-use sqz_look_view::{Counted, Hex, Out, PrintError, Subject};
+use sqz_look_view::{Counted, Hex, Out, PrintError, Subject, write_bytes};
 use sqz_object::Order;
 use sqz_trace::first_fault;
 use std::alloc::Global;
@@ -148,12 +148,26 @@ fn write_facts<W: fmt::Write>(f: &mut fmt::Formatter<W>, facts: FileFacts) -> fm
     let dead = Counted(u64::from(dead), "object");
     let free = Counted(u64::from(facts.free_chunks), "chunk");
     writeln!(f, "{:<16}{base}", "base")?;
-    writeln!(f, "{:<16}{data} bytes", "data")?;
+    write!(f, "{:<16}", "data")?;
+    write_bytes(f, data)?;
+    f.write_str("\n")?;
     writeln!(f, "{:<16}{special}", "special objects")?;
     writeln!(f, "{:<16}{objects}", "objects")?;
-    writeln!(f, "{:<16}{live}, {live_bytes} bytes", "live")?;
-    writeln!(f, "{:<16}{dead}, {dead_bytes} bytes", "dead")?;
-    writeln!(f, "{:<16}{free}, {free_bytes} bytes", "free")
+    write_sum(f, "live", live, live_bytes)?;
+    write_sum(f, "dead", dead, dead_bytes)?;
+    write_sum(f, "free", free, free_bytes)
+}
+
+/// Writes a line with a number of things, and their bytes.
+fn write_sum<W: fmt::Write>(
+    f: &mut fmt::Formatter<W>,
+    name: &str,
+    count: Counted<'_>,
+    bytes: u64,
+) -> fmt::Result {
+    write!(f, "{name:<16}{count}, ")?;
+    write_bytes(f, bytes)?;
+    f.write_str("\n")
 }
 
 /// Writes the byte order of an image, and where its header begins.

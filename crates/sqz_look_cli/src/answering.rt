@@ -59,7 +59,10 @@ fn format_of(request: &Request<'_>) -> Format {
     if request.json {
         Format::Json
     } else {
-        Format::Text { all: request.all }
+        Format::Text {
+            all: request.all,
+            human: request.human,
+        }
     }
 }
 

@@ -1,6 +1,7 @@
 //! Answers to questions.
 
-ghost use Rattle.std.specs.Prelude.{◌≡◌, ◌≤◌, IfOk};
+ghost use Rattle.std.specs.Prelude.{◌≡◌, ◌≤◌, ◌<◌, IfOk};
+ghost use Rattle.sqz_image.specs.Objects.{object_count};
 ghost use Rattle.sqz_look_cli.specs.Checks.{EndsChecks};
 ghost use Rattle.sqz_look_cli.specs.Endings.{IfCheck};
 ghost use Rattle.sqz_look_cli.specs.Failures.{IsAnswerExit};
@@ -16,10 +17,11 @@ use crate::session::Session;
 use crate::warnings::warn;
 use sqz_cli::{BAD_IMAGE, DONE};
 use sqz_image::Sink;
-use sqz_look::{Found, find_class, print_dead_list, print_list};
-use sqz_look_args::{Instances, NamedQuestion, Question};
+use sqz_look::{Found, find_class, find_object, print_dead_list, print_list, print_why};
+use sqz_look_args::{Instances, NamedQuestion, Question, TopOptions};
 use sqz_look_top::print_top;
 use sqz_look_view::{Inspector, Out};
+use sqz_object::ObjectIndex;
 use std::io::Read;
 use std::rt::Files;
 use std::thread::Threads;
@@ -87,8 +89,8 @@ fn answer_by_names<C: Sink, E: Sink>(
             answer_about_class(inspector, class.as_str(), *which, out)?;
             Ok(DONE)
         }
-        NamedQuestion::Top(options) => {
-            print_top(inspector, *options, out)?;
+        NamedQuestion::Top { object, options } => {
+            answer_about_tree(inspector, object.as_ref(), *options, out)?;
             Ok(DONE)
         }
         NamedQuestion::About(asked) => answer_about_objects(inspector, path, asked, out, err),
@@ -111,4 +113,34 @@ fn answer_about_class<C: Sink>(
         Instances::Dead => print_dead_list(inspector, group, out)?,
     }
     Ok(())
+}
+
+/// Prints the dominator tree from the object that words stand for, or from the special objects
+/// array. About an object that is not live, prints what `why` does.
+fn answer_about_tree<C: Sink>(
+    inspector: &Inspector<'_>,
+    words: Option<&String>,
+    options: TopOptions,
+    out: &mut Out<'_, C>,
+) -> Result<(), Failure> {
+    let root = match words {
+        Some(words) => the_object(inspector, words.as_str())?,
+        None => inspector.live.graph.heap.special(),
+    };
+    if inspector.live.marks.has(root) {
+        print_top(inspector, root, options, out)?;
+    } else {
+        print_why(inspector, root, false, out)?;
+    }
+    Ok(())
+}
+
+/// Returns the object that words stand for.
+fn the_object(inspector: &Inspector<'_>, words: &str) -> Result<ObjectIndex, Failure>
+    ensures { IfOk result (λ object. object < object_count inspector.now.live.graph.heap.now) }
+{
+    match find_object(inspector, words)? {
+        Found::One(object) => Ok(object),
+        Found::Nothing(message) => Err(Failure::NotThere(message)),
+    }
 }

@@ -11,8 +11,8 @@ use crate::session::Session;
 use crate::warnings::warn;
 use sqz_cli::{BAD_IMAGE, DONE};
 use sqz_image::Sink;
-use sqz_look::{print_census, print_dead_census};
-use sqz_look_args::EachQuestion;
+use sqz_look::{print_census, print_dead_census, print_retained_census};
+use sqz_look_args::{Counting, EachQuestion};
 use sqz_look_check::{print_digest, print_info, print_info_unreadable};
 use sqz_look_view::{Out, PrintError, Subject};
 use std::fmt;
@@ -119,10 +119,10 @@ fn answer_about<T: Files + Threads + Sync, C: Sink, E: Sink>(
                     warn(session.rt, &subject, path, err)?;
                     print_digest(&subject, path, out)?;
                 }
-                EachQuestion::Census { dead } => {
+                EachQuestion::Census(counting) => {
                     warn(session.rt, &subject, path, err)?;
                     file.print_heading(out)?;
-                    print_census_of(session.rt, &subject, path, dead, out)?;
+                    print_census_of(session.rt, &subject, path, counting, out)?;
                 }
             }
             Ok(DONE)
@@ -133,24 +133,24 @@ fn answer_about<T: Files + Threads + Sync, C: Sink, E: Sink>(
                 print_info_unreadable(session.alloc, &unreadable, path, out)?;
                 Ok(BAD_IMAGE)
             }
-            EachQuestion::Census { .. } | EachQuestion::Digest => {
+            EachQuestion::Census(_) | EachQuestion::Digest => {
                 Err(Failure::NotThere(unreadable.message(session.alloc)?))
             }
         },
     }
 }
 
-/// Prints a class histogram of the live objects of an image, or of the dead ones.
+/// Prints a class histogram of an image.
 fn print_census_of<T: Threads + Sync, C: Sink>(
     rt: &T,
     subject: &Subject<'_>,
     path: &str,
-    dead: bool,
+    counting: Counting,
     out: &mut Out<'_, C>,
 ) -> Result<(), PrintError> {
-    if dead {
-        print_dead_census(rt, subject, path, out)
-    } else {
-        print_census(rt, subject, path, out)
+    match counting {
+        Counting::Live => print_census(rt, subject, path, out),
+        Counting::Retained => print_retained_census(rt, subject, path, out),
+        Counting::Dead => print_dead_census(rt, subject, path, out),
     }
 }

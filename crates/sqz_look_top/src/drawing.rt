@@ -21,26 +21,35 @@ const KINDS: [&str; 3] = ["class variable ", "class ", "Smalltalk at: "];
 /// The minimum number of characters of a label that is cut: a shorter one says nothing.
 const FEWEST: usize = 4;
 
+/// What the first row retains.
+#[derive(Clone, Copy)]
+pub(crate) struct Whole {
+    /// The number of bytes.
+    pub(crate) bytes: u64,
+    /// What they are: `live` or `retained`.
+    pub(crate) kind: &'static str,
+}
+
 /// Prints rows as an icicle drawing.
 pub(crate) fn print_drawing<C: Sink>(
     alloc: Global,
     rows: &[Row],
-    live: u64,
+    whole: Whole,
     out: &mut Out<'_, C>,
 ) -> Result<(), PrintError> {
-    for line in &head_lines(alloc, rows)? {
+    for line in &head_lines(alloc, rows, whole.kind)? {
         out.text(line)?;
     }
-    let spans = spans_of(alloc, rows, live)?;
+    let spans = spans_of(alloc, rows, whole.bytes)?;
     for (row, span) in rows.iter().zip(&spans) {
-        let line = box_line(alloc, row, *span, live)?;
+        let line = box_line(alloc, row, *span, whole.bytes)?;
         out.text(&line)?;
     }
     out.text(&"</svg>")
 }
 
 /// Returns the lines before the boxes.
-fn head_lines(alloc: Global, rows: &[Row]) -> Result<Vec<String>, AllocError> {
+fn head_lines(alloc: Global, rows: &[Row], kind: &str) -> Result<Vec<String>, AllocError> {
     let height = height_of(rows);
     let (bytes, objects) = rows
         .first()
@@ -54,15 +63,15 @@ fn head_lines(alloc: Global, rows: &[Row]) -> Result<Vec<String>, AllocError> {
         "<rect width=\"{WIDTH}\" height=\"{height}\" fill=\"#ffffff\"/>"
     )?)?;
     lines.push(format!(in alloc;
-        "<text x=\"4\" y=\"18\" font-size=\"13\">{bytes} bytes live, {objects} objects. \
+        "<text x=\"4\" y=\"18\" font-size=\"13\">{bytes} bytes {kind}, {objects} objects. \
          A box is as wide as the bytes that it retains; point to it for its name.</text>"
     )?)?;
     Ok(lines)
 }
 
 /// Returns the line of the box of a row.
-fn box_line(alloc: Global, row: &Row, span: Span, live: u64) -> Result<String, AllocError> {
-    let title = title_of(alloc, row, live)?;
+fn box_line(alloc: Global, row: &Row, span: Span, whole: u64) -> Result<String, AllocError> {
+    let title = title_of(alloc, row, whole)?;
     let fill = fill_of(row);
     let top = top_of(row);
     let left = pixels(alloc, span.left)?;
@@ -76,11 +85,11 @@ fn box_line(alloc: Global, row: &Row, span: Span, live: u64) -> Result<String, A
 }
 
 /// Returns what is said of a box when it is pointed to.
-fn title_of(alloc: Global, row: &Row, live: u64) -> Result<String, AllocError> {
+fn title_of(alloc: Global, row: &Row, whole: u64) -> Result<String, AllocError> {
     let label = xml_text(alloc, row.label.as_str())?;
     let share = Share {
         part: row.retained,
-        whole: live,
+        whole,
     };
     let objects = Counted(row.objects, "object");
     format!(in alloc; "{label}: {} bytes, {share}%, {objects}", row.retained)
@@ -109,14 +118,15 @@ fn box_text(alloc: Global, row: &Row, span: Span) -> Result<String, AllocError> 
 }
 
 /// Returns the label of a row; if there is no room for it, its name without the words that say what
-/// is named, and nothing for a row that stands for several objects: part of a number misleads.
+/// is named. A row for several objects has its number of objects instead, or nothing if there is no
+/// room for that: part of a number misleads.
 fn fitting(row: &Row, room: usize) -> &str {
     let label = row.label.as_str();
     if label.chars().count() <= room {
         return label;
     }
     if row.address.is_none() {
-        return "";
+        return number_in(label, room);
     }
     for kind in KINDS {
         if let Some(name) = label.strip_prefix(kind) {
@@ -124,6 +134,15 @@ fn fitting(row: &Row, room: usize) -> &str {
         }
     }
     label
+}
+
+/// Returns the part of the label of several objects before their classes if there is room for it,
+/// and nothing otherwise.
+fn number_in(label: &str, room: usize) -> &str {
+    match label.split_once(": ") {
+        Some((number, _)) if number.chars().count() <= room => number,
+        _ => "",
+    }
 }
 
 /// Returns the first characters of a label and `..`, at most `room` characters together; the whole

@@ -39,7 +39,8 @@ fn write_frame<W: fmt::Write>(f: &mut fmt::Formatter<W>, label: &str) -> fmt::Re
 }
 
 /// Prints a line for each row with bytes that no row below it retains: the labels from the first
-/// row to it, and the number of these bytes. The numbers add up to the live bytes.
+/// row to it, and the number of these bytes. The numbers add up to what the first row
+/// retains.
 pub(crate) fn print_folded<C: Sink>(
     alloc: Global,
     rows: &[Row],

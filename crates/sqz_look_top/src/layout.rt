@@ -21,9 +21,9 @@ pub(crate) struct Span {
     pub(crate) width: u64,
 }
 
-/// Returns where the box of each row is: as wide as its share of the live bytes, under the box of
+/// Returns where the box of each row is: as wide as its share of the first row's bytes, under the box of
 /// the row above it, and right of the boxes that were printed before it.
-pub(crate) fn spans_of(alloc: Global, rows: &[Row], live: u64) -> Result<Vec<Span>, AllocError> {
+pub(crate) fn spans_of(alloc: Global, rows: &[Row], whole: u64) -> Result<Vec<Span>, AllocError> {
     let mut spans = Vec::new(alloc);
     // for each level where its next box begins, in bytes
     let mut next = Vec::new(alloc);
@@ -33,8 +33,8 @@ pub(crate) fn spans_of(alloc: Global, rows: &[Row], live: u64) -> Result<Vec<Spa
         let end = row.retained.saturating_add(start);
         next.push(end)?;
         next.push(start)?;
-        let left = hundredths(start, live);
-        let width = hundredths(end, live).saturating_sub(left);
+        let left = hundredths(start, whole);
+        let width = hundredths(end, whole).saturating_sub(left);
         spans.push(Span { left, width })?;
     }
     Ok(spans)
@@ -55,6 +55,6 @@ pub(crate) fn height_of(rows: &[Row]) -> u64 {
 }
 
 /// Returns how far from the left a number of bytes is, in hundredths of a pixel.
-fn hundredths(bytes: u64, live: u64) -> u64 {
-    bytes.saturating_mul(100 * WIDTH) / live.max(1)
+fn hundredths(bytes: u64, whole: u64) -> u64 {
+    bytes.saturating_mul(100 * WIDTH) / whole.max(1)
 }

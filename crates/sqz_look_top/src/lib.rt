@@ -10,6 +10,7 @@ mod options;
 mod row_view;
 mod rows;
 mod share;
+mod smaller;
 mod top;
 mod variables;
 mod xml;

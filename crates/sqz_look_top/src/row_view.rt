@@ -2,12 +2,14 @@
 
 use crate::rows::Row;
 use crate::share::Share;
+use crate::smaller::GroupView;
 use serde::Serialize;
-use sqz_look_view::Hex;
+use sqz_look_view::{Hex, write_amount};
 use std::alloc::{AllocError, Global};
 use std::fmt;
 
-/// A row. One that stands for several smaller objects has no address and no class.
+/// A row. One that stands for several smaller objects has no address and no class; it alone has the
+/// classes of these.
 #[derive(Drop, Serialize)]
 pub(crate) struct RowView<'a> {
     address: Option<Hex>,
@@ -17,25 +19,28 @@ pub(crate) struct RowView<'a> {
     bytes: u64,
     retained: u64,
     objects: u64,
+    smaller: Option<Vec<GroupView>>,
     parent: Option<Hex>,
     /// The labels from the first row to this one.
     path: &'a [&'a str],
-    /// The share of the live bytes that the row retains, as text.
+    /// The share of the first row's bytes that the row retains, as text.
     #[serde(skip)]
     share: String,
 }
 
 impl<'a> RowView<'a> {
-    /// Returns a row, with the labels from the first row to it.
+    /// Returns a row, with the classes of its smaller objects and the labels from the first row to
+    /// it.
     pub(crate) fn of(
         alloc: Global,
         row: &'a Row,
+        classes: Vec<GroupView>,
         path: &'a [&'a str],
-        live: u64,
+        whole: u64,
     ) -> Result<Self, AllocError> {
         let share = Share {
             part: row.retained,
-            whole: live,
+            whole,
         };
         Ok(RowView {
             address: row.address,
@@ -45,6 +50,11 @@ impl<'a> RowView<'a> {
             bytes: row.own,
             retained: row.retained,
             objects: row.objects,
+            smaller: if row.address.is_none() {
+                Some(classes)
+            } else {
+                None
+            },
             parent: row.parent,
             path,
             share: share.to_string(alloc)?,
@@ -56,7 +66,8 @@ impl<'a> RowView<'a> {
 impl fmt::Display for RowView<'_> {
     fn fmt<W: fmt::Write>(&self, f: &mut fmt::Formatter<W>) -> fmt::Result {
         let (retained, objects, share) = (self.retained, self.objects, self.share.as_str());
-        write!(f, "{retained:>10} {share:>6} {objects:>9}   ")?;
+        write_amount(f, retained, 10)?;
+        write!(f, " {share:>6} {objects:>9}   ")?;
         for _ in 0..self.depth {
             f.write_str("  ")?;
         }

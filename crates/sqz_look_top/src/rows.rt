@@ -1,10 +1,12 @@
 //! Rows with their labels.
 
-ghost use Rattle.std.specs.Prelude.{◌<◌, All};
+ghost use Rattle.std.specs.Prelude.{◌≡◌, ◌<◌, All, length};
 ghost use Rattle.sqz_image.specs.Objects.{object_count};
+ghost use Rattle.sqz_answers.specs.GroupCounts.{AreCountsWithin};
 ghost use Rattle.sqz_answers.specs.TopRows.{IsRowInside};
 
-use sqz_answers::{TopObjects, TopRow};
+use crate::smaller::smaller_label;
+use sqz_answers::{GroupCount, TopObjects, TopRow, TopRows};
 use sqz_look_view::{Hex, Inspector};
 use sqz_names::Label;
 use sqz_object::ObjectIndex;
@@ -35,14 +37,19 @@ pub(crate) struct Row {
 
 /// Returns rows with their labels. Rows below one row that would read the same have their
 /// addresses in their labels.
-pub(crate) fn labelled(inspector: &Inspector<'_>, rows: &[TopRow]) -> Result<Vec<Row>, AllocError>
-    requires { All (IsRowInside (object_count inspector.now.live.graph.heap.now)) rows.now }
+pub(crate) fn labelled(inspector: &Inspector<'_>, top: &TopRows) -> Result<Vec<Row>, AllocError>
+    requires rows { All (IsRowInside (object_count inspector.now.live.graph.heap.now))
+        top.now.rows.items }
+    requires sized { length top.now.groups.items ≡ length top.now.rows.items }
+    requires groups { All (λ counts.
+        AreCountsWithin (object_count inspector.now.live.graph.heap.now) counts.items)
+        top.now.groups.items }
 {
-    let mut labelled = Vec::with_capacity(inspector.alloc, rows.len())?;
+    let mut labelled = Vec::with_capacity(inspector.alloc, top.rows.len())?;
     let mut path = Vec::new(inspector.alloc);
-    for row in rows {
+    for (index, row) in top.rows.iter().enumerate() {
         path.truncate(row.depth as usize);
-        let label = label_of(inspector, path.last().copied(), *row)?;
+        let label = label_of(inspector, path.last().copied(), *row, &top.groups[index])?;
         path.push(*row)?;
         labelled.push(Row::of(inspector, *row, label)?)?;
     }
@@ -80,17 +87,19 @@ impl Row {
     }
 }
 
-/// Returns the label of a row below another one.
+/// Returns the label of a row below another one, given the groups of its smaller objects.
 fn label_of(
     inspector: &Inspector<'_>,
     above: Option<TopRow>,
     row: TopRow,
+    groups: &[GroupCount],
 ) -> Result<String, AllocError>
-    requires { IsRowInside (object_count inspector.now.live.graph.heap.now) row }
+    requires row { IsRowInside (object_count inspector.now.live.graph.heap.now) row }
+    requires groups { AreCountsWithin (object_count inspector.now.live.graph.heap.now) groups.now }
 {
     match row.what {
         TopObjects::One { object, .. } => label_below(inspector, above, object),
-        TopObjects::Smaller { count } => format!(in inspector.alloc; "{count} smaller"),
+        TopObjects::Smaller { count } => smaller_label(inspector, count, groups),
     }
 }
 
