@@ -1,6 +1,6 @@
 # Completes the words of sqzlook in bash.
 _sqzlook() {
-  local word=${COMP_WORDS[COMP_CWORD]} options='--clear-weak --json --help'
+  local word=${COMP_WORDS[COMP_CWORD]} options='--clear-weak --human --json --help'
   if ((COMP_CWORD == 1)); then
     mapfile -t COMPREPLY < <(compgen -W 'check info census digest list show why refs top diff --help --version' -- "$word")
     return
@@ -8,7 +8,7 @@ _sqzlook() {
   case ${COMP_WORDS[1]} in
     check | show | refs | diff) options+=' --all' ;;
     list) options+=' --all --by --dead' ;;
-    census) options+=' --all --dead' ;;
+    census) options+=' --all --dead --retained' ;;
     why) options+=' --all --raw' ;;
     top) options+=' --depth --min --folded --svg' ;;
   esac

@@ -58,6 +58,11 @@ class Asking:
             self.question("digest", rows=[{"image": path, "digest": digest_of(answers)}]),
         ]
 
+    def of_retained(self):
+        """What `census --retained` prints."""
+        rows = self.answers.retained_census(self.path)
+        return [self.question("census", "--retained", rows=rows)]
+
     def of_object(self, command, number):
         """What `show`, `why` or `refs` prints about an object."""
         answer = getattr(self.answers, command)(number)

@@ -37,11 +37,18 @@ USUAL = Shape()
 
 
 class Asked(typing.NamedTuple):
-    """The tree of an image at a path, if weak references are kept or cleared."""
+    """The tree of an image at a path, if weak references are kept or cleared, from the object on
+    that `words` stand for."""
 
     tree: Tree
     path: str
     options: tuple
+    words: tuple = ()
+
+    def below(self, number):
+        """The tree from a live object on."""
+        words = (self.tree.names.address(number),)
+        return self._replace(tree=self.tree.below(number), words=words)
 
 
 class TopTest(LookTest):
@@ -51,7 +58,10 @@ class TopTest(LookTest):
         """Asks for trees in each form."""
         for form in ("--json", "--folded", "--svg"):
             asked = [(it, shape) for it in trees for shape in shapes]
-            lines = [("top", form, *shape.words, *it.options, it.path) for it, shape in asked]
+            lines = [
+                ("top", form, *shape.words, *it.options, it.path, *it.words)
+                for it, shape in asked
+            ]
             outcomes = look_at_all(lines, folder or self.folder)
             for (it, shape), line, outcome in zip(asked, lines, outcomes):
                 with self.subTest(" ".join(line)):
@@ -73,7 +83,7 @@ class TopTest(LookTest):
         lines = text.removesuffix("\n").split("\n")
         self.assertEqual(lines, folded(rows))
         stacks = [line.rpartition(" ") for line in lines]
-        self.assertEqual(sum(int(size) for _, _, size in stacks), tree.live_bytes)
+        self.assertEqual(sum(int(size) for _, _, size in stacks), tree.whole)
         depths = [row.depth for row in rows if row.apart]
         self.assertEqual([stack.count(";") for stack, _, _ in stacks], depths)
 
@@ -91,14 +101,14 @@ class TopTest(LookTest):
         self.check_colours([tree.class_name(row) for row in rows], boxes)
 
     def title(self, tree, row):
-        share, plural = percent(row.retained, tree.live_bytes), "" if row.objects == 1 else "s"
+        share, plural = percent(row.retained, tree.whole), "" if row.objects == 1 else "s"
         return f"{row.label}: {row.retained} bytes, {share}%, {row.objects} object{plural}"
 
     def check_places(self, drawing, tree, rows):
         """Boxes are as wide as what they retain, in the picture, and side by side below others."""
         line = []  # the boxes above a box, and after them the one before it
         for row, box in zip(rows, drawing.boxes):
-            width = drawing.width * row.retained / tree.live_bytes
+            width = drawing.width * row.retained / tree.whole
             self.assertAlmostEqual(box.width, width, delta=ROUNDED)
             self.assertTrue(0 <= box.top and box.bottom <= drawing.height, box)
             self.assertTrue(0 <= box.left and box.right <= drawing.width + ROUNDED, box)
@@ -113,11 +123,13 @@ class TopTest(LookTest):
             line[row.depth :] = [box]
 
     def check_text(self, drawing, row, box):
-        """The text in a box is its label, or in a narrow one the beginning of its name."""
+        """The text in a box is its label, or in a narrow one the beginning of its name, or the
+        number of its smaller objects."""
         for text in box.texts:
             shown, name = text.text, KIND.sub("", row.label)
-            if shown not in (row.label, name):
-                self.assertIsNotNone(row.number, shown)
+            if row.number is None and shown != row.label:
+                self.assertEqual(shown, row.label.partition(": ")[0])
+            elif shown not in (row.label, name):
                 self.assertTrue(shown.endswith(".."), shown)
                 self.assertTrue(name.startswith(shown.removesuffix("..")), shown)
             left = float(text.get("x"))

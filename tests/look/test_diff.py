@@ -29,7 +29,14 @@ from tests.making.changed_images import (
     with_other_hashes,
     with_random_words,
 )
-from tests.making.held_image import CLASSES, HELD_BYTES, HOLDER, held_image
+from tests.making.held_image import (
+    CLASSES,
+    HELD_BYTES,
+    HOLDER,
+    held_by_class,
+    held_image,
+    held_twice,
+)
 from tests.making.method_images import (
     CODE,
     EQUAL_LITERALS,
@@ -259,7 +266,8 @@ class MadeImagesTest(DiffTest):
             with self.subTest(old=old, new=new):
                 self.changes(self.with_global(old), self.with_global(new))
                 outcome = look("diff", OLD, NEW, folder=self.folder)
-                line = rf"(?m)^ +[-+]\d+ bytes  Smalltalk at: #Some{re.escape(note)}$"
+                share = r"(\(\w+ new\) +)?"
+                line = rf"(?m)^ +[-+]\d+ bytes +{share}Smalltalk at: #Some{re.escape(note)}$"
                 self.assertRegex(outcome.stdout.decode(), line)
 
     def test_other_value(self):
@@ -309,7 +317,24 @@ class KnownDiffTest(DiffTest, KnownImageTest):
         self.assertEqual({row["name"] for row in rows if row["kind"] == "class"}, set(CLASSES))
         self.assertEqual([row for row in rows if row["kind"] == "method"], [])
         text = look("diff", NAME, NEW, folder=self.folder).stdout.decode()
-        self.assertIn(f" bytes  {HOLDER} (was nil)\n", text)
+        self.assertRegex(text, rf" bytes \({row['new_bytes']} new\) +{HOLDER} \(was nil\)\n")
+        self.assertGreater(row["new_bytes"], HELD_BYTES)
+
+    def test_4_mb_that_no_variable_retains(self):
+        """They hang in two class variables, or in an instance variable of a class."""
+        for make in (held_twice, held_by_class):
+            with self.subTest(make.__name__):
+                held = make(self.names)
+                rows = self.check_copy(held.image)
+                holders = [row for row in rows if row["kind"] == "holder"]
+                (place,) = (
+                    place
+                    for place, row in enumerate(holders)
+                    if row["address"] == f"{held.array:08x}"
+                )
+                self.assertLess(place, 10)
+                self.assertIsNone(holders[place]["old"])
+                self.assertGreater(holders[place]["new"], HELD_BYTES)
 
     def test_flipped_bytecode(self):
         number = self.names.method_named(CHANGED)

@@ -42,7 +42,8 @@ class Run(typing.NamedTuple):
 def lines_about(it):
     """The words of each command about an image at `NAME`, in the forms that differ most."""
     first, *others = it.objects
-    lines = [("check", "--all"), ("info",), ("census", "--dead"), ("top", "--min", "0")]
+    lines = [("check", "--all"), ("info",), ("top", "--min", "0")]
+    lines += [("census", "--dead"), ("census", "--retained")]
     lines += [("top", *form) for form in (("--json",), ("--svg",), ("--folded", "--min", "0"))]
     lines += [("show", "--json"), ("why", "--raw")]
     lines = [(*line, NAME, *((first,) if line[0] in ("show", "why") else ())) for line in lines]

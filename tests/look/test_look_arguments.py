@@ -18,7 +18,8 @@ class LookArgumentsTest(DeadArrayTest):
             "an image in place of a command": ("in",),
             "an option of another program": ("info", "--workers", "1", "in"),
             "a value for a flag": ("info", "--json=1", "in"),
-            "two images": ("top", "in", "in"),
+            "three images": ("diff", "in", "in", "in"),
+            "what dead objects retain": ("census", "--dead", "--retained", "in"),
             "no object": ("show", "in"),
             "no class": ("list", "in"),
             "no order": ("list", "--by", "name", "in", "Point"),
@@ -75,9 +76,9 @@ class LookArgumentsTest(DeadArrayTest):
                 self.assert_ends(self.look(command, "in", "--", *names), wanted)
                 self.assert_ends(self.look(command, "in", names[0], "--", *names[1:]), wanted)
                 self.assert_ends(self.look(command, "in", "-", stdin=lines), wanted)
-                self.assert_ends(self.look(command, "-", "in", "--json", stdin=lines), Outcome(
-                    0, stdout=b"".join(self.look(command, "--json", "in", it).stdout for it in names)
-                ))
+                rows = [self.look(command, "--json", "in", name).stdout for name in names]
+                outcome = self.look(command, "-", "in", "--json", stdin=lines)
+                self.assert_ends(outcome, Outcome(0, stdout=b"".join(rows)))
 
     def test_one_of_several_objects_is_missing(self):
         one = self.look("why", "in", "1000")

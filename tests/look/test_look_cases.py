@@ -6,9 +6,10 @@ import re
 import subprocess
 
 from tests.harness.failed_outputs import FailedOutputs
+from tests.harness.json_rows import rows_of
 from tests.harness.known_image import NAME, KnownImageTest
 from tests.harness.programs import SQZLOOK
-from tests.harness.sqzlook import COMMANDS, look
+from tests.harness.sqzlook import COMMANDS, look, look_at_all
 from tests.harness.worked_images import DeadArrayTest
 from tests.making.seed import SEED
 from tests.reference.fields import ClassField, DictionaryField
@@ -16,6 +17,8 @@ from tests.reference.fields import ClassField, DictionaryField
 # A sound buffer that a class variable keeps alive, and the bytes that it retains.
 BUFFER, RETAINED = "1546cbd8", 97580
 METHODS, NAMED_METHODS, COMPARED_METHODS = 16255, 16000, 200
+# The classes whose retained bytes are compared with lists.
+COMPARED_CLASSES = 100
 # The maximum number of rows of a list in the text form.
 SHOWN = 20
 # The bytes that a pipe holds.
@@ -33,6 +36,25 @@ class KeptBufferTest(KnownImageTest):
         labels = [step["label"] for step in row["path"]]
         self.assertIn("ScriptableScratchMorph class variable Recorder", labels)
         self.assertEqual(row["retained"], RETAINED)
+
+
+class RetainedCensusTest(KnownImageTest):
+    """The instances of a class retain at most what `list` says that they retain together: it also
+    counts what only several of them hold. One instance retains just that."""
+
+    def test_compared_with_lists(self):
+        *rows, total = self.rows("census", "--retained")
+        self.assertEqual(total["retained"], total["bytes"])
+        rows = self.sample(rows, COMPARED_CLASSES)
+        words = [[row["address"]] if row["address"] else row["class"].split() for row in rows]
+        lines = [("list", "--json", NAME, *word) for word in words]
+        for row, outcome in zip(rows, look_at_all(lines, self.folder)):
+            with self.subTest(row["class"]):
+                *instances, last = rows_of(self.printed_by(outcome))
+                self.assertLessEqual(row["retained"], last["retained_together"])
+                self.assertGreaterEqual(row["retained"], max(it["retained"] for it in instances))
+                if row["objects"] == 1:
+                    self.assertEqual(row["retained"], last["retained_together"])
 
 
 class MethodsTest(KnownImageTest):

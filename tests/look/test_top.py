@@ -2,6 +2,7 @@
 and its drawings with a second implementation."""
 
 import functools
+import random
 import re
 import unittest
 
@@ -22,6 +23,7 @@ from tests.harness.worked_images import (
 from tests.making.held_image import HELD_BYTES, HELD_OBJECTS, HOLDER, held_image
 from tests.making.named_image import NamedImage
 from tests.making.random_images import random_files
+from tests.making.seed import SEED
 from tests.reference.answers import Answers
 from tests.reference.image import Image
 from tests.reference.tree import Tree, percent
@@ -36,6 +38,9 @@ SHAPES = (
     Shape(3, "100"),
     Shape(100, "0.000001"),
 )
+# The shapes of trees from other objects, and how many objects they are asked about.
+OBJECT_SHAPES = (USUAL, Shape(1, "0"), Shape(least="12.5"))
+SMALL_OBJECTS, REAL_OBJECTS = 4, 20
 REAL_SHAPES = (USUAL, Shape(least="5"), Shape(3, "0"), Shape(12, "0.05"))
 FORMS = ((), ("--json",), ("--folded",), ("--svg",))
 # Texts that mean something to the readers of folded stacks and of drawings.
@@ -52,6 +57,11 @@ def trees_of(files):
         for path, file in files.items()
         for options in ((), CLEAR)
     ]
+
+
+def sample_of(generator, numbers, count):
+    """Some of these, at most a number of them."""
+    return generator.sample(numbers, min(count, len(numbers)))
 
 
 @functools.cache
@@ -72,7 +82,7 @@ class TreeTest(unittest.TestCase):
     """The second implementation agrees with a search of all paths, and rows share out the bytes."""
 
     def check_files(self, files):
-        for tree, path, options in trees_of(files):
+        for tree, path, options, _ in trees_of(files):
             with self.subTest(path, options=options):
                 for number in tree.answers.live:
                     lost = tree.reach.retained_by([number])
@@ -80,7 +90,7 @@ class TreeTest(unittest.TestCase):
                     self.assertEqual(found, (tree.reach.bytes_of(lost), len(lost)))
                 for shape in SHAPES:
                     rows = tree.rows(**shape.bounds)
-                    self.assertEqual(sum(row.apart for row in rows), tree.live_bytes)
+                    self.assertEqual(sum(row.apart for row in rows), tree.whole)
 
     def test_worked_images(self):
         self.check_files(readable_files())
@@ -117,6 +127,35 @@ class SmallImagesTest(TopTest):
     def test_image_with_names(self):
         self.check_trees(self.write_all({NAME: named_file()}), SHAPES)
 
+    def check_objects(self, trees, folder=None):
+        """Asks for the trees from some live objects of each image."""
+        generator = random.Random(SEED)
+        asked = [
+            it.below(number)
+            for it in trees
+            for number in sample_of(generator, it.tree.answers.live, SMALL_OBJECTS)
+        ]
+        self.check_trees(asked, OBJECT_SHAPES, folder)
+
+    def test_objects_of_worked_images(self):
+        self.check_objects(trees_of(readable_files()), folder=IMAGES)
+
+    def test_objects_of_random_images(self):
+        self.check_objects(self.write_all(random_files()))
+
+    def test_objects_of_the_image_with_names(self):
+        self.check_objects(self.write_all({NAME: named_file()}))
+
+    def test_other_objects(self):
+        """An object that is not live, and words for nothing, have the answer of `why`."""
+        lines = [("accepted/dead_cycle.image", "0000100c"), ("accepted/dead_cycle.image", "Nobody")]
+        lines += [("--json", *line) for line in lines]
+        found = look_at_all([("top", *line) for line in lines], IMAGES)
+        expected = look_at_all([("why", *line) for line in lines], IMAGES)
+        for line, outcome, other in zip(lines, found, expected):
+            with self.subTest(line):
+                self.assert_ends(outcome, other)
+
     def test_unreadable_images(self):
         """An image that cannot be read is rejected as by other commands."""
         paths = [name_of(path) for path in unreadable_paths()]
@@ -136,6 +175,16 @@ class RealTreeTest(TopTest, SavedImageTest):
 
     def test_kept(self):
         self.check_image(answers_about(self.image), ())
+
+    def test_objects(self):
+        """The trees from some objects, half of which retain much."""
+        self.write(NAME, self.image.file())
+        answers = answers_about(self.image)
+        tree = tree_of(answers)
+        most = sorted(tree.retained, key=lambda it: -tree.retained[it])[: 10 * REAL_OBJECTS]
+        chosen = [*self.sample(most, REAL_OBJECTS), *self.sample(answers.live, REAL_OBJECTS)]
+        asked = Asked(tree, NAME, ())
+        self.check_trees([asked.below(number) for number in chosen], (USUAL, Shape(2, "0")))
 
     def test_cleared(self):
         self.check_image(Answers(self.image, clear_weak=True), CLEAR)
@@ -168,7 +217,7 @@ class TextTest(KnownImageTest):
                 self.assertEqual(found, [self.columns(tree, row) for row in rows])
 
     def columns(self, tree, row):
-        share = percent(row.retained, tree.live_bytes)
+        share = percent(row.retained, tree.whole)
         return str(row.retained), share, str(row.objects), "  " * row.depth, row.label
 
 

@@ -8,6 +8,8 @@ from tests.reference.objects import ZERO, Format
 
 # The variable, which is nil in the image of the package.
 HOLDER = "HandMorph class variable PasteBuffer"
+# Another variable that is nil, and a class that has no shared pools.
+OTHER_HOLDER, POOLLESS, POOLS = "DisplayScreen class variable ScreenSave", "Point", 8
 # The variable holds an array of forms and two points. The number of forms, and of words in the
 # bitmap of each.
 HELD_FORMS, BITMAP_WORDS = 1500, 660
@@ -16,12 +18,13 @@ CLASSES = ("Form", "Bitmap", "Point", "Array")
 
 
 class Held(typing.NamedTuple):
-    """An image whose variable holds 4 MB, and the addresses of the variable's association and of
-    the last form that it holds."""
+    """An image in which 4 MB are held, and the addresses of the object whose field holds them, of
+    the last form, and of the array of all of them."""
 
     image: Image
     holder: int
     last_form: int
+    array: int
 
 
 class Appending:
@@ -44,18 +47,39 @@ class Appending:
         bitmap = self.add(Format.WORDS, "Bitmap", *[0] * BITMAP_WORDS)
         return self.add(Format.FIXED, "Form", bitmap, *[ZERO] * 4)
 
-    def held_by(self, number):
-        """The image in which the association of this number has a value of 4 MB."""
+    def held_by(self, *holders):
+        """The image in which fields have a value of 4 MB. A holder is an object and a field."""
         forms = [self.add_form() for _ in range(HELD_FORMS)]
         points = [self.add(Format.FIXED, "Point", ZERO, ZERO) for _ in range(2)]
-        place = self.image.objects[number].base + 1 + AssociationField.VALUE
-        self.words[place] = self.add(Format.INDEXED, "Array", *forms, *points)
+        array = self.add(Format.INDEXED, "Array", *forms, *points)
+        for number, field in holders:
+            self.words[self.image.objects[number].base + 1 + field] = array
         image = Image(self.image.header, self.words, self.image.order, self.image.prefix)
-        return Held(Image.read(image.file())[0], self.address(number), forms[-1])
+        return Held(Image.read(image.file())[0], self.address(holders[0][0]), forms[-1], array)
+
+
+def variable_of(names, label):
+    """The value field of the only variable with a label."""
+    (number,) = (number for number, it in names.variables.items() if it == label)
+    return number, AssociationField.VALUE
+
+
+def image_of(names, *holders):
+    """The image of these names, in which these fields hold 4 MB."""
+    classes = {name: names.class_named(name) for name in CLASSES}
+    return Appending(names.image, classes).held_by(*holders)
 
 
 def held_image(names):
     """The image of these names, in which the variable holds 4 MB."""
-    (holder,) = (number for number, label in names.variables.items() if label == HOLDER)
-    classes = {name: names.class_named(name) for name in CLASSES}
-    return Appending(names.image, classes).held_by(holder)
+    return image_of(names, variable_of(names, HOLDER))
+
+
+def held_twice(names):
+    """The image of these names, in which two variables hold the same 4 MB."""
+    return image_of(names, variable_of(names, HOLDER), variable_of(names, OTHER_HOLDER))
+
+
+def held_by_class(names):
+    """The image of these names, in which an instance variable of a class holds 4 MB."""
+    return image_of(names, (names.class_named(POOLLESS), POOLS))

@@ -114,10 +114,26 @@ class Answers:
         numbers = range(len(self.image.objects))
         chosen = [number for number in numbers if self.is_live(number) != dead]
         groups = self.groups(chosen)
-        sizes = {group: self.reach.bytes_of(its) for group, its in groups.items()}
-        order = sorted(groups, key=lambda group: (-sizes[group], group.a_class is None, group))
-        rows = [self.census_row(group, groups[group]) for group in order]
+        rows = [self.census_row(group, groups[group]) for group in self.by_size(groups)]
         return [{"image": path, **row} for row in (*rows, self.census_row(None, chosen))]
+
+    def by_size(self, groups):
+        """These groups in the order of a class histogram."""
+        sizes = {group: self.reach.bytes_of(its) for group, its in groups.items()}
+        return sorted(groups, key=lambda group: (-sizes[group], group.a_class is None, group))
+
+    def retained_census(self, path):
+        """The class histogram of the live objects with what the objects of each group retain, those
+        that retain most first. All objects retain all live bytes."""
+        groups, (*rows, last) = self.live_groups, self.census(path)
+        for row, group in zip(rows, self.by_size(groups)):
+            row["retained"] = self.reach.bytes_of(self.dominated_by(groups[group]))
+        rows.sort(key=lambda row: -row["retained"])
+        return [*rows, {**last, "retained": self.reach.live_bytes}]
+
+    def dominated_by(self, numbers):
+        """The objects that one of these live objects retains alone, each once."""
+        return set().union(*(self.reach.retained_by([number]) for number in numbers))
 
     def census_row(self, group, numbers):
         """The row of the objects of a group, or of all."""

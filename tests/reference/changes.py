@@ -2,22 +2,31 @@
 
 import collections
 import functools
+import itertools
+import re
 import typing
 
 from tests.reference.alike import first_difference
-from tests.reference.fields import AssociationField, ClassField
+from tests.reference.fields import AssociationField, ClassField, OrganizerField
 from tests.reference.file_format import bytes_of
-from tests.reference.names import escaped
+from tests.reference.names import STRINGS, SYMBOLS, escaped
 from tests.reference.objects import Format, format_of, has_bytes, traced_end
+from tests.reference.partners import Partners
 from tests.reference.tree import Tree
 from tests.reference.values import signed
 
 # The maximum number of rows of each kind in the text, unless all are requested.
 SHOWN = 20
+# A path with more steps than twice this is cut in the middle, as text.
+HALF = 10
 # The maximum number of characters of the name of a method that is printed.
 LONGEST = 80
 # The parts of the definition of a class.
-PARTS = "superclass", "instance_variables"
+PARTS = "superclass", "instance_variables", "category"
+# The global variable that lists the classes of each category.
+ORGANIZATION = b"SystemOrganization"
+# Names that are printed without quotes.
+PLAIN = re.compile(r"(?!none\Z)\w+", re.ASCII)
 # The elements of an array in a literal are compared down to this depth.
 DEPTH = 3
 # A last byte of at least this says that the last four bytes of a method are a source pointer.
@@ -52,20 +61,38 @@ class Definition(typing.NamedTuple):
 
     name: str
     part: str
-    old: str | None
-    new: str | None
+    old: str | tuple | None
+    new: str | tuple | None
 
     def row(self):
         """What `--json` prints."""
-        return {"kind": "definition", **self._asdict()}
+        old, new = (list(it) if isinstance(it, tuple) else it for it in (self.old, self.new))
+        return {"kind": "definition", "name": self.name, "part": self.part, "old": old, "new": new}
+
+    def text(self, value):
+        """The part in one of the images, as text."""
+        if self.part == "category":
+            return "none" if value is None else f"'{value}'"
+        if self.part == "superclass" or value is None:
+            return value
+        return " ".join(map(plain_or_quoted, value)) or "none"
 
     def line(self):
         """The line of the text."""
-        old, new = (None if it is None else it or "none" for it in (self.old, self.new))
+        old, new = self.text(self.old), self.text(self.new)
         text = f"{self.name}: {self.part.replace('_', ' ')}"
         if old is not None and new is not None:
             return f"  changed  {text} {old} -> {new}"
         return f"  added    {text} {new}" if old is None else f"  removed  {text} {old}"
+
+
+def plain_or_quoted(name):
+    """A name in a list as it is printed."""
+    if name is None:
+        return "(no name)"
+    if PLAIN.fullmatch(name):
+        return name
+    return "'" + name.replace("'", "''") + "'"
 
 
 class Change(typing.NamedTuple):
@@ -116,38 +143,74 @@ class Side:
         names = self.names
         if a_class in names.constants or a_class not in names.class_labels:
             return names.name(a_class)
-        if not names.is_metaclass(a_class):
-            return self.text(names.target(a_class, ClassField.NAME))
-        name = names.target(a_class, ClassField.INSTANCE, ClassField.NAME)
-        return names.name(a_class) if name is None else f"{self.text(name)} class"
+        is_meta = names.is_metaclass(a_class)
+        path = (ClassField.INSTANCE, ClassField.NAME) if is_meta else (ClassField.NAME,)
+        name = self.text(names.target(a_class, *path))
+        if name is None:
+            return names.name(a_class)
+        return f"{name} class" if is_meta else name
 
     def text(self, number):
-        """The bytes of a byte object as text. That of any other object is empty."""
-        return escaped(self.image.text(number) or b"")
+        """The bytes of a byte object as text. None for any other object."""
+        data = self.image.text(number)
+        return None if data is None else escaped(data)
 
     @functools.cache
     def label(self, association):
         """The label of the association of a variable, with whole names."""
         a_class = self.tree.variables[association].a_class
         key = self.text(self.names.target(association, AssociationField.KEY))
-        return f"Smalltalk at: #{key}" if a_class is None else f"{self.name(a_class)} class variable {key}"
+        if a_class is None:
+            return f"Smalltalk at: #{key}"
+        return f"{self.name(a_class)} class variable {key}"
 
     @functools.cached_property
     def definitions(self):
-        """The superclasses and the instance variables of the live classes, by name."""
-        parts = collections.defaultdict(list), collections.defaultdict(list)
+        """The superclasses, the instance variables and the categories of the live classes with each
+        name, by address."""
+        found = collections.defaultdict(list)
         names, classes = self.names, set(self.names.classes)
         for a_class in filter(self.answers.is_live, names.classes):
             superclass = names.target(a_class, ClassField.SUPERCLASS)
             array = names.target(a_class, ClassField.VARIABLES)
             its = [] if array is None else names.fields(array)
-            texts = (
+            parts = (
                 self.name(superclass) if superclass in classes else "nil",
-                " ".join("?" if it is None else self.text(it) for it in its),
+                tuple(None if it is None else self.text(it) for it in its),
+                self.categories.get(names.target(a_class, ClassField.NAME)),
             )
-            for part, text in zip(parts, texts):
-                part[self.name(a_class)].append(text)
-        return [{name: ", ".join(its) for name, its in part.items()} for part in parts]
+            found[self.name(a_class)].append(parts)
+        return dict(found)
+
+    @functools.cached_property
+    def categories(self):
+        """The category of each listed name of a class, if it is a string or a symbol."""
+        names, found = self.names, {}
+        organizers = [
+            number
+            for number, it in sorted(self.tree.variables.items())
+            if it.a_class is None
+            and self.image.text(names.target(number, AssociationField.KEY)) == ORGANIZATION
+        ]
+        organizer = names.target(organizers[0], AssociationField.VALUE) if organizers else None
+        arrays = [names.target(organizer, field) for field in OrganizerField]
+        if None in arrays[1:]:
+            return {}
+        categories = [] if arrays[0] is None else names.fields(arrays[0])
+        it = self.image.objects[arrays[1]]
+        ends = iter(enumerate(self.image.words[it.base + 1 : it.end]))
+        place, end = 0, 0
+        for at, listed in enumerate(names.fields(arrays[2])):
+            while end <= at:
+                place, word = next(ends, (None, 0))
+                if not word & 1:
+                    return found
+                end = signed(word)
+            if listed is not None and listed not in found:
+                category = categories[place] if place < len(categories) else None
+                is_text = category is not None and names.class_name(category) in STRINGS + SYMBOLS
+                found[listed] = self.text(category) if is_text else None
+        return found
 
     @functools.cached_property
     def classes(self):
@@ -183,7 +246,7 @@ class Side:
         return {name: ", ".join(texts) for name, texts in found.items()}
 
     def value(self, association):
-        """The value of a variable as text: a label, or the class and size of an object that has none."""
+        """The value of a variable as text: a label, or the class and size of an unnamed object."""
         number = self.names.target(association, AssociationField.VALUE)
         if number is not None:
             label, size = self.names.label(number), self.answers.reach.sizes[number]
@@ -195,6 +258,19 @@ class Side:
             return "no value"
         word = self.image.words[place]
         return str(signed(word)) if word & 1 else f"word {word:08x}"
+
+    def path(self, number):
+        """The rows of a shortest path to an object."""
+        steps = self.answers.reach.path(number)
+        owners = [None, *(owner for owner, _ in steps)]
+        return [
+            {
+                **self.answers.object_row(step),
+                **self.answers.step_row(owner, place),
+                "retained": self.tree.retained[step],
+            }
+            for owner, (step, place) in zip(owners, steps)
+        ]
 
     @functools.cached_property
     def methods(self):
@@ -255,12 +331,21 @@ def changes_of(old, new):
         yield Change(name, old.get(name), new.get(name))
 
 
-def text_changes(old, new, keeps_single):
-    """What has other texts in two images, first by the old names; with what one alone has, or not."""
-    for name in [*sorted(old), *sorted(new.keys() - old.keys())]:
-        its = old.get(name), new.get(name)
-        if its[0] != its[1] and (keeps_single or None not in its):
-            yield name, *its
+def definition_changes(old, new):
+    """The parts of definitions that differ. Classes of one name are compared in order."""
+    names = [*sorted(old), *sorted(new.keys() - old.keys())]
+    pairs = [
+        (name, *pair)
+        for name in names
+        for pair in itertools.zip_longest(old.get(name, ()), new.get(name, ()))
+    ]
+    for at, part in enumerate(PARTS):
+        for name, one, other in pairs:
+            if one and other:
+                if one[at] != other[at]:
+                    yield Definition(name, part, one[at], other[at])
+            elif at == 0:
+                yield Definition(name, part, one and one[at], other and other[at])
 
 
 def cut(name):
@@ -296,11 +381,12 @@ class Changes:
             for it in changes_of(old.values, new.values)
             if None not in (it.old, it.new) and it.old != it.new
         ]
-        self.definitions = [
-            Definition(it[0], part, *it[1:])
-            for part, its in zip(PARTS, zip(old.definitions, new.definitions))
-            for it in text_changes(*its, keeps_single=part == PARTS[0])
-        ]
+        self.definitions = list(definition_changes(old.definitions, new.definitions))
+        self.partners = Partners(old, new)
+        self.new_bytes = collections.Counter()
+        for number in filter(new.answers.is_live, new.tree.variables):
+            self.new_bytes[new.label(number)] += self.partners.new_bytes[number]
+        self.holders = self.partners.holders
         self.method_count = len(methods)
         self.methods = [
             it._replace(name=cut("".join(it.name[0])))
@@ -321,19 +407,26 @@ class Changes:
     def is_nameless(self):
         """Whether the images differ, but nothing by name does."""
         named = self.classes, self.variables, self.values, self.definitions, self.methods
-        by_name = any(named) or self.old != self.new
+        by_name = any(named) or self.holders or self.old != self.new
         return self.difference is not None and not by_name
 
     def rows(self):
         """What `--json` prints."""
         rows = [self.row("total", Change(None, self.old, self.new), Size._asdict)]
         rows += [self.row("class", change, Size._asdict) for change in self.classes]
-        rows += [self.row("retained", change, bytes_in) for change in self.variables]
+        rows += [
+            {**self.row("retained", change, bytes_in), "new_bytes": self.share(change)}
+            for change in self.variables
+        ]
         rows += [self.row("value", change, str) for change in self.values]
         rows += [it.row() for it in self.definitions]
         rows += [self.row("method", change, bytes_in) for change in self.methods]
+        rows += map(self.partners.row, self.holders)
         if self.is_nameless:
-            objects = [side.answers.object_row(it) for side, it in self.differing()]
+            objects = [
+                {**side.answers.object_row(it), "path": side.path(it)}
+                for side, it in self.differing()
+            ]
             rows.append(self.row("object", Change(None, *objects), dict))
         return rows
 
@@ -358,6 +451,7 @@ class Changes:
                 (it.line() for it in self.definitions),
             ),
             (f"methods   {numbers} of {self.method_count}", self.method_lines()),
+            (f"holders   {len(self.holders)} changed", map(self.partners.line, self.holders)),
         )
         yield (
             f"objects   {self.old.objects} -> {self.new.objects}, "
@@ -377,13 +471,23 @@ class Changes:
                 for side, it in self.differing()
             )
             yield f"first difference: {old} -> {new}"
+            matchables = self.partners.old, self.partners.new
+            for name, matchable, (side, it) in zip(("old", "new"), matchables, self.differing()):
+                yield f"  {name}: " + path_line(side, matchable.slot_text, it)
 
     def class_line(self, change):
         old, new = (it.objects if it else 0 for it in (change.old, change.new))
         return f"{change.grown:+11} bytes {new - old:+10} objects  {change.name}"
 
     def variable_line(self, change):
-        return f"{change.grown:+11} bytes  {change.name}{note(change.old, change.new)}"
+        share = self.share(change)
+        text = f"({share or 'none'} new)" if share or share == 0 and change.grown > 0 else ""
+        name = change.name + note(change.old, change.new)
+        return f"{change.grown:+11} bytes {text:16} {name}"
+
+    def share(self, change):
+        """The bytes of new objects that a variable retains now, if there is such a variable."""
+        return None if change.new is None else self.new_bytes[change.name]
 
     def value_line(self, change):
         return f"  {change.name}: {change.old} -> {change.new}"
@@ -405,6 +509,20 @@ def note(old, new):
     if old.is_nil != new.is_nil:
         return " (was nil)" if old.is_nil else " (now nil)"
     return ""
+
+
+def path_line(side, text_of, number):
+    """A shortest path to an object as one line. `text_of` gives the text of a slot."""
+    _, *steps = side.answers.reach.path(number)
+    owners = [side.answers.image.special, *(it for it, _ in steps)]
+    parts = [
+        f"{text_of(owner, place)} {side.names.address(it)} {side.tree.short_label(it)}"
+        for owner, (it, place) in zip(owners, steps)
+    ]
+    cut = len(parts) - 2 * HALF
+    if cut > 0:
+        parts[HALF:-HALF] = [f".. {cut} more .."]
+    return " > ".join(["special objects array", *parts])
 
 
 def rest_line(count):

@@ -54,6 +54,14 @@ class DictionaryField(enum.IntEnum):
     SELECTORS = 2
 
 
+class OrganizerField(enum.IntEnum):
+    """Fields of the system organizer, which lists the names of classes by category."""
+
+    CATEGORIES = 1
+    ENDS = 2
+    LISTED = 3
+
+
 class AssociationField(enum.IntEnum):
     """Fields of an association."""
 
