@@ -7,7 +7,8 @@ ghost use Rattle.std.specs.Ordering.{nat_cmp};
 ghost use Rattle.std.specs.List.Sorted.{IsPermutation, IsSortedBy, IsStableBy};
 ghost use Rattle.sqz_image.specs.Objects.{object_count};
 ghost use Rattle.sqz_histogram.specs.Keys.{group_with};
-ghost use Rattle.sqz_answers.specs.GroupCounts.{AreCountsWithin, AreGroupCounts, AreTallies, count_at, has_more};
+ghost use Rattle.sqz_answers.specs.GroupCounts.{AreCountsWithin, AreGroupCounts, AreTallies};
+ghost use Rattle.sqz_answers.specs.GroupCounts.{count_at, has_more};
 
 use crate::group_keys::key_of;
 use sqz_facts::group_of;

@@ -5,7 +5,8 @@ ghost use Rattle.std.specs.List.Sorted.{IsPermutation, IsSortedBy, IsStableBy};
 ghost use Rattle.sqz_image.specs.Objects.{object_count};
 ghost use Rattle.sqz_histogram.specs.Groups.{IsInside};
 ghost use Rattle.sqz_histogram.specs.Keys.{key_count};
-ghost use Rattle.sqz_answers.specs.RetainedHistograms.{IsRetainedHistogram, group_retains_more, retained_total};
+ghost use Rattle.sqz_answers.specs.RetainedHistograms.{IsRetainedHistogram, group_retains_more};
+ghost use Rattle.sqz_answers.specs.RetainedHistograms.{retained_total};
 
 use crate::group_keys::key_of;
 use crate::histograms::live_histogram;

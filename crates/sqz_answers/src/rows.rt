@@ -1,6 +1,7 @@
 //! What retains most: the rows of a dominator tree.
 
-ghost use Rattle.std.specs.Prelude.{◌≡◌, ◌<◌, ◌≤◌, ◌+◌, ◌^◌, true, All, IfOk, OnOk, length, option_to_list, sum_by};
+ghost use Rattle.std.specs.Prelude.{◌≡◌, ◌<◌, ◌≤◌, ◌+◌, ◌^◌, true, All, IfOk};
+ghost use Rattle.std.specs.Prelude.{OnOk, length, option_to_list, sum_by};
 ghost use Rattle.std.specs.List.{filter};
 ghost use Rattle.sqz_image.specs.Objects.{object_count};
 ghost use Rattle.sqz_trace.specs.Graph.{is_marked};
@@ -9,7 +10,8 @@ ghost use Rattle.sqz_dominators.specs.Retained.{AreDominators};
 ghost use Rattle.sqz_answers.specs.GroupCounts.{AreCountsWithin};
 ghost use Rattle.sqz_answers.specs.Levels.{held_value};
 ghost use Rattle.sqz_answers.specs.Smaller.{AreGroupsOfRows};
-ghost use Rattle.sqz_answers.specs.TopRows.{AreTopRows, IsRowInside, is_smaller, object_row, retained_objects, smaller_rows};
+ghost use Rattle.sqz_answers.specs.TopRows.{AreTopRows, IsRowInside, is_smaller, object_row};
+ghost use Rattle.sqz_answers.specs.TopRows.{retained_objects, smaller_rows};
 ghost use Rattle.sqz_answers.specs.TopTrees.{AddsRows, IsTopTree};
 
 use crate::group_counts::GroupCount;

@@ -4,7 +4,8 @@ ghost use Rattle.std.specs.Prelude.{◌≡◌, ◌<◌, All, IfOk};
 ghost use Rattle.std.specs.List.{filter};
 ghost use Rattle.sqz_image.specs.Objects.{object_count};
 ghost use Rattle.sqz_answers.specs.GroupCounts.{AreCountsWithin};
-ghost use Rattle.sqz_answers.specs.Smaller.{AreGroupsAt, AreGroupsBelow, AreGroupsOfRows, above_smaller};
+ghost use Rattle.sqz_answers.specs.Smaller.{AreGroupsAt, AreGroupsBelow};
+ghost use Rattle.sqz_answers.specs.Smaller.{AreGroupsOfRows, above_smaller};
 ghost use Rattle.sqz_answers.specs.TopRows.{IsRowInside, is_smaller};
 ghost use Rattle.sqz_answers.specs.TopTrees.{IsTopTree};
 

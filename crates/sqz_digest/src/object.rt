@@ -6,7 +6,8 @@ ghost use Rattle.sqz_object.specs.declared.order.Order.TheVariants.{Little};
 ghost use Rattle.sqz_image.specs.Objects.{object_count, chunk_words};
 ghost use Rattle.sqz_alike.specs.Seen.{seen};
 ghost use Rattle.sqz_digest.specs.Found.{slots_of};
-ghost use Rattle.sqz_digest.specs.Written.{kind_number, slot_words, header_bytes, untraced_order, untraced_bytes};
+ghost use Rattle.sqz_digest.specs.Written.{kind_number, slot_words, header_bytes};
+ghost use Rattle.sqz_digest.specs.Written.{untraced_order, untraced_bytes};
 ghost use Rattle.sqz_digest.specs.Hashing.{Takes, HashesSlots, HashesObject};
 ghost use Rattle.sqz_digest.specs.Walk.{IsWalk};
 

@@ -21,7 +21,7 @@ pub(crate) struct MethodView {
 }
 
 impl MethodView {
-    /// Returns what the header of a method says. None for another object, and if there is no header.
+    /// Returns what the header of a method says. None for another object, or without a header.
     pub(crate) fn of(heap: &Heap, object: ObjectIndex) -> Option<Self>
         requires { object < object_count heap.now }
     {

@@ -4,7 +4,8 @@ ghost use Rattle.std.specs.Prelude.{◌≡◌, IfOk, codes, map};
 ghost use Rattle.clap.specs.Words.{app_of};
 ghost use Rattle.sqz_look_args.specs.CommandLine.{HasRule, HasShape, argument_rule, exclusive_flag};
 ghost use Rattle.sqz_look_args.specs.CommandLine.{flag_option, listed_of, look_line, name_of};
-ghost use Rattle.sqz_look_args.specs.CommandLine.{number_option, optional_words, required_word, required_words};
+ghost use Rattle.sqz_look_args.specs.CommandLine.{number_option, optional_words};
+ghost use Rattle.sqz_look_args.specs.CommandLine.{required_word, required_words};
 ghost use Rattle.sqz_look_args.specs.CommandLine.{shape_of_listed, subcommands, value_option};
 
 use clap::builder::ValueParser;

@@ -4,7 +4,8 @@ ghost use Rattle.std.specs.Prelude.{◌≡◌, ◌∷◌, [], List, IfOk, MatchR
 ghost use Rattle.clap.specs.Walk.{texts};
 ghost use Rattle.clap.specs.Words.{Row, found_of, rows_of, subcommand_rows_of};
 ghost use Rattle.sqz_look_args.specs.declared.bad_request.BadRequest.TheVariants.{OutOfMemory};
-ghost use Rattle.sqz_look_args.specs.Requests.{AsksSoundness, HasCommand, IsCheckOf, given, has_flag};
+ghost use Rattle.sqz_look_args.specs.Requests.{AsksSoundness, HasCommand, IsCheckOf};
+ghost use Rattle.sqz_look_args.specs.Requests.{given, has_flag};
 
 use crate::bad_request::BadRequest;
 use crate::commands::Name;
@@ -99,9 +100,9 @@ pub enum ObjectQuestion {
 }
 
 impl<'a> Request<'a> {
-    /// Returns what the matches of `command` ask for. The last words of a line may stand apart, after
-    /// `--`: each is an object of its own. Fails if out of memory, and if an argument is missing or
-    /// `--min` has no percentage.
+    /// Returns what the matches of `command` ask for. The last words of a line may stand apart,
+    /// after `--`: each is an object of its own. Fails if out of memory, and if an argument is
+    /// missing or `--min` has no percentage.
     pub fn of(alloc: Global, matches: &ArgMatches<'a>, apart: usize) -> Result<Self, BadRequest<'a>>
         requires { HasCommand matches.now }
         ensures check { (rows : List Row)

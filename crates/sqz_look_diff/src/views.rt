@@ -108,7 +108,7 @@ pub(crate) struct VariableView<'a> {
     name: &'a str,
     old: Option<u64>,
     new: Option<u64>,
-    /// Of the bytes that it retains now, those of new objects. None if it is gone.
+    /// The bytes of new objects that it retains now. None if it is gone.
     new_bytes: Option<u64>,
     /// How many of them are new, as text.
     #[serde(skip)]

@@ -21,8 +21,8 @@ pub(crate) struct Span {
     pub(crate) width: u64,
 }
 
-/// Returns where the box of each row is: as wide as its share of the first row's bytes, under the box of
-/// the row above it, and right of the boxes that were printed before it.
+/// Returns where the box of each row is: as wide as its share of the first row's bytes, under the
+/// box of the row above it, and right of the boxes that were printed before it.
 pub(crate) fn spans_of(alloc: Global, rows: &[Row], whole: u64) -> Result<Vec<Span>, AllocError> {
     let mut spans = Vec::new(alloc);
     // for each level where its next box begins, in bytes

@@ -17,12 +17,11 @@ const BOX_DEPTH: u32 = 12;
 /// requested, in tenths of a percent.
 const LEAST_ROW: u32 = 10;
 
-/// The least share of what the first row retains that has a box of its own in a drawing, in tenths
-/// of a percent.
+/// The least share of the first row that has a box of its own in a drawing, in tenths of a percent.
 const LEAST_BOX: u32 = 2;
 
-/// Returns which part of the tree below an object that retains `whole` bytes has rows. A drawing has
-/// no box that is too narrow to be seen.
+/// Returns which part of the tree below an object that retains `whole` bytes has rows. A drawing
+/// has no box that is too narrow to be seen.
 pub(crate) fn limits_of(options: TopOptions, root: ObjectIndex, whole: u64) -> TopLimits
     ensures { result.root ≡ root }
 {

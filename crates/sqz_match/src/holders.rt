@@ -3,7 +3,8 @@
 ghost use Rattle.std.specs.Prelude.{ℕ, ◌≡◌, IfOk, OnOk, IfSome, All, ◌<◌};
 ghost use Rattle.std.specs.List.Sorted.{IsPermutation, IsSortedBy, IsStableBy};
 ghost use Rattle.sqz_image.specs.Objects.{object_count};
-ghost use Rattle.sqz_match.specs.Holders.{AreHolders, grows_more, growth_of, holder_at, is_outermost};
+ghost use Rattle.sqz_match.specs.Holders.{AreHolders, grows_more, growth_of};
+ghost use Rattle.sqz_match.specs.Holders.{holder_at, is_outermost};
 
 use crate::growth::Growth;
 use crate::holder::Holder;
