@@ -23,6 +23,14 @@ header_fault header bytes =
     else (if nat_lt bytes (header_size + data_size header) then Some Truncated
     else None)))
 
+-- the first of faults 3 to 5 that applies, by the header words alone
+abbrev pub words_fault : List ℕ → Option Fault
+words_fault header =
+    if not (stated_header_size header == header_size) then Some BadHeaderSize
+    else (if not (data_size header % 4 == 0) then Some BadDataSize
+    else (if not (base_address header % 4 == 0) || nat_lt (2 ^ 32) (base_address header + data_size header) then Some BadBase
+    else None))
+
 abbrev pub fault_in_order : Option Order → List ℕ → Option Fault
 fault_in_order None bytes = Some BadVersion
 fault_in_order (Some order) bytes = header_fault (header_of order bytes) (length bytes)

@@ -4,7 +4,7 @@ ghost use Rattle.std.specs.Prelude.{◌≡◌, ◌⊎◌, ◌≤◌, length, tak
 ghost use Rattle.sqz_object.specs.Bytes.{words_of};
 ghost use Rattle.sqz_image.specs.File.{order_of, prefix_size, header_offset, header_of};
 ghost use Rattle.sqz_image.specs.File.{IsHeader, HasNoHeader, base_address, data_size, special_address};
-ghost use Rattle.sqz_image.specs.Refusals.{header_fault, file_fault};
+ghost use Rattle.sqz_image.specs.Refusals.{header_fault, file_fault, words_fault};
 
 use crate::fault::Fault;
 use sqz_object::{Address, Order, word_at};
@@ -89,6 +89,14 @@ impl Header {
         self.words[SPECIAL_WORD]
     }
 
+    /// Returns what is wrong with the header words, whatever follows them: `BadHeaderSize`,
+    /// `BadDataSize` or `BadBase`.
+    pub fn words_fault(&self) -> Option<Fault>
+        ensures { result ≡ words_fault self.now.words }
+    {
+        words_fault(&self.words)
+    }
+
     /// Returns the first fault of the header of a file, if it has one.
     pub(crate) fn fault(&self, file: &[u8]) -> Option<Fault>
         requires { IsHeader file.now self.now }
@@ -146,6 +154,19 @@ fn header_words(order: Order, bytes: &[u8]) -> [u32; HEADER_WORDS]
 fn header_fault(words: &[u32; HEADER_WORDS], bytes: usize) -> Option<Fault>
     ensures { result ≡ header_fault words.now bytes }
 {
+    if let Some(fault) = words_fault(words) {
+        return Some(fault);
+    }
+    if bytes < HEADER_SIZE + words[DATA_SIZE_WORD] as usize {
+        return Some(Fault::Truncated);
+    }
+    None
+}
+
+/// Returns what is wrong with the header words, whatever follows them.
+fn words_fault(words: &[u32; HEADER_WORDS]) -> Option<Fault>
+    ensures { result ≡ words_fault words.now }
+{
     let header_size = words[HEADER_SIZE_WORD];
     let data_size = words[DATA_SIZE_WORD];
     let base = words[BASE_WORD];
@@ -157,9 +178,6 @@ fn header_fault(words: &[u32; HEADER_WORDS], bytes: usize) -> Option<Fault>
     }
     if base % 4 != 0 || u64::from(base) + u64::from(data_size) > 1 << 32 {
         return Some(Fault::BadBase);
-    }
-    if bytes < HEADER_SIZE + data_size as usize {
-        return Some(Fault::Truncated);
     }
     None
 }

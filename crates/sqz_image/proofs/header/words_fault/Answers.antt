@@ -1,8 +1,5 @@
 use Rattle.std.proofs.Common.{rules}
-use Rattle.sqz_image.proofs.header.header_fault.Goals as goal
-
-pub returns-then-bytes-data_size : goal.returns-then-bytes-data_size
-returns-then-bytes-data_size c = search rules
+use Rattle.sqz_image.proofs.header.words_fault.Goals as goal
 
 pub returns : goal.returns
 returns c = search rules
