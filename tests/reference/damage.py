@@ -1,0 +1,87 @@
+"""The best reading of damaged data words: the sequence of chunks and gaps that contradicts the
+fewest pointers.
+
+Each word that is the address of a data word is a vote for that word. A reading contradicts the
+votes for words at which no base header of an object stands. A gap counts as 16 contradicted votes.
+Among readings that contradict equally many, the best one skips the fewest words.
+"""
+
+import array
+import typing
+
+from tests.reference.objects import FREE, HEADER_TYPES
+
+# What a gap costs, in contradicted votes.
+GAP_VOTES = 16
+
+
+class Gap(typing.NamedTuple):
+    """A run of data words that no chunk covers: the index of its first word, and its length."""
+
+    first: int
+    words: int
+
+
+def chunk_at(words, at):
+    """The base header and the end of the chunk that begins at this word, or None.
+
+    A free chunk has no base header: its first word stands for it."""
+    kind = words[at] & 3
+    before = 0 if kind == FREE else HEADER_TYPES.index(kind)
+    if at + before >= len(words) or any(word & 3 != kind for word in words[at : at + before + 1]):
+        return None
+    base = at + before
+    size = words[at] >> 2 if kind in (0, FREE) else words[base] >> 2 & 63
+    return (base, base + size) if 0 < size <= len(words) - base else None
+
+
+def votes_of(base, words):
+    """The number of votes for each data word."""
+    votes = array.array("I", bytes(4 * len(words)))
+    end = base + 4 * len(words)
+    for word in words:
+        if base <= word < end and word & 3 == 0:
+            votes[(word - base) >> 2] += 1
+    return votes
+
+
+def gaps_of(base, words):
+    """The gaps of the best reading of these data words, of which the first has this address.
+
+    If several readings are best, a chunk comes before a gap, and a gap is short."""
+    count, votes = len(words), votes_of(base, words)
+    later = array.array("I", bytes(4 * (count + 1)))
+    for at in reversed(range(count)):
+        later[at] = later[at + 1] + votes[at]
+    # The best reading from each word on: its votes and skipped words as one number, the end of its
+    # first part, and whether that part is a gap.
+    cost, end = array.array("Q", bytes(8 * (count + 1))), array.array("I", bytes(4 * (count + 1)))
+    is_gap = bytearray(count + 1)
+    # The best way on from a word within a gap: its cost, and the end of the gap.
+    within, gap_end = 0, count
+    for at in reversed(range(count)):
+        skipped = within + (votes[at] << 30) + 1
+        best = skipped + (GAP_VOTES << 30), gap_end, True
+        chunk = chunk_at(words, at)
+        if chunk is not None:
+            header, after = chunk
+            kept = votes[header] if words[at] & 3 != FREE else 0
+            read = cost[after] + ((later[at] - later[after] - kept) << 30)
+            if read <= best[0]:
+                best = read, after, False
+        cost[at], end[at], is_gap[at] = best
+        within, gap_end = (best[0], at) if best[0] <= skipped else (skipped, gap_end)
+    gaps, at = [], 0
+    while at < count:
+        if is_gap[at]:
+            gaps.append(Gap(at, end[at] - at))
+        at = end[at]
+    return gaps
+
+
+def mended_words(base, words):
+    """These data words, with each gap of the best reading as a free chunk."""
+    mended = words[:]
+    for gap in gaps_of(base, words):
+        mended[gap.first] = 4 * gap.words + FREE
+    return mended
