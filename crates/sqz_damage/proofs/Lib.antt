@@ -1,0 +1,4 @@
+pub mod ReadingLemmas
+pub mod StepLemmas
+pub mod VoteLemmas
+pub mod WalkLemmas

@@ -1,0 +1,318 @@
+-- The best steps, from the last word to the first.
+-- Serves `steps` and `gaps`.
+use Rattle.std.proofs.Common.{◌≡◌, ℕ, zero, suc, ◌+◌, ◌-◌, ◌*◌, ◌^◌, ◌<◌, ◌≤◌, Bool, true, false, cond, List, [], ◌∷◌, ◌++◌, map, length, take, drop, set, get_or}
+use Rattle.std.proofs.Common.{refl, sym, ap, subst, ◌∙◌, arith, inl, inr}
+use Rattle.std.specs.List.{concat}
+use Rattle.std.proofs.lemmas.Bool.{cases_lt, cases_eq}
+use Rattle.std.proofs.lemmas.List.{length-drop, length-take-le, length-set, get_or-set_same, get_or-set_other, append-nil}
+use Rattle.std.proofs.lemmas.List.{length-replicate, get_or-replicate}
+use Rattle.std.specs.Prelude.{replicate}
+use Rattle.sqz_object.specs.Chunk.{IsChunk}
+use Rattle.sqz_object.specs.Reading.{BeginsWith}
+use Rattle.sqz_object.specs.declared.chunk.Chunk.{Chunk as Header}
+use Rattle.sqz_object.proofs.ChunkLemmas.{chunk_prefix_unique, length-chunk}
+use Rattle.sqz_damage.specs.declared.step.Step.{Step}
+use Rattle.sqz_damage.specs.declared.step.WayOn.{WayOn}
+use Rattle.sqz_damage.specs.Votes.{sum_from}
+use Rattle.sqz_damage.specs.Readings.{Part, Chunk, Skipped, part_words, IsPart, IsReading, part_cost, skip_cost, cost_from}
+use Rattle.sqz_damage.specs.Steps.{step_at, cost_at, no_step, part_of, IsLeast, IsStep, AreSteps, IsWayOn}
+use Rattle.sqz_damage.proofs.VoteLemmas.{sum_from-more}
+use Rattle.sqz_damage.proofs.ReadingLemmas.{front_is, IsReading-rest, front-le, no_parts}
+
+module _ (votes : ℕ → ℕ) (words : List ℕ) where
+  -- ---- skipped words
+
+  -- it costs as much to skip words as to skip the first one and then the others
+  pub skip_cost-more : (p end : ℕ) → p < end
+      → skip_cost votes p (end - p) ≡ votes p * 2 ^ 30 + 1 + skip_cost votes (suc p) (end - suc p)
+  skip_cost-more p end lt = omega (arith, sum_from-more votes p end lt)
+
+  pub skip_cost-none : (p : ℕ) → skip_cost votes p (p - p) ≡ 0
+  skip_cost-none p = let none : p - p ≡ 0 = omega arith in rw none refl
+
+  -- ---- a bound on all readings
+
+  -- no reading from `p` on is below a bound that is below all chunks there, and all gaps
+  pub IsLeast-at : (onward : ℕ → ℕ) (p least : ℕ) → p < length words
+      → ((q : ℕ) → p < q → q ≤ length words → IsLeast votes words q (onward q))
+      → ((chunk : List ℕ) → IsChunk chunk → take (length chunk) (drop p words) ≡ chunk → p + length chunk ≤ length words
+      → least ≤ part_cost votes p (Chunk chunk) + onward (p + length chunk))
+      → ((end : ℕ) → p < end → end ≤ length words → least ≤ 16 * 2 ^ 30 + skip_cost votes p (end - p) + onward end)
+      → IsLeast votes words p least
+  IsLeast-at onward p least lt later read skipped [] reading = absurd (no_parts words p lt reading)
+  IsLeast-at onward p least lt later read skipped (Chunk chunk ∷ parts) reading =
+      let inside = front-le words p (Chunk chunk) parts reading (omega arith) in
+      let some = length-chunk chunk reading.each.0 in
+      omega (
+        arith,
+        read chunk reading.each.0 (front_is words p (Chunk chunk) parts reading) inside,
+        later (p + length chunk) (omega arith) inside parts (IsReading-rest words p (Chunk chunk) parts reading),
+      )
+  IsLeast-at onward p least lt later read skipped (Skipped run ∷ parts) reading =
+      let inside = front-le words p (Skipped run) parts reading (omega arith) in
+      let some = reading.each.0 in
+      let size : p + length run - p ≡ length run = omega arith in
+      let bound = rw size at (skipped (p + length run) (omega arith) inside) in
+      omega (
+        arith,
+        bound,
+        later (p + length run) (omega arith) inside parts (IsReading-rest words p (Skipped run) parts reading),
+      )
+
+  -- all words in one gap are a reading
+  one_gap : (p : ℕ) → p < length words → IsReading (drop p words) (Skipped (drop p words) ∷ [])
+  one_gap p lt =
+      record { each = (omega (arith, length-drop p words), tt); whole = append-nil (drop p words) }
+
+  -- so a best one costs no more
+  IsLeast-le : (p least : ℕ) → p < length words → IsLeast votes words p least
+      → least ≤ 16 * 2 ^ 30 + skip_cost votes p (length words - p)
+  IsLeast-le p least lt is =
+      let bound = rw (length-drop p words) at (is (Skipped (drop p words) ∷ []) (one_gap p lt)) in
+      omega (arith, bound)
+
+  module _ (p : ℕ) (steps : List Step) (are : AreSteps votes words p steps) where
+    -- the cost of each step is that of a best reading
+    pub least_from : (q : ℕ) → p ≤ q → q ≤ length words → IsLeast votes words q (cost_at steps q)
+    least_from q low high parts reading =
+        elim (cases_lt q (length words)) [
+          | inl lt ↦ (are.each q low lt).least parts reading
+          | inr ge ↦
+              let end : q ≡ length words = omega arith in
+              let none : cost_at steps q ≡ 0 = ap (cost_at steps) end ∙ are.last in
+              omega (arith, none)
+        ]
+
+    -- it is bounded
+    pub cost_at-le : (q : ℕ) → p ≤ q → q ≤ length words
+        → cost_at steps q ≤ 16 * 2 ^ 30 + skip_cost votes q (length words - q)
+    cost_at-le q low high =
+        elim (cases_lt q (length words)) [
+          | inl lt ↦ IsLeast-le q (cost_at steps q) lt (least_from q low high)
+          | inr ge ↦
+              let end : q ≡ length words = omega arith in
+              let none : cost_at steps q ≡ 0 = ap (cost_at steps) end ∙ are.last in
+              omega (arith, none)
+        ]
+
+  -- ---- the best step from a word
+
+  -- a step that reads a chunk
+  abbrev pub reads : ℕ → ℕ → Step
+  reads cost end = record { cost = cost; end = end; is_gap = false }
+
+  -- a step that skips words
+  abbrev pub skips : ℕ → ℕ → Step
+  skips cost end = record { cost = cost; end = end; is_gap = true }
+
+  -- a step whose parts are known
+  pub step_that_reads : (step : Step) (end : ℕ) → step.end ≡ end → step.is_gap ≡ false → step ≡ reads step.cost end
+  step_that_reads step end e g =
+      ap (λ (n : ℕ). record { cost = step.cost; end = n; is_gap = step.is_gap }) e
+      ∙ ap (λ (b : Bool). record { cost = step.cost; end = end; is_gap = b }) g
+
+  module _ (p : ℕ) (lt : p < length words) (steps : List Step) (are : AreSteps votes words (suc p) steps)
+      (skipped : WayOn) (way : IsWayOn votes words (cost_at steps) p (suc p) skipped) where
+    later : (q : ℕ) → p < q → q ≤ length words → IsLeast votes words q (cost_at steps q)
+    later q low high = least_from (suc p) steps are q (omega arith) high
+
+    -- the step into the best gap, if no chunk costs less
+    pub IsStep-skips : ((chunk : List ℕ) → IsChunk chunk → take (length chunk) (drop p words) ≡ chunk
+        → p + length chunk ≤ length words
+        → 16 * 2 ^ 30 + skipped.cost ≤ part_cost votes p (Chunk chunk) + cost_at steps (p + length chunk))
+        → IsStep votes words (cost_at steps) p (skips (16 * 2 ^ 30 + skipped.cost) skipped.end)
+    IsStep-skips dear =
+        let ahead = way.late in
+        let inside = way.inside in
+        let size : length (take (skipped.end - p) (drop p words)) ≡ skipped.end - p =
+        length-take-le (skipped.end - p) (drop p words) (omega (arith, length-drop p words)) in
+        record {
+          ahead = omega arith;
+          inside = inside;
+          part = omega (arith, size);
+          cost_is = rw size (omega (arith, way.cost_is));
+          least =
+              IsLeast-at (cost_at steps) p (16 * 2 ^ 30 + skipped.cost) lt later dear
+              (λ end low high. omega (arith, way.least end (omega arith) high));
+        }
+
+    module _ (header : Header) (begins : BeginsWith (drop p words) header) where
+      abbrev here : List ℕ
+      here = take header.length (drop p words)
+
+      size_here : length here ≡ header.length
+      size_here = length-take-le header.length (drop p words) begins.inside
+
+      -- the only chunk at the word
+      same_chunk : (chunk : List ℕ) → IsChunk chunk → take (length chunk) (drop p words) ≡ chunk
+          → p + length chunk ≤ length words → chunk ≡ here
+      same_chunk chunk is_chunk front inside =
+          let same : length chunk ≡ header.length =
+          chunk_prefix_unique (drop p words) (length chunk) header.length (omega (arith, length-drop p words)) begins.inside
+          (subst IsChunk (sym front) is_chunk) (header.kind, begins.is_chunk) in
+          sym front ∙ ap (λ (n : ℕ). take n (drop p words)) same
+
+      -- so what its step costs bounds all
+      cost_of_same : (cost : ℕ) → cost ≡ part_cost votes p (Chunk here) + cost_at steps (p + header.length)
+          → (chunk : List ℕ) → IsChunk chunk → take (length chunk) (drop p words) ≡ chunk → p + length chunk ≤ length words
+          → part_cost votes p (Chunk chunk) + cost_at steps (p + length chunk) ≡ cost
+      cost_of_same cost is chunk is_chunk front inside =
+          let same = same_chunk chunk is_chunk front inside in
+          ap (λ (c : List ℕ). part_cost votes p (Chunk c) + cost_at steps (p + length c)) same
+          ∙ ap (λ (n : ℕ). part_cost votes p (Chunk here) + cost_at steps (p + n)) size_here
+          ∙ sym is
+
+      -- the step over the chunk, if it costs no more than the best gap
+      pub IsStep-reads : (cost : ℕ) → cost ≡ part_cost votes p (Chunk here) + cost_at steps (p + header.length)
+          → cost ≤ 16 * 2 ^ 30 + skipped.cost
+          → IsStep votes words (cost_at steps) p (reads cost (p + header.length))
+      IsStep-reads cost is cheap =
+          let some = length-chunk here (header.kind, begins.is_chunk) in
+          let inside = begins.inside in
+          let size : p + header.length - p ≡ header.length = omega arith in
+          record {
+            ahead = omega (arith, size_here);
+            inside = omega (arith, length-drop p words);
+            part = rw size (header.kind, begins.is_chunk);
+            cost_is = rw size is;
+            least =
+                IsLeast-at (cost_at steps) p cost lt later
+                (λ chunk is_chunk front fits. omega (arith, cost_of_same cost is chunk is_chunk front fits))
+                (λ end low high. omega (arith, way.least end (omega arith) high));
+          }
+
+      -- the step into the best gap, if the chunk costs more
+      pub IsStep-skips_chunk : (cost : ℕ) → cost ≡ part_cost votes p (Chunk here) + cost_at steps (p + header.length)
+          → 16 * 2 ^ 30 + skipped.cost < cost
+          → IsStep votes words (cost_at steps) p (skips (16 * 2 ^ 30 + skipped.cost) skipped.end)
+      IsStep-skips_chunk cost is dear =
+          IsStep-skips
+          (λ chunk is_chunk front fits. omega (arith, cost_of_same cost is chunk is_chunk front fits))
+
+  -- ---- one step more
+
+  -- what a step costs depends on later costs alone
+  IsStep-same : (onward other : ℕ → ℕ) (p : ℕ) (step : Step) → ((q : ℕ) → p < q → other q ≡ onward q)
+      → IsStep votes words onward p step → IsStep votes words other p step
+  IsStep-same onward other p step same is =
+      record {
+        ahead = is.ahead;
+        inside = is.inside;
+        part = is.part;
+        cost_is =
+            is.cost_is ∙ ap (λ (n : ℕ). part_cost votes p (part_of words p step) + n) (sym (same step.end is.ahead));
+        least = is.least;
+      }
+
+  module _ (p : ℕ) (lt : p < length words) (steps : List Step) (are : AreSteps votes words (suc p) steps)
+      (step : Step) where
+    abbrev more : List Step
+    more = set steps p step
+
+    -- later steps stay
+    step_at-later : (q : ℕ) → p < q → step_at more q ≡ step_at steps q
+    step_at-later q low = get_or-set_other steps p q step no_step (λ same. omega arith)
+
+    cost_at-later : (q : ℕ) → p < q → cost_at more q ≡ cost_at steps q
+    cost_at-later q low = ap (λ (s : Step). s.cost) (step_at-later q low)
+
+    step_at-here : step_at more p ≡ step
+    step_at-here = get_or-set_same steps p step no_step (let sized = are.sized in omega arith)
+
+    pub AreSteps-more : IsStep votes words (cost_at steps) p step → AreSteps votes words p more
+    AreSteps-more is =
+        record {
+          sized = length-set steps p step ∙ are.sized;
+          last = cost_at-later (length words) lt ∙ are.last;
+          each = λ q low high.
+              elim (cases_eq q p) [
+                | inl same ↦
+                    rw (same, step_at-here)
+                    (IsStep-same (cost_at steps) (cost_at more) p step cost_at-later is)
+                | inr apart ↦
+                    let above : p < q = omega arith in
+                    rw (step_at-later q above)
+                    (IsStep-same (cost_at steps) (cost_at more) q (step_at steps q) (λ r next. cost_at-later r (omega arith))
+                    (are.each q above high))
+              ];
+        }
+
+    -- ---- the best way on within a gap
+
+    module _ (skipped : WayOn) (way : IsWayOn votes words (cost_at steps) p (suc p) skipped) where
+      -- the gap ends
+      pub IsWayOn-ends : step.cost ≤ skipped.cost
+          → IsWayOn votes words (cost_at more) p p (record { cost = step.cost; end = p })
+      IsWayOn-ends cheap =
+          let here = ap (λ (s : Step). s.cost) step_at-here in
+          record {
+            late = omega arith;
+            inside = omega arith;
+            cost_is = omega (arith, here, skip_cost-none p);
+            least = λ end low high.
+                elim (cases_eq end p) [
+                  | inl same ↦ rw same (omega (arith, here))
+                  | inr apart ↦ omega (arith, way.least end (omega arith) high, cost_at-later end (omega arith))
+                ];
+          }
+
+      -- or goes on
+      pub IsWayOn-goes_on : skipped.cost < step.cost → IsWayOn votes words (cost_at more) p p skipped
+      IsWayOn-goes_on dear =
+          let here = ap (λ (s : Step). s.cost) step_at-here in
+          let late = way.late in
+          record {
+            late = omega arith;
+            inside = way.inside;
+            cost_is = omega (arith, way.cost_is, cost_at-later skipped.end (omega arith));
+            least = λ end low high.
+                elim (cases_eq end p) [
+                  | inl same ↦ rw same (omega (arith, here))
+                  | inr apart ↦ omega (arith, way.least end (omega arith) high, cost_at-later end (omega arith))
+                ];
+          }
+
+  -- a word is skipped
+  pub IsWayOn-skip : (onward : ℕ → ℕ) (p : ℕ) (way skipped : WayOn) → IsWayOn votes words onward (suc p) (suc p) way
+      → skipped.cost ≡ votes p * 2 ^ 30 + 1 + way.cost → skipped.end ≡ way.end
+      → IsWayOn votes words onward p (suc p) skipped
+  IsWayOn-skip onward p way skipped is cost end =
+      let late = is.late in
+      let same = ap onward end in
+      record {
+        late = omega arith;
+        inside = omega (arith, is.inside);
+        cost_is = rw end (omega (arith, cost, is.cost_is, skip_cost-more p way.end (omega arith)));
+        least = λ e low high. omega (arith, cost, is.least e low high, skip_cost-more p e (omega arith));
+      }
+
+  -- at the end, where no step was found yet
+  pub AreSteps-none : (steps : List Step) (end : ℕ)
+      → steps ≡ replicate (length words + 1) (record { cost = 0; end = end; is_gap = false })
+      → AreSteps votes words (length words) steps
+  AreSteps-none steps end are =
+      let none : Step = record { cost = 0; end = end; is_gap = false } in
+      record {
+        sized = ap length are ∙ length-replicate (length words + 1) none;
+        last =
+            ap (λ (ss : List Step). cost_at ss (length words)) are
+            ∙ ap (λ (s : Step). s.cost)
+            (get_or-replicate (length words + 1) (length words) none no_step (omega arith));
+        each = λ q low high. absurd (omega arith);
+      }
+
+  pub IsWayOn-end : (steps : List Step) → AreSteps votes words (length words) steps
+      → IsWayOn votes words (cost_at steps) (length words) (length words) (record { cost = 0; end = length words })
+  IsWayOn-end steps are =
+      record {
+        late = omega arith;
+        inside = omega arith;
+        cost_is = omega (arith, are.last, skip_cost-none (length words));
+        least = λ end low high. omega arith;
+      }
+
+  -- it costs no more than to skip all
+  pub way-le : (steps : List Step) (p q soonest : ℕ) (way : WayOn) → AreSteps votes words q steps
+      → soonest ≤ length words → IsWayOn votes words (cost_at steps) p soonest way
+      → way.cost ≤ skip_cost votes p (length words - p)
+  way-le steps p q soonest way are le is = omega (arith, is.least (length words) le (omega arith), are.last)

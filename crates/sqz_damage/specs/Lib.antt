@@ -1,0 +1,3 @@
+pub mod Votes
+pub mod Readings
+pub mod Steps

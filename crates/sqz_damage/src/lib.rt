@@ -1,0 +1,13 @@
+//! Damaged data words: the best reading of them as chunks and gaps, and the gaps as free chunks.
+#![tactic(auto)]
+
+mod gap;
+mod gaps;
+mod step;
+mod steps;
+#[cfg(test)]
+mod tests;
+mod votes;
+
+pub use gap::Gap;
+pub use gaps::gaps_of;
