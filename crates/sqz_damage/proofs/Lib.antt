@@ -2,3 +2,4 @@ pub mod ReadingLemmas
 pub mod StepLemmas
 pub mod VoteLemmas
 pub mod WalkLemmas
+pub mod FillLemmas

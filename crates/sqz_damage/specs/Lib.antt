@@ -1,3 +1,4 @@
 pub mod Votes
 pub mod Readings
 pub mod Steps
+pub mod Filled
