@@ -1,7 +1,7 @@
 -- Words whose gaps are filled.
 -- Serves `filling` and `laws`.
-use Rattle.std.proofs.Common.{◌≡◌, ℕ, zero, suc, ◌+◌, ◌-◌, ◌*◌, ◌/◌, ◌%◌, ◌^◌, ◌<◌, ◌≤◌, List, [], ◌∷◌, ◌++◌, map, length, take, drop, set, get_or}
-use Rattle.std.proofs.Common.{refl, sym, ap, subst, ◌∙◌, arith}
+use Rattle.std.proofs.Common.{◌≡◌, ℕ, zero, suc, ◌+◌, ◌-◌, ◌*◌, ◌^◌, ◌<◌, ◌≤◌, List, [], ◌∷◌, ◌++◌, map, length, take, drop, set, get_or}
+use Rattle.std.proofs.Common.{refl, sym, ap, ◌∙◌, arith}
 use Rattle.std.specs.List.{concat, AllByRecursion}
 use Rattle.std.proofs.lemmas.List.{take_more, length-append, append_assoc, set-append_left, set-append_right, length-set, drop-drop}
 use borrow.Rule.Slice.PartMut.{put_mid}
@@ -12,7 +12,7 @@ use Rattle.sqz_object.specs.Chunk.{IsChunk}
 use Rattle.sqz_object.specs.Partition.{IsPartition}
 use Rattle.sqz_object.proofs.WordLemmas.{words_of-bytes_of}
 use Rattle.sqz_damage.specs.declared.gap.Gap.{Gap}
-use Rattle.sqz_damage.specs.Readings.{Part, Chunk, Skipped, part_words, IsPart, IsReading, gaps_among, AreBestGaps}
+use Rattle.sqz_damage.specs.Readings.{Part, Chunk, Skipped, part_words, IsPart, gaps_among, AreBestGaps}
 use Rattle.sqz_damage.specs.Filled.{AreGapsIn, free_header, filled, filled_part}
 
 -- ---- a word among bytes

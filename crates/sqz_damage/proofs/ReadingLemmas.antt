@@ -1,14 +1,14 @@
 -- Readings part by part.
 -- Serves `StepLemmas`, `gaps` and `laws`.
-use Rattle.std.proofs.Common.{◌≡◌, ℕ, zero, suc, ◌+◌, ◌-◌, ◌*◌, ◌<◌, ◌≤◌, Bool, true, false, cond, List, [], ◌∷◌, ◌++◌, map, length, take, drop}
-use Rattle.std.proofs.Common.{refl, sym, ap, subst, ◌∙◌, arith}
-use Rattle.std.specs.List.{concat, AllByRecursion}
-use Rattle.std.proofs.lemmas.List.{take_at, drop_at, drop-drop, length-append, length-drop, length-take-le, map_push, append_assoc}
+use Rattle.std.proofs.Common.{◌≡◌, ℕ, ◌+◌, ◌-◌, ◌<◌, ◌≤◌, List, [], ◌∷◌, ◌++◌, map, length, take, drop}
+use Rattle.std.proofs.Common.{refl, sym, ap, ◌∙◌, arith}
+use Rattle.std.specs.List.{concat}
+use Rattle.std.proofs.lemmas.List.{take_at, drop_at, drop-drop, length-append, length-drop, map_push}
 use Rattle.std.proofs.Math.Seq.{take-add}
-use Rattle.sqz_object.specs.Chunk.{IsChunk, IsChunkOf, before, words_before, is_object}
+use Rattle.sqz_object.specs.Chunk.{IsChunkOf, words_before}
 use Rattle.sqz_object.specs.declared.chunk.Kind.{Kind}
 use Rattle.sqz_object.specs.declared.chunk.Kind.TheVariants.{Three, Two, Free, Short}
-use Rattle.sqz_object.proofs.ChunkLemmas.{chunk_has_header, kind_of-three, kind_of-two, kind_of-short}
+use Rattle.sqz_object.proofs.ChunkLemmas.{chunk_has_header}
 use Rattle.sqz_object.proofs.PartitionLemmas.{All-push, concat-push}
 use Rattle.sqz_damage.specs.declared.gap.Gap.{Gap}
 use Rattle.sqz_damage.specs.Votes.{sum_from}

@@ -1,8 +1,7 @@
 -- The best steps, from the last word to the first.
 -- Serves `steps` and `gaps`.
-use Rattle.std.proofs.Common.{◌≡◌, ℕ, zero, suc, ◌+◌, ◌-◌, ◌*◌, ◌^◌, ◌<◌, ◌≤◌, Bool, true, false, cond, List, [], ◌∷◌, ◌++◌, map, length, take, drop, set, get_or}
+use Rattle.std.proofs.Common.{◌≡◌, ℕ, suc, ◌+◌, ◌-◌, ◌*◌, ◌^◌, ◌<◌, ◌≤◌, Bool, true, false, List, [], ◌∷◌, length, take, drop, set}
 use Rattle.std.proofs.Common.{refl, sym, ap, subst, ◌∙◌, arith, inl, inr}
-use Rattle.std.specs.List.{concat}
 use Rattle.std.proofs.lemmas.Bool.{cases_lt, cases_eq}
 use Rattle.std.proofs.lemmas.List.{length-drop, length-take-le, length-set, get_or-set_same, get_or-set_other, append-nil}
 use Rattle.std.proofs.lemmas.List.{length-replicate, get_or-replicate}
@@ -13,8 +12,7 @@ use Rattle.sqz_object.specs.declared.chunk.Chunk.{Chunk as Header}
 use Rattle.sqz_object.proofs.ChunkLemmas.{chunk_prefix_unique, length-chunk}
 use Rattle.sqz_damage.specs.declared.step.Step.{Step}
 use Rattle.sqz_damage.specs.declared.step.WayOn.{WayOn}
-use Rattle.sqz_damage.specs.Votes.{sum_from}
-use Rattle.sqz_damage.specs.Readings.{Part, Chunk, Skipped, part_words, IsPart, IsReading, part_cost, skip_cost, cost_from}
+use Rattle.sqz_damage.specs.Readings.{Chunk, Skipped, IsReading, part_cost, skip_cost}
 use Rattle.sqz_damage.specs.Steps.{step_at, cost_at, no_step, part_of, IsLeast, IsStep, AreSteps, IsWayOn}
 use Rattle.sqz_damage.proofs.VoteLemmas.{sum_from-more}
 use Rattle.sqz_damage.proofs.ReadingLemmas.{front_is, IsReading-rest, front-le, no_parts}

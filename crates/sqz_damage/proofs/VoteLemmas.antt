@@ -1,13 +1,12 @@
 -- Sums of votes.
 -- Serves `votes` and `steps`.
-use Rattle.std.proofs.Common.{◌≡◌, ℕ, zero, suc, ◌+◌, ◌-◌, ◌*◌, ◌<◌, ◌≤◌, ◌⊎◌, Bool, true, false, cond, List, [], ◌∷◌, length}
+use Rattle.std.proofs.Common.{◌≡◌, ℕ, zero, suc, ◌+◌, ◌-◌, ◌*◌, ◌<◌, ◌≤◌, cond, List, [], ◌∷◌, length}
 use Rattle.std.specs.Prelude.{replicate}
-use Rattle.std.proofs.Common.{take, set, slice_index, refl, sym, ap, subst, ◌∙◌, arith, inl, inr, eqb}
-use Rattle.std.proofs.lemmas.Bool.{eqb-true, cases_eq, ne_eqb, eq-eqb}
+use Rattle.std.proofs.Common.{take, set, slice_index, refl, sym, ap, ◌∙◌, arith, inl, inr, eqb}
+use Rattle.std.proofs.lemmas.Bool.{cases_eq, ne_eqb, eq-eqb}
 use Rattle.std.proofs.lemmas.List.Sums.{sum_by-cons}
 use Rattle.std.proofs.lemmas.List.Sums.{count_by_more_yes, count_by_more_no, count_by-le-length}
 use Rattle.std.proofs.lemmas.List.{get_or-set_same, get_or-set_other, length-set, length-take-le, get_or-replicate, length-replicate}
-use Rattle.std.proofs.lemmas.Bool.{cases_lt}
 use Rattle.sqz_damage.specs.Votes.{votes_for, sum_from, AreVotes, AreLaterVotes}
 
 -- a sum in two parts

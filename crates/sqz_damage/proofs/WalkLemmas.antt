@@ -1,13 +1,13 @@
 -- The reading that the best steps make, from the first word to the last.
 -- Serves `gaps`.
-use Rattle.std.proofs.Common.{◌≡◌, ℕ, ◌+◌, ◌-◌, ◌<◌, ◌≤◌, Bool, true, false, List, [], ◌∷◌, ◌++◌, map, length, take, drop}
-use Rattle.std.proofs.Common.{refl, sym, ap, subst, ◌∙◌, arith}
+use Rattle.std.proofs.Common.{◌≡◌, ℕ, ◌+◌, ◌-◌, ◌≤◌, true, false, List, [], ◌∷◌, ◌++◌, map, length, take, drop}
+use Rattle.std.proofs.Common.{refl, ap, subst, ◌∙◌, arith}
 use Rattle.std.specs.List.{concat}
 use Rattle.std.proofs.lemmas.List.{length-take-le, length-drop, take_all, append-nil}
 use Rattle.sqz_damage.specs.declared.gap.Gap.{Gap}
 use Rattle.sqz_damage.specs.declared.step.Step.{Step}
 use Rattle.sqz_damage.specs.Votes.{votes_for}
-use Rattle.sqz_damage.specs.Readings.{Part, Chunk, Skipped, part_words, IsReading, gaps_among, part_cost, cost_from, AreBestGaps}
+use Rattle.sqz_damage.specs.Readings.{Part, part_words, IsReading, gaps_among, part_cost, cost_from, AreBestGaps}
 use Rattle.sqz_damage.specs.Steps.{step_at, cost_at, part_of, IsStep, AreSteps}
 use Rattle.sqz_damage.proofs.ReadingLemmas.{gaps_among-push, cost_from-push, IsReading-push}
 use Rattle.sqz_damage.proofs.StepLemmas.{least_from}

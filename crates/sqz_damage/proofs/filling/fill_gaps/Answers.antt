@@ -1,7 +1,7 @@
-use Rattle.std.proofs.Common.{ℕ, List, ◌+◌, ◌*◌, ◌/◌, length, take, drop, set, get_or, sym, ap, ◌∙◌, arith, take_all}
+use Rattle.std.proofs.Common.{ℕ, List, ◌/◌, length, set, get_or, sym, ap, ◌∙◌}
 use Rattle.sqz_object.specs.Bytes.{words_of}
 use Rattle.sqz_damage.specs.declared.gap.Gap.{Gap}
-use Rattle.sqz_damage.specs.Filled.{filled, free_header}
+use Rattle.sqz_damage.specs.Filled.{free_header}
 use Rattle.sqz_damage.proofs.FillLemmas.{gap_inside, filled-take}
 use Rattle.sqz_damage.proofs.filling.fill_gaps.Goals as goal
 

@@ -1,6 +1,5 @@
-use Rattle.std.proofs.Common.{◌≡◌, ◌<◌, length, subst, sym, ◌∙◌, arith}
+use Rattle.std.proofs.Common.{◌≡◌, ◌<◌, length, sym, arith}
 use Rattle.std.proofs.lemmas.List.{get_or_read}
-use Rattle.sqz_damage.specs.declared.step.Step.{Step}
 use Rattle.sqz_damage.specs.Votes.{votes_for}
 use Rattle.sqz_damage.specs.Steps.{IsStep, step_at, cost_at, no_step}
 use Rattle.sqz_damage.proofs.WalkLemmas.{step_over_chunk, step_over_gap, AreBestGaps-at}

@@ -1,6 +1,5 @@
-use Rattle.std.proofs.Common.{ℕ, ◌-◌, suc, length, drop, subst, sym, arith}
+use Rattle.std.proofs.Common.{◌-◌, suc, length, subst, sym, arith}
 use Rattle.sqz_object.specs.Chunk.{IsChunk}
-use Rattle.sqz_damage.specs.declared.step.Step.{Step}
 use Rattle.sqz_damage.specs.Votes.{votes_for}
 use Rattle.sqz_damage.specs.Steps.{IsStep, cost_at}
 use Rattle.sqz_damage.proofs.VoteLemmas.{sum_from-votes-le}

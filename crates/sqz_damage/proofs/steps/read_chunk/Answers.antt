@@ -1,8 +1,7 @@
-use Rattle.std.proofs.Common.{◌≡◌, ℕ, ◌+◌, ◌-◌, ◌*◌, ◌^◌, ◌<◌, length, take, drop, refl, ap, sym, ◌∙◌, arith}
+use Rattle.std.proofs.Common.{◌≡◌, ◌+◌, ◌-◌, length, take, drop, refl, ap, ◌∙◌, arith}
 use Rattle.std.proofs.lemmas.List.{length-take-le, length-drop}
 use Rattle.sqz_object.proofs.ChunkLemmas.{chunk_not_empty}
 use Rattle.sqz_damage.specs.Votes.{votes_for, sum_from}
-use Rattle.sqz_damage.specs.Steps.{cost_at}
 use Rattle.sqz_damage.proofs.VoteLemmas.{sum_from-votes-le}
 use Rattle.sqz_damage.proofs.StepLemmas.{cost_at-le}
 use Rattle.sqz_damage.proofs.steps.read_chunk.Goals as goal

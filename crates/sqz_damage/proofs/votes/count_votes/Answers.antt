@@ -1,4 +1,4 @@
-use Rattle.std.proofs.Common.{◌≡◌, ◌+◌, ◌<◌, length, slice_index, refl, sym, ◌∙◌, arith}
+use Rattle.std.proofs.Common.{◌<◌, length, refl, sym, ◌∙◌, arith}
 use Rattle.std.proofs.lemmas.List.{get_or_read}
 use Rattle.sqz_damage.proofs.VoteLemmas.{AreVotesOf-none, AreVotes-no, AreVotes-yes, AreVotes-room}
 use Rattle.sqz_damage.proofs.votes.count_votes.Goals as goal

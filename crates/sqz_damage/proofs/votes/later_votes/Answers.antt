@@ -1,4 +1,4 @@
-use Rattle.std.proofs.Common.{◌≡◌, ◌+◌, ◌-◌, ◌*◌, ◌<◌, ◌≤◌, suc, length, slice_index, subst, ap, ◌∙◌, arith}
+use Rattle.std.proofs.Common.{◌≡◌, ◌+◌, ◌-◌, suc, length, slice_index, ap, ◌∙◌, arith}
 use Rattle.std.proofs.lemmas.List.{get_or_read}
 use Rattle.sqz_damage.specs.Votes.{votes_for}
 use Rattle.sqz_damage.proofs.VoteLemmas.{AreAdded, AreAdded-more, next_sum, sum_from-votes-le}
