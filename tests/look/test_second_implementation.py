@@ -1,17 +1,22 @@
 """Checks the second implementation of the inspector's answers, without a program.
 
-Its faults and class histograms are those that the files of images/ state, and what it says that
-objects retain is what a search of all paths finds.
+Its faults and class histograms are those that the files of images/ state, what it says that objects
+retain is what a search of all paths finds, and the gaps that it finds in damaged words are those of
+the best of all readings.
 """
 
+import array
 import random
 import re
+import typing
 import unittest
+from unittest import mock
 
 from tests.harness.json_rows import difference, rows_of
 from tests.harness.worked_images import accepted_images, readable_paths, rejected_images
 from tests.making.random_images import random_files
 from tests.making.seed import SEED
+from tests.reference import damage
 from tests.reference.answers import Answers
 from tests.reference.image import Image
 
@@ -116,3 +121,70 @@ class RetainedTest(unittest.TestCase):
             for numbers in sets:
                 lost = set(live) - answers.reach.reached_without(numbers)
                 self.assertEqual(answers.reach.retained_by(numbers), lost)
+
+
+class Part(typing.NamedTuple):
+    """A part of a reading: its first word and its end, and the base header of an object."""
+
+    first: int
+    end: int
+    base: int | None
+    is_gap: bool
+
+
+class DamageTest(unittest.TestCase):
+    """The gaps of damaged words are those of a reading that no other one undercuts."""
+
+    def test_random_words(self):
+        generator = random.Random(SEED)
+        for gap_votes in (1, 2, damage.GAP_VOTES):
+            for _ in range(500):
+                words = array.array("I", self.random_words(generator))
+                with mock.patch.object(damage, "GAP_VOTES", gap_votes):
+                    with self.subTest(gap_votes=gap_votes, words=words.tolist()):
+                        self.check_words(words)
+
+    def random_words(self, generator):
+        """Up to eight words: addresses, headers of free chunks and of objects, and others."""
+        count = generator.randint(0, 8)
+        kinds = (
+            lambda: 64 + 4 * generator.randrange(count),
+            lambda: 4 * generator.randint(1, 4) + 2,
+            lambda: 4 * generator.randint(1, 4) + 3,
+            lambda: generator.randrange(64),
+        )
+        return [generator.choice(kinds)() for _ in range(count)]
+
+    def check_words(self, words):
+        found = damage.gaps_of(64, words)
+        costs = [(self.cost(words, parts), self.gaps(parts)) for parts in self.readings(words, 0)]
+        best = min(cost for cost, _ in costs)
+        self.assertIn((best, found), costs)
+        mended, at = damage.mended_words(64, words), 0
+        while at < len(mended):
+            at = damage.chunk_at(mended, at)[1]
+
+    def readings(self, words, first):
+        """All readings from a word on."""
+        if first == len(words):
+            yield []
+            return
+        parts = [Part(first, end, None, True) for end in range(first + 1, len(words) + 1)]
+        chunk = damage.chunk_at(words, first)
+        if chunk is not None:
+            base, end = chunk
+            parts.append(Part(first, end, None if words[first] & 3 == damage.FREE else base, False))
+        for part in parts:
+            for others in self.readings(words, part.end):
+                yield [part, *others]
+
+    def cost(self, words, parts):
+        """The contradicted votes of a reading, with those that gaps count as; the skipped words."""
+        bases = {it.base for it in parts}
+        places = [(word - 64) // 4 for word in words if word % 4 == 0]
+        votes = sum(place not in bases for place in places if 0 <= place < len(words))
+        gaps = self.gaps(parts)
+        return votes + damage.GAP_VOTES * len(gaps), sum(it.words for it in gaps)
+
+    def gaps(self, parts):
+        return [damage.Gap(it.first, it.end - it.first) for it in parts if it.is_gap]

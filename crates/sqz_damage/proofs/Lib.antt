@@ -3,3 +3,4 @@ pub mod StepLemmas
 pub mod VoteLemmas
 pub mod WalkLemmas
 pub mod FillLemmas
+pub mod WayLemmas

@@ -1,6 +1,6 @@
 -- Readings part by part.
--- Serves `StepLemmas`, `gaps` and `laws`.
-use Rattle.std.proofs.Common.{◌≡◌, ℕ, ◌+◌, ◌-◌, ◌<◌, ◌≤◌, List, [], ◌∷◌, ◌++◌, map, length, take, drop}
+-- Serves `StepLemmas`, `WayLemmas`, `WalkLemmas` and `steps`.
+use Rattle.std.proofs.Common.{◌≡◌, ℕ, suc, ◌*◌, ◌^◌, ◌+◌, ◌-◌, ◌<◌, ◌≤◌, List, [], ◌∷◌, ◌++◌, map, length, take, drop}
 use Rattle.std.proofs.Common.{refl, sym, ap, ◌∙◌, arith}
 use Rattle.std.specs.List.{concat}
 use Rattle.std.proofs.lemmas.List.{take_at, drop_at, drop-drop, length-append, length-drop, map_push}
@@ -13,8 +13,8 @@ use Rattle.sqz_object.proofs.PartitionLemmas.{All-push, concat-push}
 use Rattle.sqz_damage.specs.declared.gap.Gap.{Gap}
 use Rattle.sqz_damage.specs.Votes.{sum_from}
 use Rattle.sqz_damage.specs.Readings.{Part, Chunk, Skipped, part_words, IsPart, IsReading, gaps_among, kept_votes}
-use Rattle.sqz_damage.specs.Readings.{part_cost, cost_from}
-use Rattle.sqz_damage.proofs.VoteLemmas.{le-sum_from}
+use Rattle.sqz_damage.specs.Readings.{skip_cost, part_cost, cost_from}
+use Rattle.sqz_damage.proofs.VoteLemmas.{le-sum_from, sum_from-more}
 
 -- ---- the votes that a chunk keeps
 
@@ -37,6 +37,16 @@ header_votes-le votes first count kind chunk h is =
     let lt = chunk_has_header kind chunk h in
     let size : first + count - first ≡ count = omega arith in
     rw size at (le-sum_from votes first (first + count) (first + words_before kind) (omega arith) (omega arith))
+
+-- ---- skipped words
+
+-- it costs as much to skip words as to skip the first one and then the others
+pub skip_cost-more : (votes : ℕ → ℕ) (p end : ℕ) → p < end
+    → skip_cost votes p (end - p) ≡ votes p * 2 ^ 30 + 1 + skip_cost votes (suc p) (end - suc p)
+skip_cost-more votes p end lt = omega (arith, sum_from-more votes p end lt)
+
+pub skip_cost-none : (votes : ℕ → ℕ) (p : ℕ) → skip_cost votes p (p - p) ≡ 0
+skip_cost-none votes p = let none : p - p ≡ 0 = omega arith in rw none refl
 
 -- ---- the first part of a reading
 
@@ -68,10 +78,6 @@ pub no_parts : (words : List ℕ) (p : ℕ) → p < length words → IsReading (
 no_parts words p lt reading = omega (arith, ap length reading.whole, length-drop p words)
 
 -- ---- one part more
-
--- the gaps of one part
-pub gap_in : ℕ → Part → List Gap
-gap_in first part = gaps_among first (part ∷ [])
 
 pub gaps_among-push : (first : ℕ) (parts : List Part) (part : Part)
     → gaps_among first (parts ++ part ∷ [])

@@ -1,5 +1,5 @@
 -- Sums of votes.
--- Serves `votes` and `steps`.
+-- Serves `ReadingLemmas`, `votes` and `steps`.
 use Rattle.std.proofs.Common.{◌≡◌, ℕ, zero, suc, ◌+◌, ◌-◌, ◌*◌, ◌<◌, ◌≤◌, cond, List, [], ◌∷◌, length}
 use Rattle.std.specs.Prelude.{replicate}
 use Rattle.std.proofs.Common.{take, set, slice_index, refl, sym, ap, ◌∙◌, arith, inl, inr, eqb}
@@ -7,7 +7,8 @@ use Rattle.std.proofs.lemmas.Bool.{cases_eq, ne_eqb, eq-eqb}
 use Rattle.std.proofs.lemmas.List.Sums.{sum_by-cons}
 use Rattle.std.proofs.lemmas.List.Sums.{count_by_more_yes, count_by_more_no, count_by-le-length}
 use Rattle.std.proofs.lemmas.List.{get_or-set_same, get_or-set_other, length-set, length-take-le, get_or-replicate, length-replicate}
-use Rattle.sqz_damage.specs.Votes.{votes_for, sum_from, AreVotes, AreLaterVotes}
+use Rattle.sqz_damage.specs.Counting.{AreVotes, AreLaterVotes}
+use Rattle.sqz_damage.specs.Votes.{votes_for, sum_from}
 
 -- a sum in two parts
 pub sum_from-add : (f : ℕ → ℕ) (first a b : ℕ)

@@ -1,4 +1,5 @@
 pub mod Votes
 pub mod Readings
-pub mod Steps
 pub mod Filled
+pub mod Counting
+pub mod Steps

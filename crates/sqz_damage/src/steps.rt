@@ -1,11 +1,13 @@
 //! The best reading of the data words from each word on, found in one pass from the end.
 
-ghost use Rattle.std.specs.Prelude.{◌≡◌, ◌+◌, ◌*◌, ◌^◌, ◌<◌, ◌≤◌, false, length, take, drop, suc, IfOk};
+ghost use Rattle.std.specs.Prelude.{◌≡◌, ◌+◌, ◌*◌, ◌^◌, ◌<◌, ◌≤◌, false, suc, length, take, drop};
+ghost use Rattle.std.specs.Prelude.{IfOk};
 ghost use Rattle.sqz_object.specs.Reading.{BeginsWith};
 ghost use Rattle.sqz_damage.specs.Readings.{kept_votes, part_cost};
 ghost use Rattle.sqz_damage.specs.Readings.{Chunk as Read};
 ghost use Rattle.sqz_damage.specs.Steps.{AreSteps, IsStep, IsWayOn, cost_at};
-ghost use Rattle.sqz_damage.specs.Votes.{IsVoted, votes_for, sum_from};
+ghost use Rattle.sqz_damage.specs.Counting.{IsVoted};
+ghost use Rattle.sqz_damage.specs.Votes.{votes_for, sum_from};
 
 use crate::step::{Step, WayOn};
 use crate::votes::VotedWords;

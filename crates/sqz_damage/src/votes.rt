@@ -2,7 +2,8 @@
 
 ghost use Rattle.std.specs.Prelude.{◌≡◌, ◌≢◌, ◌+◌, ◌*◌, ◌-◌, ◌^◌, ◌<◌, ◌≤◌, ℕ, length, slice_index};
 ghost use Rattle.std.specs.Prelude.{IfOk, MatchOption};
-ghost use Rattle.sqz_damage.specs.Votes.{AreVotes, AreLaterVotes, IsVoted, votes_for, sum_from};
+ghost use Rattle.sqz_damage.specs.Counting.{AreVotes, AreLaterVotes, IsVoted};
+ghost use Rattle.sqz_damage.specs.Votes.{votes_for, sum_from};
 
 use sqz_object::{Address, Words};
 use std::alloc::{AllocError, Global};

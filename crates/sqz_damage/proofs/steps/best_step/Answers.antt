@@ -3,7 +3,8 @@ use Rattle.sqz_object.specs.Chunk.{IsChunk}
 use Rattle.sqz_damage.specs.Votes.{votes_for}
 use Rattle.sqz_damage.specs.Steps.{IsStep, cost_at}
 use Rattle.sqz_damage.proofs.VoteLemmas.{sum_from-votes-le}
-use Rattle.sqz_damage.proofs.StepLemmas.{way-le, IsStep-skips, IsStep-reads, IsStep-skips_chunk, step_that_reads}
+use Rattle.sqz_damage.proofs.StepLemmas.{IsStep-skips, IsStep-reads, IsStep-skips_chunk, step_that_reads}
+use Rattle.sqz_damage.proofs.WayLemmas.{way-le}
 use Rattle.sqz_damage.proofs.steps.best_step.Goals as goal
 
 pub overflow_add-gap : goal.overflow_add-gap

@@ -5,8 +5,7 @@ use Rattle.sqz_damage.specs.declared.step.Step.{Step}
 use Rattle.sqz_damage.specs.Votes.{votes_for}
 use Rattle.sqz_damage.specs.Steps.{AreSteps, IsStep, IsWayOn, cost_at}
 use Rattle.sqz_damage.proofs.VoteLemmas.{sum_from-votes-le}
-use Rattle.sqz_damage.proofs.StepLemmas.{AreSteps-none, IsWayOn-end, IsWayOn-skip, way-le}
-use Rattle.sqz_damage.proofs.StepLemmas.{AreSteps-more, IsWayOn-ends, IsWayOn-goes_on}
+use Rattle.sqz_damage.proofs.WayLemmas.{AreSteps-none, IsWayOn-end, IsWayOn-skip, way-le, AreSteps-more, IsWayOn-ends, IsWayOn-goes_on}
 use Rattle.sqz_damage.proofs.steps.steps_of.Goals as goal
 use Rattle.sqz_damage.proofs.steps.steps_of.Goals.{After-deref}
 
