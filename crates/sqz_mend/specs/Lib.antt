@@ -1,0 +1,3 @@
+pub mod Damaged
+pub mod Mended
+pub mod Recovery

@@ -1,0 +1,104 @@
+//! What a damaged file still holds.
+
+ghost use Rattle.std.specs.Prelude.{◌≡◌, IfOk, IfErr};
+ghost use Rattle.sqz_mend.specs.Recovery.{IsMendedFile, IsRecovered, StopsMending, StopsRecovery};
+ghost use Rattle.sqz_mend.specs.declared.recovery.RecoverError.TheVariants.{OutOfMemory};
+
+use crate::damage::{Damage, damage_of};
+use crate::mending::mended;
+use sqz_image::{Header, Image, UnreadFile, image_or_file};
+use std::alloc::{AllocError, Global};
+
+/// A file that was mended.
+#[derive(Drop)]
+pub struct MendedFile {
+    /// The bytes of the file, with a free chunk in place of each gap.
+    pub bytes: Vec<u8>,
+    /// The header of the file as it was.
+    pub header: Header,
+    /// What of the data cannot be read.
+    pub damage: Damage,
+}
+
+/// What a damaged file still holds.
+#[derive(Drop)]
+pub struct Recovered {
+    /// The image, with a free chunk in place of each gap.
+    pub image: Image,
+    /// The header of the file.
+    pub header: Header,
+    /// What of the data cannot be read.
+    pub damage: Damage,
+}
+
+/// Why nothing was recovered of a file.
+#[derive(Drop)]
+pub enum RecoverError {
+    OutOfMemory,
+    /// The file has no sound header, or no special objects array was found past the damage.
+    NoImage(UnreadFile),
+}
+
+impl From<AllocError> for RecoverError {
+    ghost from_gives = { λ _ error. error ≡ OutOfMemory };
+
+    fn from(_error: AllocError) -> RecoverError {
+        RecoverError::OutOfMemory
+    }
+}
+
+/// Mends a file: each gap of the reading of its data words that contradicts the fewest pointers
+/// becomes a free chunk, and the header states the size of the data that are there. The first word
+/// of each gap and the size are written anew, and all other bytes stay. A file without damage stays
+/// as it is.
+///
+/// Fails with the fault of the header if it has one (`TooShort`, `BadVersion`, `BadHeaderSize`,
+/// `BadDataSize`, `BadBase`). Otherwise fails only if out of memory.
+pub fn mend_file(alloc: Global, file: Vec<u8>) -> Result<MendedFile, RecoverError>
+    ensures mended { IfOk result (IsMendedFile file.items) }
+    ensures stopped { IfErr result (StopsMending file.items) }
+{
+    let header = match Header::of(&file) {
+        Ok(header) => header,
+        Err(fault) => {
+            return Err(RecoverError::NoImage(UnreadFile {
+                fault,
+                header: None,
+                bytes: file,
+            }));
+        }
+    };
+    if let Some(fault) = header.words_fault() {
+        return Err(RecoverError::NoImage(UnreadFile {
+            fault,
+            header: Some(header),
+            bytes: file,
+        }));
+    }
+    let damage = damage_of(alloc, &file, &header)?;
+    let bytes = mended(file, &header, &damage);
+    Ok(MendedFile {
+        bytes,
+        header,
+        damage,
+    })
+}
+
+/// Returns what a file holds besides its damage: the image of the file as `mend_file` mends it.
+///
+/// Fails as `mend_file` does, and with `BadSpecialObjects` if the special objects array cannot be
+/// read.
+pub fn recover(alloc: Global, file: Vec<u8>) -> Result<Recovered, RecoverError>
+    ensures recovered { IfOk result (IsRecovered file.items) }
+    ensures stopped { IfErr result (StopsRecovery file.items) }
+{
+    let mended = mend_file(alloc, file)?;
+    match image_or_file(alloc, mended.bytes) {
+        Ok(image) => Ok(Recovered {
+            image,
+            header: mended.header,
+            damage: mended.damage,
+        }),
+        Err(unread) => Err(RecoverError::NoImage(unread)),
+    }
+}
