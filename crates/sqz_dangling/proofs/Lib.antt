@@ -1,0 +1,3 @@
+pub mod PatchLemmas
+pub mod PushLemmas
+pub mod NilLemmas

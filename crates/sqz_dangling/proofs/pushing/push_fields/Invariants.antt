@@ -1,0 +1,10 @@
+use Rattle.sqz_image.specs.Objects.{object_at, chunk_words}
+use Rattle.sqz_trace.specs.Slots.{field_slots}
+use Rattle.sqz_dangling.specs.Dangling.{dangling_among}
+use Rattle.sqz_dangling.specs.Pushed.{ArePushed}
+use Rattle.sqz_dangling.proofs.pushing.push_fields.Given as goal
+
+abbrev pub invariant-loop-index : goal.invariant-loop-index
+invariant-loop-index l =
+    ArePushed l.nil (object_at l.heap l.object) (dangling_among l.heap (chunk_words l.heap l.object) (field_slots 0 l.index))
+    l.initial.patches.items l.patches.items

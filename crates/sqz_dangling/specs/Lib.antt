@@ -1,0 +1,3 @@
+pub mod Dangling
+pub mod Patches
+pub mod Pushed

@@ -1,0 +1,89 @@
+-- The data words that are written anew so that no pointer of a live object leads nowhere.
+use Rattle.std.specs.Prelude.{◌≡◌, ℕ, ◌+◌, ◌-◌, ◌%◌, ◌<◌, Bool, true, false, if◌then◌else◌, List, [], ◌∷◌, map, length}
+use Rattle.std.specs.Prelude.{slice_index, slice_set, None, MatchOption, IfSome, Contains}
+use Rattle.std.specs.List.{flat_map, range_with_len}
+use Rattle.sqz_object.specs.Chunk.{before}
+use Rattle.sqz_image.specs.declared.slot.Slot.{Slot}
+use Rattle.sqz_image.specs.declared.slot.Slot.TheVariants.{ClassWord, Field}
+use Rattle.sqz_image.specs.Objects.{Memory, Object, object_count, object_at, chunk_words, find}
+use Rattle.sqz_trace.specs.Graph.{is_marked}
+use Rattle.sqz_damage.specs.Filled.{free_header}
+use Rattle.sqz_dangling.specs.declared.patch.Patch.{Patch}
+use Rattle.sqz_dangling.specs.declared.nil_error.NilError.{NilError}
+use Rattle.sqz_dangling.specs.declared.nil_error.NilError.TheVariants.{OutOfMemory, NoNil, NoSpecialObjects}
+use Rattle.sqz_dangling.specs.Dangling.{is_untraceable, dangling_slots, nil_address}
+
+-- the index of a slot's word among the words of a chunk
+abbrev pub slot_index : List ℕ → Slot → ℕ
+slot_index chunk ClassWord = before chunk - 1
+slot_index chunk (Field index) = before chunk + 1 + index
+
+-- the word of a slot that points to nil; a class word keeps its header type, the low two bits
+abbrev pub nil_word : ℕ → List ℕ → Slot → ℕ
+nil_word nil chunk ClassWord = nil + slice_index chunk (slot_index chunk ClassWord) % 4
+nil_word nil chunk (Field index) = nil
+
+-- the slot of an object becomes a pointer to nil
+abbrev pub slot_patch : ℕ → Object → Slot → Patch
+slot_patch nil object slot =
+    record { word = object.first + slot_index object.chunk slot; value = nil_word nil object.chunk slot }
+
+-- the chunk of an object becomes a free chunk
+abbrev pub free_patch : Object → Patch
+free_patch object = record { word = object.first; value = free_header (length object.chunk) }
+
+-- the patches of an object: an object that cannot be traced becomes a free chunk, and in any other
+-- one each slot that dangles points to nil. `nil` is the address of nil
+abbrev pub patches_of : Memory → ℕ → Object → List Patch
+patches_of memory nil object =
+    if is_untraceable object.chunk then free_patch object ∷ []
+    else map (slot_patch nil object) (dangling_slots memory object.chunk)
+
+-- the patches of the object with an index, if it is marked
+abbrev pub patches_at : Memory → List Bool → ℕ → ℕ → List Patch
+patches_at memory marks nil index = if is_marked marks index then patches_of memory nil (object_at memory index) else []
+
+-- the patches of all marked objects, by object
+abbrev pub patches_for : Memory → List Bool → ℕ → List Patch
+patches_for memory marks nil = flat_map (patches_at memory marks nil) (range_with_len 0 (object_count memory))
+
+-- the slots of an object that dangle, unless it cannot be traced
+abbrev pub dangling_of : Memory → List ℕ → List Slot
+dangling_of memory chunk = if is_untraceable chunk then [] else dangling_slots memory chunk
+
+-- no slot of a marked object dangles
+abbrev pub NothingDangles : Memory → List Bool → Type 0
+NothingDangles memory marks =
+    (index : ℕ) → index < object_count memory → is_marked marks index ≡ true
+    → dangling_of memory (chunk_words memory index) ≡ []
+
+-- a slot of a marked object dangles
+pub record SomethingDangles (memory : Memory) (marks : List Bool) : Type 0 where
+  pub index : ℕ
+  pub inside : index < object_count memory
+  pub marked : is_marked marks index ≡ true
+  pub slot : Slot
+  pub dangles : Contains (dangling_of memory (chunk_words memory index)) slot
+
+-- the special objects array can be traced, or not
+abbrev pub special_is_untraceable : Memory → Bool → Type 0
+special_is_untraceable memory answer = IfSome (find memory memory.special) (λ index. is_untraceable (chunk_words memory index) ≡ answer)
+
+-- the patches of the marked objects. There is a nil that slots can point to, or no slot dangles
+pub record AreNilPatches (memory : Memory) (marks : List Bool) (patches : List Patch) : Type 0 where
+  pub special : special_is_untraceable memory false
+  pub nil : ℕ
+  pub is_nil : MatchOption (nil_address memory) (NothingDangles memory marks) (λ address. nil ≡ address)
+  pub exact : patches ≡ patches_for memory marks nil
+
+-- why there are no such patches: a slot dangles and there is no nil, or the special objects array
+-- cannot be traced
+abbrev pub IsNilError : Memory → List Bool → NilError → Type 0
+IsNilError memory marks OutOfMemory = Unit {0}
+IsNilError memory marks NoNil = (nil_address memory ≡ None) × SomethingDangles memory marks
+IsNilError memory marks NoSpecialObjects = special_is_untraceable memory true
+
+-- the words with each patch written
+abbrev pub patched : List ℕ → List Patch → List ℕ
+patched words [] = words
+patched words (patch ∷ patches) = patched (slice_set words patch.word patch.value) patches

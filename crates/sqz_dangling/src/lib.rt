@@ -1,0 +1,18 @@
+//! Pointers of live objects that lead nowhere: the data words that have to be written anew so that
+//! they point to nil, and writing them.
+#![tactic(auto)]
+
+mod dangling;
+mod nil_error;
+mod patch;
+mod patches;
+mod pushing;
+#[cfg(test)]
+mod tests;
+mod untraceable;
+mod writing;
+
+pub use nil_error::NilError;
+pub use patch::Patch;
+pub use patches::nil_patches;
+pub use writing::write_patches;
