@@ -1,0 +1,15 @@
+//! What a virtual machine would trip over in an image that the format allows.
+#![tactic(auto)]
+
+mod associations;
+mod class_shape;
+mod sets;
+mod shapes;
+#[cfg(test)]
+mod tests;
+mod warning;
+mod warnings;
+
+pub use class_shape::ClassShape;
+pub use warning::Warning;
+pub use warnings::warnings_of;

@@ -1,0 +1,27 @@
+//! What a virtual machine would trip over.
+
+use crate::class_shape::ClassShape;
+use sqz_object::ObjectIndex;
+
+/// What a virtual machine would trip over in an image that the format allows.
+#[derive(Clone, Copy, Debug, PartialEq, Eq)]
+pub enum Warning {
+    /// An object is not as its class states: it has another format, another number of fields, or
+    /// another compact class index.
+    Shape {
+        /// The object.
+        object: ObjectIndex,
+        /// What its class states.
+        stated: ClassShape,
+    },
+    /// A method dictionary whose array of methods is shorter than its keys are many.
+    MethodDictionary {
+        /// The method dictionary.
+        object: ObjectIndex,
+    },
+    /// An association of a global or class variable whose key is nil.
+    NoKey {
+        /// The association.
+        object: ObjectIndex,
+    },
+}
