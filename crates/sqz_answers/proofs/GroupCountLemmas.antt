@@ -30,7 +30,7 @@ use Rattle.sqz_answers.specs.GroupCounts.{AreCountsByKey, AreTallies, count_at, 
 -- ---- numbers, and lists
 
 -- keys that the map takes for the same are the same
-exact : (x y : ℕ) → eq_by_cmp nat_cmp x y ≡ true → x ≡ y
+pub exact : (x y : ℕ) → eq_by_cmp nat_cmp x y ≡ true → x ≡ y
 exact x y e =
     by_ranked (x < y) (x ≡ y) (y < x) (nat_cmp x y) (ranked x y (nat_cmp x y) refl)
     (λ less lt. absurd (true≢false (sym (rw less at e))))

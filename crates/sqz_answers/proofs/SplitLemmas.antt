@@ -126,7 +126,7 @@ module _ (tree : DominatorTree) (children : List Child) (are : AreChildren tree 
       rw (get_or_default children i d no_child low, get_or_default children j d no_child inside)
       (differ _ _ (are.each i low) (are.each j inside) (are.ordered i j lt inside))
 
-  kids_apart : (part : ℕ) → AllPairs (λ one other. one ≢ other) (kids children part)
+  pub kids_apart : (part : ℕ) → AllPairs (λ one other. one ≢ other) (kids children part)
   kids_apart part i j d lt inside =
       let under = children_under part children in
       let long = length-map under (λ (child : Child). child.object) in

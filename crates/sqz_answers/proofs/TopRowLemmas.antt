@@ -35,7 +35,7 @@ use Rattle.sqz_answers.proofs.SplitLemmas.{child_inside}
 -- ---- sizes
 
 -- marked elements have no more than all
-marked-le : {X : Type 0} (f : X → ℕ) (marks : List Bool) (xs : List X) → sum_by f (marked marks xs) ≤ sum_by f xs
+pub marked-le : {X : Type 0} (f : X → ℕ) (marks : List Bool) (xs : List X) → sum_by f (marked marks xs) ≤ sum_by f xs
 marked-le f [] xs = omega arith
 marked-le f (true ∷ marks) [] = omega arith
 marked-le f (false ∷ marks) [] = omega arith

@@ -1,6 +1,7 @@
 //! The level below a row.
 
-ghost use Rattle.std.specs.Prelude.{◌≡◌, ◌<◌, ◌≤◌, ◌^◌, ◌*◌, ◌++◌, All, IfOk, OnOk, length, not, sum_by};
+ghost use Rattle.std.specs.Prelude.{◌≡◌, ◌<◌, ◌≤◌, ◌^◌, ◌*◌, ◌++◌, All, IfOk, OnOk};
+ghost use Rattle.std.specs.Prelude.{length, not, sum_by};
 ghost use Rattle.std.specs.List.{filter};
 ghost use Rattle.sqz_image.specs.Objects.{object_count, chunk_words};
 ghost use Rattle.sqz_dominators.specs.Children.{retained_bytes};
@@ -111,7 +112,7 @@ impl TopTree<'_> {
 }
 
 /// Returns the bytes of the chunks of objects, header words included.
-fn own_bytes(heap: &Heap, objects: &[ObjectIndex]) -> u64
+pub(crate) fn own_bytes(heap: &Heap, objects: &[ObjectIndex]) -> u64
     requires few { length objects.now ≤ 2 ^ 30 }
     requires inside { All (λ object. object < object_count heap.now) objects.now }
     ensures { result ≡ 4 * sum_by (λ object. length (chunk_words heap.now object)) objects.now }

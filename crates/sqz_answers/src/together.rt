@@ -4,7 +4,7 @@ ghost use Rattle.std.specs.Prelude.{◌≡◌, IfOk};
 ghost use Rattle.sqz_answers.specs.Outermost.{IsGroupedTree};
 ghost use Rattle.sqz_answers.specs.Together.{AreRetainedByGroups, AreRetainedByKeys};
 
-use crate::group_keys::{COMPACT_INDEXES, group_keys};
+use crate::group_keys::{COMPACT_INDEXES, class_keys};
 use crate::outermost::GroupedTree;
 use sqz_dominators::{children_of, dominators_of};
 use sqz_image::laws::heap_bounds;
@@ -23,7 +23,7 @@ pub(crate) fn retained_by_groups(
     heap_bounds(graph.heap); // fewer than 2^30 objects and words
     let dominators = dominators_of(alloc, graph)?;
     let children = children_of(alloc, &dominators)?;
-    let keys = group_keys(alloc, graph)?;
+    let keys = class_keys(alloc, graph)?;
     let tree = GroupedTree {
         graph,
         dominators: &dominators,

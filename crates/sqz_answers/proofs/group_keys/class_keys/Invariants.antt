@@ -3,7 +3,7 @@ use Rattle.std.specs.Prelude.{slice_index}
 use Rattle.sqz_image.specs.Objects.{object_count, chunk_words}
 use Rattle.sqz_histogram.specs.Groups.{group_of}
 use Rattle.sqz_histogram.specs.Keys.{key_of, key_count}
-use Rattle.sqz_answers.proofs.group_keys.group_keys.Given as goal
+use Rattle.sqz_answers.proofs.group_keys.class_keys.Given as goal
 
 abbrev pub invariant-loop-object : goal.invariant-loop-object
 invariant-loop-object l =

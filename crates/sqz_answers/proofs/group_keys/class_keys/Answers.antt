@@ -6,7 +6,7 @@ use Rattle.sqz_image.specs.Objects.{object_count, chunk_words}
 use Rattle.sqz_histogram.specs.Groups.{group_of}
 use Rattle.sqz_histogram.specs.Keys.{key_of, key_count}
 use Rattle.sqz_histogram.proofs.GroupLemmas.{group_of-inside, key_of-lt}
-use Rattle.sqz_answers.proofs.group_keys.group_keys.Goals as goal
+use Rattle.sqz_answers.proofs.group_keys.class_keys.Goals as goal
 
 pub key_of-requires-clause-inside : goal.key_of-requires-clause-inside
 key_of-requires-clause-inside c =
