@@ -59,24 +59,29 @@ HasFirst-more old new argument s i d inside added is has =
     (sym (map-take_more argument_rule s.arguments i d inside)) (HasShape-arg old new argument _ _ added is has)
 
 -- all of them, and then the options of each subcommand
-pub HasShape-whole : (old one two three : Command) (weak human json : Arg) (s : Listed) (i : ℕ) → length s.arguments ≤ i → HasFirst s i old
+pub HasShape-whole : (old one two three four : Command) (weak human json damage : Arg) (s : Listed) (i : ℕ)
+    → length s.arguments ≤ i → HasFirst s i old
     → AddsArg old weak one → HasRule (flag_option (codes "clear-weak")) weak
     → AddsArg one human two → HasRule (flag_option (codes "human")) human
-    → AddsArg two json three → HasRule (flag_option (codes "json")) json → HasShape (shape_of_listed s) three
-HasShape-whole old one two three weak human json s i all is added_weak has_weak added_human has_human added_json has_json =
+    → AddsArg two json three → HasRule (flag_option (codes "json")) json
+    → AddsArg three damage four → HasRule (flag_option (codes "past-damage")) damage → HasShape (shape_of_listed s) four
+HasShape-whole old one two three four weak human json damage s i all is added_weak has_weak added_human has_human added_json has_json added_damage has_damage =
     let own = map argument_rule s.arguments in
-    let first = flag_option (codes "clear-weak") ∷ [] in
-    let second = flag_option (codes "human") ∷ [] in
-    let third = flag_option (codes "json") ∷ [] in
+    let first = flag_option (codes "clear-weak") in
+    let second = flag_option (codes "human") in
+    let third = flag_option (codes "json") in
+    let fourth = flag_option (codes "past-damage") in
     let start = subst (λ (xs : List Argument). HasShape (record (new_shape s.word) { rules = map argument_rule xs }) old)
     (take_all i s.arguments all) is in
-    let same : ((own ++ first) ++ second) ++ third ≡ own ++ flag_option (codes "clear-weak") ∷ flag_option (codes "human") ∷ third =
-    ap (λ (rules : List Rule). rules ++ third) (append_assoc own first second)
-    ∙ append_assoc own (flag_option (codes "clear-weak") ∷ second) third
+    let same : (((own ++ first ∷ []) ++ second ∷ []) ++ third ∷ []) ++ fourth ∷ [] ≡ own ++ first ∷ second ∷ third ∷ fourth ∷ [] =
+    append_assoc ((own ++ first ∷ []) ++ second ∷ []) (third ∷ []) (fourth ∷ [])
+    ∙ append_assoc (own ++ first ∷ []) (second ∷ []) (third ∷ fourth ∷ [])
+    ∙ append_assoc own (first ∷ []) (second ∷ third ∷ fourth ∷ [])
     in
-    subst (λ (rules : List Rule). HasShape (record (new_shape s.word) { rules = rules }) three) same
+    subst (λ (rules : List Rule). HasShape (record (new_shape s.word) { rules = rules }) four) same
+    (HasShape-arg three four damage _ _ added_damage
     (HasShape-arg two three json _ _ added_json
-    (HasShape-arg one two human _ _ added_human (HasShape-arg old one weak _ _ added_weak start has_weak) has_human) has_json)
+    (HasShape-arg one two human _ _ added_human (HasShape-arg old one weak _ _ added_weak start has_weak) has_human) has_json) has_damage)
 
 -- the program with the first of some subcommands
 abbrev pub line_of_first : List Subcommand → ℕ → App

@@ -1,6 +1,6 @@
 -- What is read of the matches of a subcommand.
 -- Serves the functions of `requests`.
-use Rattle.std.proofs.Common.{◌≡◌, ◌∙◌, Bool, true, false, List, [], Option, Some, None, codes, is_some, refl, sym, ap}
+use Rattle.std.proofs.Common.{◌≡◌, ◌∙◌, ◌||◌, Bool, true, false, List, [], Option, Some, None, codes, is_some, refl, sym, ap}
 use Rattle.std.specs.Prelude.{Box, bytes_eq, map, option_and_then, option_map, slice_get, unwrap_or}
 use Rattle.std.specs.Borrow.{Bor}
 use Rattle.std.specs.Box.{box_value}
@@ -18,9 +18,12 @@ use Rattle.clap.specs.declared.parser.matches.MatchedArg.{MatchedArg}
 use Rattle.clap.specs.declared.parser.matches.SubCommand.{SubCommand}
 use Rattle.clap.proofs.WalkLemmas.{one_text-rows, raw_values-rows}
 use Rattle.sqz_look_args.specs.declared.commands.Name.{Name}
-use Rattle.sqz_look_args.specs.declared.commands.Name.TheVariants.{Check}
+use Rattle.sqz_look_args.specs.declared.commands.Name.TheVariants as names
+use Rattle.sqz_look_args.specs.declared.requests.Question.{Question}
+use Rattle.sqz_look_args.specs.declared.requests.Question.TheVariants.{Check, Mend, Each, Diff, About}
+use Rattle.sqz_look_args.specs.Mends.{is_mend}
 use Rattle.sqz_look_args.specs.CommandLine.{name_of}
-use Rattle.sqz_look_args.specs.Requests.{given, has_flag}
+use Rattle.sqz_look_args.specs.Requests.{IsCheckOf, given, has_flag}
 
 pub is_some-option_map : {X Y : Type 0} (f : X → Y) (o : Option X) → is_some (option_map f o) ≡ is_some o
 is_some-option_map f None = refl
@@ -85,7 +88,19 @@ subcommand_name_of-rows m = name_of_entered (out-ArgMatches m).subcommand
 
 -- the word `check` stands for the subcommand of this name
 pub name_is_check : (m : ArgMatches) (rows : List Row) (word : Text) (name : Name)
-    → subcommand_rows_of m ≡ Some (codes "check", rows) → Some word ≡ subcommand_name_of m → Some name ≡ name_of word → name ≡ Check
+    → subcommand_rows_of m ≡ Some (codes "check", rows) → Some word ≡ subcommand_name_of m → Some name ≡ name_of word → name ≡ names.Check
 name_is_check m rows word name asked entered named =
     let is : word ≡ codes "check" = same_Some _ _ (entered ∙ (subcommand_name_of-rows m ∙ ap (option_map (λ p. p.0)) asked)) in
     same_Some _ _ (named ∙ ap name_of is)
+
+-- to check an image is not to mend it
+pub is_mend-check : (rows : List Row) (question : Question) → IsCheckOf rows question → is_mend question ≡ false
+is_mend-check rows (Check images all) is = refl
+is_mend-check rows (Mend image) is = absurd is
+is_mend-check rows (Each images question) is = absurd is
+is_mend-check rows (Diff old new) is = absurd is
+is_mend-check rows (About image question) is = absurd is
+
+pub or-false : (b : Bool) → (b || false) ≡ b
+or-false true = refl
+or-false false = refl

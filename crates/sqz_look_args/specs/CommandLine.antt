@@ -9,11 +9,11 @@ use Rattle.clap.specs.declared.builder.command.Command.{Command}
 use Rattle.clap.specs.declared.builder.command.Command.TheViews.{out-Command as fields_of}
 use Rattle.clap.specs.declared.builder.value_parser.ValueParser.TheVariants as vp
 use Rattle.sqz_look_args.specs.declared.commands.Name.{Name}
-use Rattle.sqz_look_args.specs.declared.commands.Name.TheVariants.{Check, Info, Census, Digest, List as ListName, Show, Why, Refs, Top, Diff}
+use Rattle.sqz_look_args.specs.declared.commands.Name.TheVariants.{Check, Mend, Info, Census, Digest, List as ListName, Show, Why, Refs, Top, Diff}
 use Rattle.sqz_look_args.specs.declared.commands.Subcommand.{Subcommand}
 use Rattle.sqz_look_args.specs.declared.commands.Argument.{Argument}
 use Rattle.sqz_look_args.specs.declared.commands.Argument.TheVariants.{Image, Images, Old, New, Object, Root, Class, AllFaults, All}
-use Rattle.sqz_look_args.specs.declared.commands.Argument.TheVariants.{Dead, Retained, DeadInstances, By, Raw, Depth, Min, Folded, Svg}
+use Rattle.sqz_look_args.specs.declared.commands.Argument.TheVariants.{Dead, Retained, DeadInstances, By, GroupBy, Raw, Depth, Min, Folded, Svg}
 
 -- a required word
 abbrev pub required_word : Text → Rule
@@ -59,6 +59,7 @@ argument_rule Dead = flag_option (codes "dead")
 argument_rule Retained = exclusive_flag (codes "retained")
 argument_rule DeadInstances = flag_option (codes "dead")
 argument_rule By = value_option (codes "by")
+argument_rule GroupBy = value_option (codes "by")
 argument_rule Raw = flag_option (codes "raw")
 argument_rule Depth = number_option (codes "depth") 100
 argument_rule Min = value_option (codes "min")
@@ -78,6 +79,7 @@ listed name word arguments = record { name = name; word = word; arguments = argu
 abbrev pub subcommands : List Listed
 subcommands =
     listed Check (codes "check") (Images ∷ AllFaults ∷ [])
+    ∷ listed Mend (codes "mend") (Image ∷ [])
     ∷ listed Info (codes "info") (Images ∷ [])
     ∷ listed Census (codes "census") (Images ∷ Dead ∷ Retained ∷ All ∷ [])
     ∷ listed Digest (codes "digest") (Images ∷ [])
@@ -85,7 +87,7 @@ subcommands =
     ∷ listed Show (codes "show") (Image ∷ Object ∷ All ∷ [])
     ∷ listed Why (codes "why") (Image ∷ Object ∷ Raw ∷ All ∷ [])
     ∷ listed Refs (codes "refs") (Image ∷ Object ∷ All ∷ [])
-    ∷ listed Top (codes "top") (Image ∷ Root ∷ Depth ∷ Min ∷ Folded ∷ Svg ∷ [])
+    ∷ listed Top (codes "top") (Image ∷ Root ∷ GroupBy ∷ Depth ∷ Min ∷ Folded ∷ Svg ∷ [])
     ∷ listed Diff (codes "diff") (Old ∷ New ∷ All ∷ [])
     ∷ []
 
@@ -93,11 +95,11 @@ subcommands =
 abbrev pub name_of : Text → Option Name
 name_of word = option_map (λ s. s.name) (find (λ s. bytes_eq s.word word) subcommands)
 
--- a subcommand has its own arguments, `--clear-weak`, `--human` and `--json`
+-- a subcommand has its own arguments, `--clear-weak`, `--human`, `--json` and `--past-damage`
 abbrev pub shape_of_listed : Listed → Shape
 shape_of_listed s = record (new_shape s.word) {
   rules = map argument_rule s.arguments ++ flag_option (codes "clear-weak") ∷ flag_option (codes "human")
-      ∷ flag_option (codes "json") ∷ [];
+      ∷ flag_option (codes "json") ∷ flag_option (codes "past-damage") ∷ [];
 }
 
 -- the program without its subcommands: it requires one of them, has no subcommand `help`, prints

@@ -1,14 +1,15 @@
 -- What a command line asks for, by the values that its subcommand has.
-use Rattle.std.specs.Prelude.{◌≡◌, Bool, true, false, List, [], Some, codes, bytes_eq, unwrap_or}
+use Rattle.std.specs.Prelude.{◌≡◌, ◌||◌, Bool, true, false, List, [], Some, codes, bytes_eq, unwrap_or}
 use Rattle.std.specs.Prelude.{IsSome, IsSomeAnd}
 use Rattle.std.specs.Option.{option_map_or}
 use Rattle.clap.specs.Walk.{texts}
 use Rattle.clap.specs.Words.{Row, Text, all_of, one_of, subcommand_name_of, subcommand_of, takes}
 use Rattle.clap.specs.declared.parser.matches.ArgMatches.{ArgMatches}
 use Rattle.sqz_look_args.specs.declared.requests.Question.{Question}
-use Rattle.sqz_look_args.specs.declared.requests.Question.TheVariants.{Check, Each, Diff, About}
+use Rattle.sqz_look_args.specs.declared.requests.Question.TheVariants.{Check, Mend, Each, Diff, About}
 use Rattle.sqz_look_args.specs.declared.requests.Request.{Request}
 use Rattle.sqz_look_args.specs.CommandLine.{look_line, name_of}
+use Rattle.sqz_look_args.specs.Mends.{is_mend}
 
 -- the matches have a subcommand, which is one of the command line's
 abbrev pub HasCommand : ArgMatches → Type 0
@@ -23,16 +24,23 @@ abbrev pub has_flag : Text → List Row → Bool
 has_flag id rows = option_map_or (λ text. bytes_eq text (codes "true")) (one_of id rows) false
 
 -- the question is whether the images at these paths are sound, with all their faults or the first
-abbrev pub IsCheckOf : List Text → Bool → Question → Type 0
-IsCheckOf paths every (Check images all) = (texts images.items ≡ paths) × (all ≡ every)
-IsCheckOf paths every (Each images question) = ⊥
-IsCheckOf paths every (Diff old new) = ⊥
-IsCheckOf paths every (About image question) = ⊥
+abbrev pub IsCheckOf : List Row → Question → Type 0
+IsCheckOf rows (Check images all) =
+    (texts images.items ≡ given (codes "IMAGE") rows) × (all ≡ has_flag (codes "all") rows)
+IsCheckOf rows (Mend image) = ⊥
+IsCheckOf rows (Each images question) = ⊥
+IsCheckOf rows (Diff old new) = ⊥
+IsCheckOf rows (About image question) = ⊥
+
+-- whether images are read past what cannot be read
+abbrev pub looks_past : Request → Bool
+looks_past request = request.past_damage || is_mend request.question
 
 -- the request is what the values of `check` ask for
 pub record AsksSoundness (rows : List Row) (request : Request) : Type 0 where
-  pub question : IsCheckOf (given (codes "IMAGE") rows) (has_flag (codes "all") rows) request.question
+  pub question : IsCheckOf rows request.question
   pub clear_weak : request.clear_weak ≡ has_flag (codes "clear-weak") rows
+  pub past_damage : looks_past request ≡ has_flag (codes "past-damage") rows
   pub json : request.json ≡ has_flag (codes "json") rows
   pub all : request.all ≡ has_flag (codes "all") rows
   pub human : request.human ≡ has_flag (codes "human") rows

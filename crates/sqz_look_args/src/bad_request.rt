@@ -17,6 +17,8 @@ pub enum BadRequest<'a> {
     NoPercentage(&'a str),
     /// The value of `--by` is no order.
     NoOrder(&'a str),
+    /// The value of `--by` is nothing that objects are grouped by.
+    NoGrouping(&'a str),
 }
 
 impl From<AllocError> for BadRequest<'_> {
@@ -36,6 +38,7 @@ impl fmt::Display for BadRequest<'_> {
                 write!(f, "--min takes 0 to 100 percent, as 0.2: {text}")
             }
             BadRequest::NoOrder(text) => write!(f, "--by takes retained or size: {text}"),
+            BadRequest::NoGrouping(text) => write!(f, "--by takes class or category: {text}"),
         }
     }
 }

@@ -16,6 +16,7 @@ use std::alloc::{AllocError, Global};
 #[derive(Clone, Copy, Debug, PartialEq, Eq)]
 pub(crate) enum Name {
     Check,
+    Mend,
     Info,
     Census,
     Digest,
@@ -68,6 +69,7 @@ enum Argument {
     Retained,
     DeadInstances,
     By,
+    GroupBy,
     Raw,
     Depth,
     Min,
@@ -81,6 +83,14 @@ const CHECK: Subcommand = Subcommand {
     about: "Say whether images are sound",
     arguments: &[Argument::Images, Argument::AllFaults],
     example: "Example:\n  sqzlook check old/*.image",
+};
+
+const MEND: Subcommand = Subcommand {
+    name: Name::Mend,
+    word: "mend",
+    about: "Write an image with what cannot be read as free chunks",
+    arguments: &[Argument::Image],
+    example: "Example:\n  sqzlook mend damaged.image > mended.image",
 };
 
 const INFO: Subcommand = Subcommand {
@@ -162,6 +172,7 @@ const TOP: Subcommand = Subcommand {
     arguments: &[
         Argument::Image,
         Argument::Root,
+        Argument::GroupBy,
         Argument::Depth,
         Argument::Min,
         Argument::Folded,
@@ -179,12 +190,12 @@ const DIFF: Subcommand = Subcommand {
 };
 
 /// Returns all subcommands, in the order of the help.
-fn subcommands() -> [Subcommand; 10]
+fn subcommands() -> [Subcommand; 11]
     ensures { map listed_of result ≡ subcommands }
 {
     // no constant, since a contract cannot name one that holds references
     [
-        CHECK, INFO, CENSUS, DIGEST, LIST, SHOW, WHY, REFS, TOP, DIFF,
+        CHECK, MEND, INFO, CENSUS, DIGEST, LIST, SHOW, WHY, REFS, TOP, DIFF,
     ]
 }
 
@@ -222,7 +233,12 @@ fn command_of<'a>(alloc: Global, subcommand: Subcommand) -> Result<Command<'a>, 
             "Treat weak references to objects that nothing else keeps as cleared",
         ))?
         .arg(flag(alloc, "human", "Print numbers of bytes in KB and MB"))?
-        .arg(flag(alloc, "json", "Print lines of JSON"))
+        .arg(flag(alloc, "json", "Print lines of JSON"))?
+        .arg(flag(
+            alloc,
+            "past-damage",
+            "Read what a damaged image still holds, and say what was skipped",
+        ))
 }
 
 /// Returns an argument.
@@ -255,7 +271,16 @@ fn arg_of<'a>(alloc: Global, argument: Argument) -> Result<Arg<'a>, AllocError>
         Argument::Dead => flag(alloc, "dead", "Count the objects that are not live"),
         Argument::Retained => retained(alloc)?,
         Argument::DeadInstances => flag(alloc, "dead", "List the instances that are not live"),
-        Argument::By => by(alloc),
+        Argument::By => by(
+            alloc,
+            "ORDER",
+            "List first those that retain most, or the largest: retained or size",
+        ),
+        Argument::GroupBy => by(
+            alloc,
+            "GROUP",
+            "Group the objects on each level by their class or its category: class or category",
+        ),
         Argument::Raw => flag(alloc, "raw", "Print each step of the path"),
         Argument::Depth => depth(alloc),
         Argument::Min => min(alloc),
@@ -299,14 +324,14 @@ fn min<'a>(alloc: Global) -> Arg<'a>
         .action(ArgAction::Set)
 }
 
-/// Returns the option with the order of a list.
-fn by<'a>(alloc: Global) -> Arg<'a>
+/// Returns the option with the order of a list, or with what objects are grouped by.
+fn by<'a>(alloc: Global, value: &'a str, help: &'a str) -> Arg<'a>
     ensures { HasRule (value_option (codes "by")) result }
 {
     Arg::new(alloc, "by")
         .long("by")
-        .value_name("ORDER")
-        .help("List first those that retain most, or the largest: retained or size")
+        .value_name(value)
+        .help(help)
         .action(ArgAction::Set)
 }
 

@@ -4,6 +4,7 @@
 mod bad_request;
 mod commands;
 mod counting;
+mod grouping;
 pub mod laws;
 mod list_order;
 mod percent;
@@ -13,6 +14,7 @@ mod top_options;
 pub use bad_request::BadRequest;
 pub use commands::command;
 pub use counting::Counting;
+pub use grouping::{BadGrouping, Grouping};
 pub use list_order::{BadOrder, ListOrder};
 pub use percent::{BadPercent, Percent};
 pub use requests::{

@@ -4,12 +4,15 @@ ghost use Rattle.std.specs.Prelude.{◌≡◌, ◌∷◌, [], List, IfOk, MatchR
 ghost use Rattle.clap.specs.Walk.{texts};
 ghost use Rattle.clap.specs.Words.{Row, found_of, rows_of, subcommand_rows_of};
 ghost use Rattle.sqz_look_args.specs.declared.bad_request.BadRequest.TheVariants.{OutOfMemory};
+ghost use Rattle.sqz_look_args.specs.Mends.{is_mend};
 ghost use Rattle.sqz_look_args.specs.Requests.{AsksSoundness, HasCommand, IsCheckOf};
+ghost use Rattle.sqz_look_args.specs.Requests.{looks_past};
 ghost use Rattle.sqz_look_args.specs.Requests.{given, has_flag};
 
 use crate::bad_request::BadRequest;
 use crate::commands::Name;
 use crate::counting::Counting;
+use crate::grouping::Grouping;
 use crate::list_order::ListOrder;
 use crate::percent::Percent;
 use crate::top_options::{TopForm, TopOptions};
@@ -22,6 +25,8 @@ pub struct Request<'a> {
     pub question: Question<'a>,
     /// Whether weak slots are cleared, so that they keep nothing alive.
     pub clear_weak: bool,
+    /// Whether a damaged image is read past what cannot be read.
+    pub past_damage: bool,
     /// Whether lines of JSON are asked for.
     pub json: bool,
     /// Whether all rows of the text form are asked for.
@@ -36,6 +41,10 @@ pub enum Question<'a> {
     Check {
         images: Vec<&'a str>,
         all: bool,
+    },
+    /// The image with what cannot be read as free chunks.
+    Mend {
+        image: &'a str,
     },
     Each {
         images: Vec<&'a str>,
@@ -114,10 +123,19 @@ impl<'a> Request<'a> {
         Ok(Request {
             question: question_of(alloc, name, matches, apart)?,
             clear_weak: flag_of(matches, "clear-weak"),
+            past_damage: flag_of(matches, "past-damage"),
             json: flag_of(matches, "json"),
             all: flag_of(matches, "all"),
             human: flag_of(matches, "human"),
         })
+    }
+
+    /// Returns whether images are read past what cannot be read: if that is asked for, or if one is
+    /// to be mended.
+    pub fn looks_past_damage(&self) -> bool
+        ensures { result ≡ looks_past self.now }
+    {
+        self.past_damage || is_mend(&self.question)
     }
 
     /// Returns the path of the image, if the question is about one.
@@ -130,9 +148,17 @@ impl<'a> Request<'a> {
                 }
             }
             Question::Diff { .. } => None,
+            Question::Mend { image, .. } => Some(*image),
             Question::About { image, .. } => Some(*image),
         }
     }
+}
+
+/// Returns whether a question is what can be mended of an image.
+fn is_mend(question: &Question<'_>) -> bool
+    ensures { result ≡ is_mend question.now }
+{
+    matches!(question, Question::Mend { .. })
 }
 
 /// Returns the question that a subcommand asks.
@@ -143,15 +169,18 @@ fn question_of<'a>(
     apart: usize,
 ) -> Result<Question<'a>, BadRequest<'a>>
     ensures check { let rows = rows_of (found_of matches.now) in name ≡ Name.Check
-        → MatchResult result
-        (IsCheckOf (given (codes "IMAGE") rows) (has_flag (codes "all") rows))
-        (λ bad. bad ≡ OutOfMemory) }
+        → MatchResult result (IsCheckOf rows) (λ bad. bad ≡ OutOfMemory) }
 {
     let question = match name {
         Name::Check => {
             return Ok(Question::Check {
                 images: values_of(alloc, matches, "IMAGE")?,
                 all: flag_of(matches, "all"),
+            });
+        }
+        Name::Mend => {
+            return Ok(Question::Mend {
+                image: value_of(matches, "IMAGE")?,
             });
         }
         Name::Diff => {
@@ -252,9 +281,21 @@ fn top_options<'a>(matches: &ArgMatches<'a>) -> Result<TopOptions, BadRequest<'a
     };
     Ok(TopOptions {
         form,
+        by: grouping_of(matches)?,
         depth: matches.get_one("depth"),
         min: min_of(matches)?,
     })
+}
+
+/// Returns what `--by` says that objects are grouped by.
+fn grouping_of<'a>(matches: &ArgMatches<'a>) -> Result<Option<Grouping>, BadRequest<'a>> {
+    match matches.get_str("by") {
+        Some(text) => match text.parse() {
+            Ok(grouping) => Ok(Some(grouping)),
+            Err(_) => Err(BadRequest::NoGrouping(text)),
+        },
+        None => Ok(None),
+    }
 }
 
 /// Returns the percentage that `--min` has.
