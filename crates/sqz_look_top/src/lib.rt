@@ -5,6 +5,9 @@
 mod colours;
 mod drawing;
 mod folded;
+mod group_rows;
+mod grouped;
+mod grouping;
 mod layout;
 mod options;
 mod row_view;

@@ -7,6 +7,7 @@ ghost use Rattle.sqz_trace.specs.Graph.{is_marked};
 
 use crate::drawing::{Whole, print_drawing};
 use crate::folded::print_folded;
+use crate::grouped::print_grouped;
 use crate::options::limits_of;
 use crate::row_view::RowView;
 use crate::rows::{Row, labelled};
@@ -31,6 +32,9 @@ pub fn print_top<C: Sink>(
 ) -> Result<(), PrintError>
     requires { is_marked inspector.now.live.marks root ≡ true }
 {
+    if let Some(by) = options.by {
+        return print_grouped(inspector, root, options, by, out);
+    }
     let (alloc, live) = (inspector.alloc, &inspector.live);
     let dominators = dominators_of(alloc, live.graph)?;
     let bytes = dominators.retained(root).bytes;
@@ -46,7 +50,7 @@ pub fn print_top<C: Sink>(
 }
 
 /// Returns what the first row retains, which is the row of this object.
-fn whole_of(inspector: &Inspector<'_>, root: ObjectIndex, bytes: u64) -> Whole {
+pub(crate) fn whole_of(inspector: &Inspector<'_>, root: ObjectIndex, bytes: u64) -> Whole {
     let is_special = root == inspector.live.graph.heap.special();
     Whole {
         bytes,

@@ -3,6 +3,7 @@
 #![tactic(auto)]
 
 mod amounts;
+mod categories;
 mod counted;
 mod hex;
 mod inspector;
@@ -16,13 +17,14 @@ mod special_names;
 mod subject;
 
 pub use amounts::{write_amount, write_bytes, write_difference, write_unit};
+pub use categories::{Categories, organizer_of};
 pub use counted::Counted;
 pub use hex::Hex;
 pub use inspector::Inspector;
 pub use more::More;
 pub use object_label::ObjectLabel;
 pub use out::{Format, Out};
-pub use places::object_at;
+pub use places::{field_of, object_at};
 pub use print_error::PrintError;
 pub use slots::{SlotName, SlotNames};
 pub use subject::Subject;

@@ -99,6 +99,27 @@ impl<'a, C: Sink> Out<'a, C> {
         }
     }
 
+    /// Prints what the JSON form alone has. Fails as `emit` does.
+    pub fn data<V: Serialize>(&mut self, view: &V) -> Result<(), PrintError> {
+        match self.format {
+            Format::Text { .. } => Ok(()),
+            Format::Json => self.json(view),
+        }
+    }
+
+    /// Writes the buffered text to the sink, then these bytes, and then flushes the sink. Fails
+    /// with `WriteFailed` if the sink does.
+    pub fn bytes(&mut self, bytes: &[u8]) -> Result<(), PrintError>
+        ensures written { unwritten self.old ≡ [] → OnOk result (WritesWhole
+            (C.state (sink_of self.old)) (C.state (sink_of self.new)) bytes.now) }
+        ensures empty { OnOk result (unwritten self.new ≡ []) }
+    {
+        if !self.text.is_empty() {
+            self.flush()?;
+        }
+        write_all(self.sink, bytes).map_err(|_| PrintError::WriteFailed)
+    }
+
     /// Prints how many of `count` rows the text form leaves out, if any. Fails as `emit` does.
     pub fn rest(&mut self, count: usize, what: &str) -> Result<(), PrintError> {
         match count - self.shown(count) {

@@ -1,10 +1,12 @@
-//! Objects by their addresses.
+//! Objects by their addresses, and by the fields that point to them.
 
 ghost use Rattle.std.specs.Prelude.{◌≡◌, ◌<◌, IfSome};
 ghost use Rattle.sqz_image.specs.Objects.{find, object_count};
 
-use sqz_image::Heap;
+use crate::inspector::Inspector;
+use sqz_image::{Heap, Slot};
 use sqz_object::{Address, ObjectIndex};
+use sqz_trace::target;
 
 /// Returns the object with an address.
 pub fn object_at(heap: &Heap, address: Address) -> Option<ObjectIndex>
@@ -12,4 +14,13 @@ pub fn object_at(heap: &Heap, address: Address) -> Option<ObjectIndex>
     ensures inside { IfSome result (λ object. object < object_count heap.now) }
 {
     heap.find(address)
+}
+
+/// Returns the object that a field of an object points to, given its number from 0. None if there
+/// is no such field, and if it points to no object.
+pub fn field_of(inspector: &Inspector<'_>, object: ObjectIndex, field: u32) -> Option<ObjectIndex>
+    requires { object < object_count inspector.now.live.graph.heap.now }
+    ensures { IfSome result (λ found. found < object_count inspector.now.live.graph.heap.now) }
+{
+    target(inspector.live.graph.heap, object, Slot::Field(field))
 }
