@@ -178,6 +178,22 @@ def shared_literals(n):
     return it.hostile("K1", "K1>>go", string, array)
 
 
+def nested_literals(n):
+    """Methods whose literals are a long chain of arrays in arrays, and a long cycle of them."""
+    it = HostileImage()
+    chain, cycle = [it.add_array(ZERO)], [it.add_array(3)]
+    for _ in range(BYTES_EACH // 4 * n):
+        chain.append(it.add_array(chain[-1], chain[0]))
+        cycle.append(it.add_array(cycle[-1], cycle[0]))
+    it.fields_of(cycle[0]).append(cycle[-1])
+    selector = it.add_symbol("go")
+    methods = [it.add_method(chain[-1 - number], cycle[number]) for number in range(n)]
+    it.add_many(
+        n, lambda number: {ClassField.METHODS: it.add_method_dictionary(selector, methods[number])}
+    )
+    return it.hostile("K1", "K1>>go", chain[-1], cycle[0])
+
+
 def one_method(n):
     """Classes that share a method with many literals."""
     it = HostileImage()
@@ -201,6 +217,7 @@ HOSTILE = {
         long_selector,
         long_selectors,
         shared_literals,
+        nested_literals,
         one_method,
     )
 }

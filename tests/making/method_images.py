@@ -37,6 +37,14 @@ class MethodImage(NamedImage):
             leaf = self.add_array(ZERO, leaf)
         return leaf
 
+    def add_cycle(self, *words):
+        """Adds an array for each word, which has the word and the next array, and the last one the
+        first array."""
+        its = [self.add_array(word) for word in words]
+        for array, following in zip(its, its[1:] + its[:1]):
+            self.fields_of(array).append(following)
+        return its[0]
+
     def add_wide(self, depth, width):
         """Adds an array whose elements are all one array, and so on down to a depth."""
         its = ZERO
@@ -67,10 +75,11 @@ EQUAL_LITERALS = {
     "arrays": [lambda it: it.add_nested(3, it.add_string(b"abc"))] * 2,
     "variables": [lambda it: it.association(0)] * 2,
     "classes": [lambda _: "Point"] * 2,
-    "arrays that differ four deep": [
-        lambda it: it.add_nested(4, it.add_string(b"abc")),
-        lambda it: it.add_nested(4, it.add_string(b"abd")),
-    ],
+    "arrays that contain each other": [lambda it: it.add_cycle(3, 5, 7)] * 2,
+    "arrays in arrays that contain each other": [
+        lambda it: it.add_nested(3, it.add_cycle(3, 5, 7)),
+    ]
+    * 2,
     "other objects of a class": [
         lambda it: it.add(Format.FIXED, "Point", 3, 5),
         lambda it: it.add(Format.FIXED, "Point", 7),
@@ -100,6 +109,19 @@ OTHER_LITERALS = {
         lambda it: it.add_nested(3, it.add_array()),
         lambda it: it.add_nested(3, it.add(Format.INDEXED, "Point")),
     ],
+    "arrays that contain themselves": [lambda it: it.add_cycle(3), lambda it: it.add_cycle(5)],
+    "the last of arrays that contain each other": [
+        lambda it: it.add_cycle(3, 5, 7),
+        lambda it: it.add_cycle(3, 5, 9),
+    ],
+    "the number of arrays that contain each other": [
+        lambda it: it.add_cycle(3, 3),
+        lambda it: it.add_cycle(3, 3, 3),
+    ],
+    "which of the arrays that contain each other": [
+        lambda it: it.add_cycle(3, 5),
+        lambda it: it.add_cycle(5, 3),
+    ],
     "classes of other objects": [
         lambda it: it.add(Format.FIXED, "Point", ZERO, ZERO),
         lambda it: it.add(Format.FIXED, "Pixel", ZERO, ZERO),
@@ -114,6 +136,6 @@ OTHER_LITERALS = {
             lambda it, depth=depth: it.add_nested(depth, it.add_string(b"abc")),
             lambda it, depth=depth: it.add_nested(depth, it.add_string(b"abd")),
         ]
-        for depth in (1, 2, 3)
+        for depth in (1, 2, 3, 4, 5, 2000)
     },
 }

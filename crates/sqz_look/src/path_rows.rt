@@ -7,9 +7,8 @@ use crate::paths::{PathStep, visible_steps};
 use crate::weak_note::weak_note;
 use serde::{Described, Serialize, Serializer};
 use sqz_answers::HoldingPath;
-use sqz_look_view::{
-    Counted, Hex, Inspector, More, ObjectLabel, SlotName, SlotNames, write_amount,
-};
+use sqz_look_path::StepView;
+use sqz_look_view::{Counted, Inspector, More, SlotNames, write_amount};
 use sqz_names::Label;
 use sqz_object::ObjectIndex;
 use std::alloc::AllocError;
@@ -29,21 +28,6 @@ pub(crate) struct PathView {
     steps: usize,
     /// Whether some steps are no rows of their own.
     has_hidden: bool,
-}
-
-/// An object on a path with the slot that leads to it. No slot leads to the first one.
-#[derive(Drop, Serialize)]
-struct StepView {
-    address: Hex,
-    class: String,
-    label: ObjectLabel,
-    slot: Option<SlotName>,
-    name: Option<String>,
-    weak: bool,
-    retained: u64,
-    /// What leads to the object, as text: a slot of the object before, or a variable.
-    #[serde(skip)]
-    lead: String,
 }
 
 impl PathView {
@@ -66,11 +50,11 @@ impl PathView {
         };
         let special = inspector.live.graph.heap.special();
         let mut rows = Vec::new(inspector.alloc);
-        rows.push(StepView::of(inspector, special, path.live_bytes)?)?;
+        rows.push(StepView::first(inspector, special, path.live_bytes)?)?;
         let mut names = SlotNames::none(inspector.alloc);
         for (index, step) in steps.iter().enumerate() {
             if index < HALF || index >= HALF + cut {
-                rows.push(StepView::after(inspector, &mut names, *step)?)?;
+                rows.push(row_after(inspector, &mut names, *step)?)?;
             }
         }
         Ok(PathView {
@@ -82,50 +66,27 @@ impl PathView {
     }
 }
 
-impl StepView {
-    /// Returns the row of an object with the bytes that it retains, as if no slot led to it.
-    fn of(inspector: &Inspector<'_>, object: ObjectIndex, retained: u64) -> Result<Self, AllocError>
-        requires { object < object_count inspector.now.live.graph.heap.now }
-    {
-        Ok(StepView {
-            address: inspector.address(object),
-            class: inspector.names.name_of_class_of(object)?,
-            label: ObjectLabel::of(inspector, object)?,
-            slot: None,
-            name: None,
-            weak: false,
-            retained,
-            lead: String::new(inspector.alloc),
-        })
+/// Returns the row of a step. `names` are the names of the slots of any object.
+fn row_after(
+    inspector: &Inspector<'_>,
+    names: &mut SlotNames,
+    visible: PathStep,
+) -> Result<StepView, AllocError>
+    requires owner { visible.owner < object_count inspector.now.live.graph.heap.now }
+    requires object { visible.step.object < object_count inspector.now.live.graph.heap.now }
+{
+    let PathStep {
+        owner,
+        step,
+        is_variable,
+        is_weak,
+    } = visible;
+    let mut row = StepView::after(inspector, names, owner, step)?;
+    row.weak = is_weak;
+    if is_variable {
+        row.lead = variable_text(inspector, owner)?;
     }
-
-    /// Returns the row of a step. `names` are the names of the slots of any object.
-    fn after(
-        inspector: &Inspector<'_>,
-        names: &mut SlotNames,
-        visible: PathStep,
-    ) -> Result<Self, AllocError>
-        requires owner { visible.owner < object_count inspector.now.live.graph.heap.now }
-        requires object { visible.step.object < object_count inspector.now.live.graph.heap.now }
-    {
-        let PathStep {
-            owner,
-            step,
-            is_variable,
-            is_weak,
-        } = visible;
-        names.set_object(inspector, owner)?;
-        let mut row = StepView::of(inspector, step.object, step.retained)?;
-        row.slot = Some(SlotName::from(step.slot));
-        row.name = names.name(step.slot)?;
-        row.weak = is_weak;
-        row.lead = if is_variable {
-            variable_text(inspector, owner)?
-        } else {
-            names.text(step.slot)?
-        };
-        Ok(row)
-    }
+    Ok(row)
 }
 
 /// Returns the name of the variable whose association an object is.
@@ -158,7 +119,7 @@ impl fmt::Display for PathView {
             if self.cut > 0 && index == HALF + 1 {
                 write!(f, "\n  {}", More(self.cut, "row"))?;
             }
-            row.write(f, width)?;
+            write_step(f, row, width)?;
         }
         let steps = Counted(self.steps as u64, "step");
         write!(f, "\n{steps}")?;
@@ -169,17 +130,19 @@ impl fmt::Display for PathView {
     }
 }
 
-impl StepView {
-    /// Writes the line of a step, with what leads to its object in a column of this width.
-    fn write<W: fmt::Write>(&self, f: &mut fmt::Formatter<W>, width: usize) -> fmt::Result {
-        let (lead, address, label) = (self.lead.as_str(), self.address, &self.label);
-        let (retained, weak) = (self.retained, weak_note(self.weak));
-        write!(f, "\n  {lead}")?;
-        for _ in lead.len()..width {
-            f.write_str(" ")?;
-        }
-        write!(f, "  {address} {label:<24}  retains ")?;
-        write_amount(f, retained, 9)?;
-        f.write_str(weak)
+/// Writes the line of a step, with what leads to its object in a column of this width.
+fn write_step<W: fmt::Write>(
+    f: &mut fmt::Formatter<W>,
+    row: &StepView,
+    width: usize,
+) -> fmt::Result {
+    let (lead, address, label) = (row.lead.as_str(), row.address, &row.label);
+    let (retained, weak) = (row.retained, weak_note(row.weak));
+    write!(f, "\n  {lead}")?;
+    for _ in lead.len()..width {
+        f.write_str(" ")?;
     }
+    write!(f, "  {address} {label:<24}  retains ")?;
+    write_amount(f, retained, 9)?;
+    f.write_str(weak)
 }

@@ -3,12 +3,11 @@
 ghost use Rattle.std.specs.Prelude.{◌<◌};
 ghost use Rattle.sqz_image.specs.Objects.{object_count};
 
-use crate::categories::Categories;
 use crate::name_list::NameList;
 use crate::numbers::Numbers;
-use crate::whole_names::{WholeNames, field_of};
+use crate::whole_names::WholeNames;
 use sqz_answers::Change;
-use sqz_look_view::Inspector;
+use sqz_look_view::{Categories, Inspector, field_of, organizer_of};
 use sqz_names::fields::{INSTANCE_VARIABLES, SUPERCLASS};
 use sqz_object::ObjectIndex;
 use std::alloc::{AllocError, Global};
@@ -141,17 +140,22 @@ fn definitions_in(
 ) -> Result<Definitions, AllocError> {
     let alloc = inspector.alloc;
     let mut names = WholeNames::new(alloc);
-    let categories = Categories::of(inspector, &mut names, numbers)?;
+    let organizer = organizer_of(inspector)?;
+    let categories = Categories::of(inspector, organizer)?;
     let mut found = BTreeMap::new(alloc);
     for class in 0..inspector.live.graph.heap.len() {
         if !inspector.names.is_class(class) || !inspector.live.marks.has(class) {
             continue;
         }
         let name = names.class(inspector, numbers, class)?;
+        let category = match categories.of_class(inspector, organizer, class)? {
+            Some(category) => names.text(inspector, numbers, category)?,
+            None => None,
+        };
         let definition = Definition {
             superclass: superclass_text(inspector, &mut names, numbers, class)?,
             variables: variables_of(inspector, &mut names, numbers, class)?,
-            category: categories.of_class(inspector, class)?,
+            category,
         };
         let same_name = found.entry(name)?.or_insert(Vec::new(alloc));
         same_name.push(definition)?;

@@ -3,8 +3,8 @@
 ghost use Rattle.std.specs.Prelude.{◌<◌};
 ghost use Rattle.sqz_image.specs.Objects.{object_count};
 
-use crate::path_view::PathView;
 use serde::Serialize;
+use sqz_look_path::PathLine;
 use sqz_look_view::{Hex, Inspector, ObjectLabel};
 use sqz_object::ObjectIndex;
 use std::alloc::AllocError;
@@ -17,7 +17,7 @@ pub(crate) struct ObjectView {
     class: String,
     label: ObjectLabel,
     /// A shortest path to the object.
-    path: Option<PathView>,
+    path: Option<PathLine>,
 }
 
 impl ObjectView {
@@ -29,7 +29,7 @@ impl ObjectView {
             address: inspector.address(object),
             class: inspector.names.name_of_class_of(object)?,
             label: ObjectLabel::of(inspector, object)?,
-            path: PathView::of(inspector, object)?,
+            path: PathLine::of(inspector, object)?,
         })
     }
 }

@@ -3,7 +3,6 @@
 #![tactic(auto)]
 
 mod bytecodes;
-mod categories;
 mod classes;
 mod contents;
 mod definition_view;
@@ -14,6 +13,7 @@ mod first_difference;
 mod holder_view;
 mod holders;
 mod kinds;
+mod literal_numbers;
 mod literals;
 mod matched;
 mod method_names;
@@ -21,7 +21,6 @@ mod methods;
 mod name_list;
 mod named_objects;
 mod numbers;
-mod path_view;
 mod signed;
 mod values;
 mod variables;

@@ -57,12 +57,11 @@ impl<'a> Literal<'a> {
         Ok(Literal::Other { class })
     }
 
-    /// Returns what is compared of a literal that is not compared by its elements: of an array its
-    /// class.
-    pub(crate) fn without_elements(self) -> Self {
+    /// Returns the elements of an array.
+    pub(crate) fn elements(&self) -> Option<Words<'a>> {
         match self {
-            Literal::Array { class, elements: _ } => Literal::Other { class },
-            literal => literal,
+            Literal::Array { elements, .. } => Some(elements.part(0, elements.len())),
+            _ => None,
         }
     }
 

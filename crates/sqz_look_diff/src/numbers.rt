@@ -62,3 +62,14 @@ impl Order {
         }
     }
 }
+
+/// Appends a number of a kind to a description.
+pub(crate) fn push_number(
+    description: &mut Vec<u8>,
+    kind: u8,
+    number: usize,
+) -> Result<(), AllocError> {
+    description.push(kind)?;
+    description.extend_from_slice(&number.to_le_bytes())?;
+    Ok(())
+}

@@ -6,12 +6,10 @@ ghost use Rattle.sqz_image.specs.Objects.{object_count};
 use crate::name_list::{NameList, Names};
 use crate::numbers::Numbers;
 use sqz_histogram::first_bytes;
-use sqz_image::Slot;
-use sqz_look_view::Inspector;
+use sqz_look_view::{Inspector, field_of};
 use sqz_names::fields::{INSTANCE, NAME};
 use sqz_names::{Label, VariableName, escaped};
 use sqz_object::ObjectIndex;
-use sqz_trace::target;
 use std::alloc::{AllocError, Global};
 use std::collections::BTreeMap;
 
@@ -154,16 +152,4 @@ pub(crate) fn numbered(
     number: usize,
 ) -> Result<String, AllocError> {
     format!(in alloc; "{beginning}..#{number}")
-}
-
-/// Returns the object that a field of an object points to.
-pub(crate) fn field_of(
-    inspector: &Inspector<'_>,
-    object: ObjectIndex,
-    field: u32,
-) -> Option<ObjectIndex>
-    requires { object < object_count inspector.now.live.graph.heap.now }
-    ensures { IfSome result (λ found. found < object_count inspector.now.live.graph.heap.now) }
-{
-    target(inspector.live.graph.heap, object, Slot::Field(field))
 }
