@@ -7,8 +7,10 @@ use crate::causes::{BadWord, Cause, NearObject};
 use serde::Serialize;
 use sqz_facts::slot_facts;
 use sqz_image::{Fault, HEADER_SIZE, Heap, Slot};
-use sqz_look_view::{Hex, Subject, object_at};
-use sqz_object::{Address, ObjectIndex, WordIndex};
+use sqz_look_path::PathLine;
+use sqz_look_view::{Hex, Inspector, SlotNames, Subject, object_at};
+use sqz_names::Label;
+use sqz_object::{ObjectIndex, WordIndex};
 use std::alloc::{AllocError, Global};
 use std::fmt;
 
@@ -25,6 +27,10 @@ pub(crate) struct FaultView {
     /// Where this is in the file, in bytes.
     pub(crate) byte: Option<u64>,
     cause: Option<Cause>,
+    /// The name of the object that is at fault, if it has one, and the slot.
+    owner: Option<String>,
+    /// A path to the object that is at fault, if it has no name.
+    path: Option<PathLine>,
 }
 
 impl FaultView {
@@ -45,22 +51,18 @@ impl FaultView {
             address: None,
             byte: None,
             cause,
+            owner: None,
+            path: None,
         })
     }
 
     /// Returns a fault of an object of an image.
     pub(crate) fn in_image(subject: &Subject<'_>, fault: Fault) -> Result<Self, AllocError> {
         let heap = subject.live.graph.heap;
-        let Some(address) = address_of(&fault) else {
+        let Some(object) = object_of(heap, &fault) else {
             return FaultView::of(subject.alloc, fault, None);
         };
-        let Some(object) = object_at(heap, address) else {
-            return FaultView::of(subject.alloc, fault, None);
-        };
-        let slot = match fault {
-            Fault::BadPointer { slot, .. } => Some(slot),
-            _ => None,
-        };
+        let slot = slot_of(&fault);
         let cause = match slot {
             Some(slot) => bad_word(subject, object, slot)?.map(Cause::Pointer),
             None => None,
@@ -68,8 +70,25 @@ impl FaultView {
         let mut view = FaultView::of(subject.alloc, fault, cause)?;
         let start = subject.image.prefix().len() as u64 + HEADER_SIZE as u64;
         view.byte = Some(start + 4 * u64::from(word_of(heap, object, slot)));
-        view.address = Some(Hex(address));
+        view.address = Some(subject.address(object));
         Ok(view)
+    }
+
+    /// Adds what has the object that is at fault: its name if it has one, else a path to it if
+    /// `finds_path`.
+    pub(crate) fn add_owner(
+        &mut self,
+        inspector: &Inspector<'_>,
+        finds_path: bool,
+    ) -> Result<(), AllocError> {
+        let Some(object) = object_of(inspector.live.graph.heap, &self.fault) else {
+            return Ok(());
+        };
+        self.owner = owner_of(inspector, object, slot_of(&self.fault))?;
+        if self.owner.is_none() && finds_path {
+            self.path = PathLine::of(inspector, object)?;
+        }
+        Ok(())
     }
 }
 
@@ -85,23 +104,56 @@ impl fmt::Display for FaultView {
         if let Some(byte) = self.byte {
             write!(f, " (byte {byte})")?;
         }
-        match &self.cause {
-            Some(cause) => write!(f, "{cause}"),
-            None => Ok(()),
+        if let Some(cause) = &self.cause {
+            write!(f, "{cause}")?;
+        }
+        match (&self.owner, &self.path) {
+            (Some(owner), _) => write!(f, ", in {}", owner.as_str()),
+            (None, Some(path)) => write!(f, ", at {path}"),
+            (None, None) => Ok(()),
         }
     }
 }
 
-/// Returns the address of the object that is at fault.
-fn address_of(fault: &Fault) -> Option<Address> {
+/// Returns the object that is at fault.
+fn object_of(heap: &Heap, fault: &Fault) -> Option<ObjectIndex>
+    ensures { IfSome result (λ object. object < object_count heap.now) }
+{
     match *fault {
         Fault::NoClass { address }
         | Fault::BadMethod { address }
         | Fault::BadContext { address }
         | Fault::BadWeak { address }
-        | Fault::BadPointer { address, .. } => Some(address),
+        | Fault::BadPointer { address, .. } => object_at(heap, address),
         _ => None,
     }
+}
+
+/// Returns the slot that is at fault.
+fn slot_of(fault: &Fault) -> Option<Slot> {
+    match *fault {
+        Fault::BadPointer { slot, .. } => Some(slot),
+        _ => None,
+    }
+}
+
+/// Returns the name of an object, if it has one, and the slot.
+fn owner_of(
+    inspector: &Inspector<'_>,
+    object: ObjectIndex,
+    slot: Option<Slot>,
+) -> Result<Option<String>, AllocError>
+    requires { object < object_count inspector.now.live.graph.heap.now }
+{
+    if inspector.names.label_of(object)? == Label::Other {
+        return Ok(None);
+    }
+    let label = inspector.names.label(object)?;
+    let Some(slot) = slot else {
+        return Ok(Some(label));
+    };
+    let slot = SlotNames::of(inspector, object)?.text(slot)?;
+    Ok(Some(format!(in inspector.alloc; "{label}, {slot}")?))
 }
 
 /// Returns the data word of a slot of an object, or of its base header.

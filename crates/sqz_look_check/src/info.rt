@@ -5,7 +5,7 @@ use crate::unreadable::Unreadable;
 use serde::Serialize;
 use sqz_facts::{FileFacts, file_facts};
 use sqz_image::{Header, Sink};
-use sqz_look_view::{Counted, Hex, Out, PrintError, Subject, write_bytes};
+use sqz_look_view::{Counted, Hex, Inspector, Out, PrintError, Subject, write_bytes};
 use sqz_object::Order;
 use sqz_trace::first_fault;
 use std::alloc::Global;
@@ -48,13 +48,17 @@ enum InfoText {
 /// Prints what the file of an image holds, and its first fault.
 pub fn print_info<C: Sink>(
     rt: &(impl Threads + Sync),
-    subject: &Subject<'_>,
+    subject: Subject<'_>,
     path: &str,
     out: &mut Out<'_, C>,
 ) -> Result<(), PrintError> {
     let facts = file_facts(subject.image, &subject.live.marks);
     let fault = match first_fault(rt, &subject.live) {
-        Some(fault) => Some(FaultView::in_image(subject, fault)?),
+        Some(fault) => {
+            let mut view = FaultView::in_image(&subject, fault)?;
+            view.add_owner(&Inspector::of(subject)?, true)?;
+            Some(view)
+        }
         None => None,
     };
     out.emit(&InfoView {

@@ -5,10 +5,14 @@ ghost use Rattle.sqz_image.specs.Unread.{IsUnread};
 use crate::causes::{Cause, FileKind};
 use crate::faults::FaultView;
 use crate::file_kinds::kind_of;
+use crate::skipped::skipped_bytes;
+use serde::Serialize;
 use sqz_image::{Fault, HEADER_SIZE, Header, UnreadFile};
-use sqz_look_view::Hex;
+use sqz_look_view::{Counted, Hex, write_bytes};
+use sqz_mend::{RecoverError, recover};
 use sqz_object::Address;
 use std::alloc::{AllocError, Global};
+use std::fmt;
 
 /// A file from which no image could be read: its fault, and what could be read of it.
 #[derive(Drop)]
@@ -18,9 +22,61 @@ pub struct Unreadable {
     kind: Option<FileKind>,
     /// The address of the last object before a chunk that cannot be read.
     pub(crate) last_object: Option<Address>,
+    /// How much can be read past what cannot be read, if that was asked for.
+    pub(crate) extent: Option<Extent>,
+}
+
+/// How much of a file can be read past what cannot be read.
+#[derive(Clone, Copy, Drop, Serialize)]
+pub(crate) struct Extent {
+    /// The bytes of the data that cannot be read, and those that the file does not have.
+    pub(crate) unreadable_bytes: u64,
+    pub(crate) missing_bytes: u32,
+    /// The objects that can be read.
+    pub(crate) objects: u32,
+}
+
+impl Extent {
+    /// Returns how much can be read of the file with these bytes. None if no special objects array
+    /// can be read.
+    fn of(alloc: Global, bytes: Vec<u8>) -> Result<Option<Self>, AllocError> {
+        match recover(alloc, bytes) {
+            Ok(recovered) => Ok(Some(Extent {
+                unreadable_bytes: skipped_bytes(&recovered.damage),
+                missing_bytes: recovered.damage.missing,
+                objects: recovered.image.heap().len(),
+            })),
+            Err(RecoverError::NoImage(_)) => Ok(None),
+            Err(RecoverError::OutOfMemory) => Err(AllocError),
+        }
+    }
+}
+
+impl fmt::Display for Extent {
+    fn fmt<W: fmt::Write>(&self, f: &mut fmt::Formatter<W>) -> fmt::Result {
+        if self.missing_bytes > 0 {
+            write_bytes(f, u64::from(self.missing_bytes))?;
+            f.write_str(" are missing, ")?;
+        }
+        write_bytes(f, self.unreadable_bytes)?;
+        let objects = Counted(u64::from(self.objects), "object");
+        write!(f, " cannot be read; {objects} before and after")
+    }
 }
 
 impl Unreadable {
+    /// Returns what could be read of a file, and how much of it can be read past a chunk that
+    /// cannot be read.
+    pub fn measured(alloc: Global, file: UnreadFile) -> Result<Self, AllocError>
+        requires { IsUnread file.bytes.items file }
+    {
+        let mut unreadable = Unreadable::of(alloc, &file)?;
+        if is_damage(&unreadable.fault) {
+            unreadable.extent = Extent::of(alloc, file.bytes)?;
+        }
+        Ok(unreadable)
+    }
+
     /// Returns what could be read of a file.
     pub fn of(alloc: Global, file: &UnreadFile) -> Result<Self, AllocError>
         requires { IsUnread file.now.bytes.items file.now }
@@ -38,6 +94,7 @@ impl Unreadable {
             header: file.header,
             kind,
             last_object,
+            extent: None,
         })
     }
 
@@ -63,4 +120,15 @@ impl Unreadable {
     pub fn message(&self, alloc: Global) -> Result<String, AllocError> {
         self.view(alloc)?.to_string(alloc)
     }
+}
+
+/// Returns whether a fault is that of data that cannot be read, or that are not there.
+fn is_damage(fault: &Fault) -> bool {
+    matches!(
+        fault,
+        Fault::Truncated
+            | Fault::ZeroSize { .. }
+            | Fault::HeaderMismatch { .. }
+            | Fault::Overrun { .. }
+    )
 }

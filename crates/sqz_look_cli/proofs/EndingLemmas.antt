@@ -1,16 +1,16 @@
 -- How a question ends, by its outcome.
 -- Serves `check_one`, `check_all` and `answer_request`.
-use Rattle.std.proofs.Common.{◌≡◌, ◌≢◌, ◌⊎◌, ◌≤◌, ℕ, List, Option, Result, Ok, Err, IfOk, OnOk}
+use Rattle.std.proofs.Common.{◌≡◌, ◌≢◌, ◌⊎◌, ◌≤◌, ℕ, Bool, List, Option, Result, Ok, Err, IfOk, OnOk}
 use Rattle.std.proofs.Common.{refl, sym, subst, inl, inr, arith}
 use Rattle.sqz_image.specs.Devices.{SinkState, WritesWhole}
 use Rattle.sqz_trace.specs.declared.weak.Weak.{Weak}
 use Rattle.sqz_look_args.specs.declared.requests.Question.{Question}
-use Rattle.sqz_look_args.specs.declared.requests.Question.TheVariants.{Check, Each, Diff, About}
+use Rattle.sqz_look_args.specs.declared.requests.Question.TheVariants.{Check, Mend, Each, Diff, About}
 use Rattle.sqz_look_view.specs.declared.print_error.PrintError.{PrintError}
 use Rattle.sqz_look_view.specs.declared.print_error.PrintError.TheVariants as printing
 use Rattle.sqz_look_cli.specs.declared.failure.Failure.{Failure}
 use Rattle.sqz_look_cli.specs.declared.failure.Failure.TheVariants.{OutOfMemory, NotPrinted, NotRead, NotReadAt, NotThere}
-use Rattle.sqz_look_cli.specs.Checks.{AreChecked, StopsChecks, EndsChecks}
+use Rattle.sqz_look_cli.specs.Verdicts.{AreChecked, StopsChecks, EndsChecks}
 use Rattle.sqz_look_cli.specs.Endings.{IfCheck, HasPassedOn}
 use Rattle.sqz_look_cli.specs.Failures.{exit_of_failure, exit_of_outcome, failure_of_printing, IsAnswerExit}
 
@@ -48,6 +48,7 @@ HasPassedOn-written (Err failure) old new text written = tt
 -- a fact of the number of images follows from another one
 IfCheck-weaker : (question : Question) (P Q : ℕ → Type 0) → ((files : ℕ) → P files → Q files) → IfCheck question P → IfCheck question Q
 IfCheck-weaker (Check images all) P Q weaker holds = weaker _ holds
+IfCheck-weaker (Mend image) P Q weaker holds = tt
 IfCheck-weaker (Each images question) P Q weaker holds = tt
 IfCheck-weaker (Diff old new) P Q weaker holds = tt
 IfCheck-weaker (About image about) P Q weaker holds = tt
@@ -60,18 +61,18 @@ module _ (answered outcome : Result ℕ Failure) (passed : (outcome ≡ answered
     | inr same ↦ subst (λ (r : Result ℕ Failure). IfOk r IsAnswerExit) (sym same) tt
   ])
 
-  module _ {F : Type 0} (left : F → Option (List ℕ)) (weak : Weak) where
-    pub checks_passed : (question : Question) → IfCheck question (λ files. EndsChecks left weak files answered)
-        → IfCheck question (λ files. EndsChecks left weak files outcome)
+  module _ {F : Type 0} (left : F → Option (List ℕ)) (weak : Weak) (past : Bool) where
+    pub checks_passed : (question : Question) → IfCheck question (λ files. EndsChecks left weak past files answered)
+        → IfCheck question (λ files. EndsChecks left weak past files outcome)
     checks_passed question = IfCheck-weaker question _ _ (λ files ends. elim passed [
-      | inl same ↦ subst (λ (r : Result ℕ Failure). EndsChecks left weak files r) (sym same) ends
-      | inr same ↦ subst (λ (r : Result ℕ Failure). EndsChecks left weak files r) (sym same) (inr refl)
+      | inl same ↦ subst (λ (r : Result ℕ Failure). EndsChecks left weak past files r) (sym same) ends
+      | inr same ↦ subst (λ (r : Result ℕ Failure). EndsChecks left weak past files r) (sym same) (inr refl)
     ])
 
-module _ {F : Type 0} (left : F → Option (List ℕ)) (weak : Weak) where
+module _ {F : Type 0} (left : F → Option (List ℕ)) (weak : Weak) (past : Bool) where
   -- exits 0 and 1 of a check are those of its files
-  AreChecked-ends : (files : ℕ) (outcome : Result ℕ Failure) → EndsChecks left weak files outcome
-      → exit_of_outcome outcome ≤ 1 → AreChecked left weak files (exit_of_outcome outcome)
+  AreChecked-ends : (files : ℕ) (outcome : Result ℕ Failure) → EndsChecks left weak past files outcome
+      → exit_of_outcome outcome ≤ 1 → AreChecked left weak past files (exit_of_outcome outcome)
   AreChecked-ends files (Ok exit) ends low = ends
   AreChecked-ends files (Err failure) (inl memory) low =
       absurd (let high = subst (λ (f : Failure). exit_of_failure f ≤ 1) memory low in omega arith)
@@ -79,10 +80,10 @@ module _ {F : Type 0} (left : F → Option (List ℕ)) (weak : Weak) where
       absurd (let high = subst (λ (f : Failure). exit_of_failure f ≤ 1) unprinted low in omega arith)
 
   pub checked_at_one : (question : Question) (outcome : Result ℕ Failure) (exit : ℕ) → exit ≡ exit_of_outcome outcome
-      → IfCheck question (λ files. EndsChecks left weak files outcome)
-      → IfCheck question (λ files. exit ≤ 1 → AreChecked left weak files exit)
+      → IfCheck question (λ files. EndsChecks left weak past files outcome)
+      → IfCheck question (λ files. exit ≤ 1 → AreChecked left weak past files exit)
   checked_at_one question outcome exit same = IfCheck-weaker question _ _ (λ files ends low.
-      subst (λ (e : ℕ). AreChecked left weak files e) (sym same)
+      subst (λ (e : ℕ). AreChecked left weak past files e) (sym same)
       (AreChecked-ends files outcome ends (subst (λ (e : ℕ). e ≤ 1) same low)))
 
 -- exit 0 of an outcome is that of its answer

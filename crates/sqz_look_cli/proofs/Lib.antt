@@ -1,3 +1,4 @@
 pub mod CheckLemmas
+pub mod DamageLemmas
 pub mod EndingLemmas
 pub mod WarningLemmas

@@ -56,31 +56,3 @@ pub record ReadsSome {F : Type 0} (left : F → Option (List ℕ)) (P : List ℕ
   pub bytes : List ℕ
   pub read : ReadsFile left bytes
   pub fact : P bytes
-
--- the exit for one file: 0 if it was read and is sound, 1 if it was read and is not, and 3 if it
--- could not be read
-abbrev pub IsChecked : {F : Type 0} → (F → Option (List ℕ)) → Weak → ℕ → Type 0
-IsChecked left weak exit =
-    ((exit ≡ 0) × ReadsSome left (IsSound weak)) ⊎ ((exit ≡ 1) × ReadsSome left (IsUnsound weak)) ⊎ (exit ≡ 3)
-
--- the greatest of some exits, and 0 of none
-abbrev pub worst_of : List ℕ → ℕ
-worst_of [] = 0
-worst_of (exit ∷ exits) = max exit (worst_of exits)
-
--- each file has an exit, in order, and this is the worst of them: 0 exactly if each file was read
--- and is sound
-pub record AreChecked {F : Type 0} (left : F → Option (List ℕ)) (weak : Weak) (files exit : ℕ) : Type 0 where
-  pub exits : List ℕ
-  pub one_each : length exits ≡ files
-  pub checked : All (IsChecked left weak) exits
-  pub worst : exit ≡ worst_of exits
-
--- the failures for which files are not checked: of memory, and of the output
-abbrev pub StopsChecks : Failure → Type 0
-StopsChecks failure = (failure ≡ OutOfMemory) ⊎ (failure ≡ NotPrinted)
-
--- how a check of this number of files ends: with the exit of all of them, or with such a failure
-abbrev pub EndsChecks : {F : Type 0} → (F → Option (List ℕ)) → Weak → ℕ → Result ℕ Failure → Type 0
-EndsChecks left weak files (Ok exit) = AreChecked left weak files exit
-EndsChecks left weak files (Err failure) = StopsChecks failure

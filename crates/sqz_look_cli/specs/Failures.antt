@@ -27,3 +27,11 @@ failure_of_printing printing.WriteFailed = NotPrinted
 -- the exits of answers: all but that of wrong words
 abbrev pub IsAnswerExit : ℕ → Type 0
 IsAnswerExit exit = (exit ≤ 4) × (exit ≢ 2)
+
+-- the failures of reading a file
+abbrev pub IsReadFailure : Failure → Type 0
+IsReadFailure OutOfMemory = Unit {0}
+IsReadFailure NotPrinted = Unit {0}
+IsReadFailure (NotRead why) = Unit {0}
+IsReadFailure (NotReadAt path why) = ⊥
+IsReadFailure (NotThere message) = ⊥

@@ -3,11 +3,12 @@
 ghost use Rattle.std.specs.Prelude.{◌≡◌, ◌≢◌, ◌⊎◌, ◌≤◌, OnOk};
 ghost use Rattle.sqz_image.specs.Devices.{WritesWhole};
 ghost use Rattle.sqz_look_cli.specs.declared.failure.Failure.TheVariants.{NotPrinted};
-ghost use Rattle.sqz_look_cli.specs.Checks.{AreChecked};
+ghost use Rattle.sqz_look_cli.specs.Verdicts.{AreChecked};
 ghost use Rattle.sqz_look_cli.specs.Endings.{EndsAnswer, HasPassedOn, IfCheck};
 ghost use Rattle.sqz_look_cli.specs.Failures.{exit_of_outcome};
 ghost use Rattle.sqz_look_cli.specs.Warnings.{IsSilent};
 ghost use Rattle.sqz_trace.specs.WeakSlots.{weak_of};
+ghost use Rattle.sqz_look_args.specs.Requests.{looks_past};
 
 use crate::answers::answer;
 use crate::failure::Failure;
@@ -40,13 +41,20 @@ pub fn answer_request<T: Files + Threads + Sync, C: Sink, E: Sink>(
     ensures accepted { result ≢ 2 }
     ensures ends { EndsAnswer T.File.remaining request.now (C.state out.new) result }
     ensures check { IfCheck request.now.question (λ files. result ≤ 1
-        → AreChecked T.File.remaining (weak_of request.now.clear_weak) files result) }
+        → AreChecked T.File.remaining (weak_of request.now.clear_weak) (looks_past request.now)
+        files result) }
     ensures whole { result ≡ 0 → HasPassedOn (C.state out.new) }
     ensures silent { result ≡ 0
-        → IsSilent T.File.remaining (weak_of request.now.clear_weak) err.old err.new }
+        → IsSilent T.File.remaining (weak_of request.now.clear_weak) (looks_past request.now)
+        err.old err.new }
 {
     let weak = Weak::clear_if(request.clear_weak);
-    let session = Session { rt, alloc, weak };
+    let session = Session {
+        rt,
+        alloc,
+        weak,
+        past_damage: request.looks_past_damage(),
+    };
     let mut printed = Out::new(alloc, out, format_of(request));
     let answered = answer(&session, &request.question, &mut printed, err);
     let rest = printed.into_unwritten();

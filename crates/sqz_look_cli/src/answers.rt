@@ -1,8 +1,9 @@
 //! Answers to questions.
 
-ghost use Rattle.std.specs.Prelude.{◌≡◌, ◌≤◌, ◌<◌, IfOk};
+ghost use Rattle.std.specs.Prelude.{◌≡◌, ◌≤◌, ◌<◌, IfOk, true};
 ghost use Rattle.sqz_image.specs.Objects.{object_count};
-ghost use Rattle.sqz_look_cli.specs.Checks.{EndsChecks};
+ghost use Rattle.sqz_look_cli.specs.Verdicts.{EndsChecks};
+ghost use Rattle.sqz_look_args.specs.Mends.{is_mend};
 ghost use Rattle.sqz_look_cli.specs.Endings.{IfCheck};
 ghost use Rattle.sqz_look_cli.specs.Failures.{IsAnswerExit};
 ghost use Rattle.sqz_look_cli.specs.Warnings.{IsSilent};
@@ -11,9 +12,9 @@ use crate::checks::check_all;
 use crate::comparison::compare;
 use crate::each::answer_each;
 use crate::failure::Failure;
-use crate::loading::{Loaded, load};
+use crate::mending::mend;
 use crate::objects::answer_about_objects;
-use crate::session::Session;
+use crate::session::{ReadFile, Session};
 use crate::warnings::warn;
 use sqz_cli::{BAD_IMAGE, DONE};
 use sqz_image::Sink;
@@ -26,22 +27,26 @@ use std::io::Read;
 use std::rt::Files;
 use std::thread::Threads;
 
-/// Prints the answer to a question, and returns the exit. The end of the text may still be in `out`:
-/// the caller writes it. A line on `err` warns of an image that is not sound.
+/// Prints the answer to a question, and returns the exit. The end of the text may still be in
+/// `out`: the caller writes it. A line on `err` warns of an image that is not sound.
 pub(crate) fn answer<T: Files + Threads + Sync, C: Sink, E: Sink>(
     session: &Session<'_, T>,
     question: &Question<'_>,
     out: &mut Out<'_, C>,
     err: &mut E,
 ) -> Result<u8, Failure>
+    requires { is_mend question.now ≡ true → session.now.past_damage ≡ true }
     ensures exits { IfOk result IsAnswerExit }
     ensures check { IfCheck question.now (λ files.
-        EndsChecks T.File.remaining session.now.weak files result) }
+        EndsChecks T.File.remaining session.now.weak
+        session.now.past_damage files result) }
     ensures silent { IfOk result (λ exit. exit ≡ 0
-        → IsSilent T.File.remaining session.now.weak err.old err.new) }
+        → IsSilent T.File.remaining session.now.weak
+        session.now.past_damage err.old err.new) }
 {
     match question {
-        Question::Check { images, all } => check_all(session, images, *all, out),
+        Question::Check { images, all } => check_all(session, images, *all, out, err),
+        Question::Mend { image } => mend(session, image, out, err),
         Question::Each { images, question } => { answer_each(session, images, *question, out, err) }
         Question::Diff { old, new } => compare(session, old, new, out, err),
         Question::About { image, question } => answer_about(session, image, question, out, err),
@@ -58,18 +63,19 @@ fn answer_about<T: Files + Threads + Sync, C: Sink, E: Sink>(
 ) -> Result<u8, Failure>
     ensures exit { IfOk result (λ exit. exit ≤ BAD_IMAGE) }
     ensures silent { IfOk result (λ exit. exit ≡ 0
-        → IsSilent T.File.remaining session.now.weak err.old err.new) }
+        → IsSilent T.File.remaining session.now.weak
+        session.now.past_damage err.old err.new) }
 {
     let alloc = session.alloc;
-    match load(session.rt, alloc, path)? {
-        Loaded::Image(image) => {
-            let subject = session.subject(&image)?;
+    match session.read(path, false, out, err)? {
+        ReadFile::Image(read) => {
+            let subject = session.subject(&read.image)?;
             warn(session.rt, &subject, path, err)?;
             let inspector = Inspector::of(subject)?;
             let exit = answer_by_names(&inspector, path, question, out, err)?;
             Ok(exit)
         }
-        Loaded::Unreadable(unreadable) => Err(Failure::NotThere(unreadable.message(alloc)?)),
+        ReadFile::Unreadable(unreadable) => Err(Failure::NotThere(unreadable.message(alloc)?)),
     }
 }
 

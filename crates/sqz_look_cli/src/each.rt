@@ -5,9 +5,8 @@ ghost use Rattle.sqz_look_cli.specs.Failures.{IsAnswerExit};
 ghost use Rattle.sqz_look_cli.specs.Warnings.{IsSilent};
 
 use crate::failure::Failure;
-use crate::loading::{Loaded, load};
 use crate::messages::explain_failure;
-use crate::session::Session;
+use crate::session::{ReadFile, Session};
 use crate::warnings::warn;
 use sqz_cli::{BAD_IMAGE, DONE};
 use sqz_image::Sink;
@@ -59,7 +58,8 @@ pub(crate) fn answer_each<T: Files + Threads + Sync, C: Sink, E: Sink>(
 ) -> Result<u8, Failure>
     ensures exits { IfOk result IsAnswerExit }
     ensures silent { IfOk result (λ exit. exit ≡ 0
-        → IsSilent T.File.remaining session.now.weak err.old err.new) }
+        → IsSilent T.File.remaining session.now.weak session.now.past_damage
+        err.old err.new) }
 {
     let mut exit = DONE;
     for path in paths {
@@ -84,7 +84,8 @@ fn answer_one<T: Files + Threads + Sync, C: Sink, E: Sink>(
 ) -> Result<u8, Failure>
     ensures exits { IfOk result IsAnswerExit }
     ensures silent { IfOk result (λ exit. exit ≡ 0
-        → IsSilent T.File.remaining session.now.weak err.old err.new) }
+        → IsSilent T.File.remaining session.now.weak session.now.past_damage
+        err.old err.new) }
 {
     match answer_about(session, file, question, out, err) {
         Ok(exit) => Ok(exit),
@@ -104,16 +105,17 @@ fn answer_about<T: Files + Threads + Sync, C: Sink, E: Sink>(
 ) -> Result<u8, Failure>
     ensures exits { IfOk result IsAnswerExit }
     ensures silent { IfOk result (λ exit.
-        IsSilent T.File.remaining session.now.weak err.old err.new) }
+        IsSilent T.File.remaining session.now.weak session.now.past_damage
+        err.old err.new) }
 {
     let path = file.path;
-    match load(session.rt, session.alloc, path)? {
-        Loaded::Image(image) => {
-            let subject = session.subject(&image)?;
+    match session.read(path, false, out, err)? {
+        ReadFile::Image(read) => {
+            let subject = session.subject(&read.image)?;
             match question {
                 EachQuestion::Info => {
                     file.print_heading(out)?;
-                    print_info(session.rt, &subject, path, out)?;
+                    print_info(session.rt, subject, path, out)?;
                 }
                 EachQuestion::Digest => {
                     warn(session.rt, &subject, path, err)?;
@@ -127,7 +129,7 @@ fn answer_about<T: Files + Threads + Sync, C: Sink, E: Sink>(
             }
             Ok(DONE)
         }
-        Loaded::Unreadable(unreadable) => match question {
+        ReadFile::Unreadable(unreadable) => match question {
             EachQuestion::Info => {
                 file.print_heading(out)?;
                 print_info_unreadable(session.alloc, &unreadable, path, out)?;

@@ -1,11 +1,12 @@
 //! The program.
 
-ghost use Rattle.std.specs.Prelude.{◌≡◌, ◌<◌, ◌≤◌, ◌∷◌, [], false, true, length, map, List, Some};
+ghost use Rattle.std.specs.Prelude.{◌≡◌, ◌<◌, ◌≤◌, ◌∷◌, [], Bool, List, Some};
+ghost use Rattle.std.specs.Prelude.{false, true, length, map};
 ghost use Rattle.std.specs.Prelude.{IfErr, IfOk, codes, string_bytes};
 ghost use Rattle.clap.specs.Words.{Row, kind_of, subcommand_of, subcommand_rows_of, takes};
 ghost use Rattle.sqz_look_args.specs.CommandLine.{look_line};
 ghost use Rattle.sqz_look_args.specs.Requests.{AsksCheck, HasCommand, given, has_flag};
-ghost use Rattle.sqz_look_cli.specs.Checks.{AreChecked};
+ghost use Rattle.sqz_look_cli.specs.Verdicts.{AreChecked};
 ghost use Rattle.sqz_look_cli.specs.Endings.{HasPassedOn};
 ghost use Rattle.sqz_look_cli.specs.Warnings.{IsSilent};
 ghost use Rattle.sqz_trace.specs.declared.weak.Weak.{Weak};
@@ -17,7 +18,7 @@ use crate::messages::{print_fault, print_message, print_names};
 use clap::error::ErrorKind;
 use clap::{ArgMatches, Error};
 use sqz_cli::{BAD_ARGUMENTS, DONE, explain};
-use sqz_image::{Fault, Sink};
+use sqz_image::{Fault, Sink, write_all};
 use sqz_look_args::{BadRequest, Request, command};
 use std::alloc::Global;
 use std::rt::Files;
@@ -42,12 +43,10 @@ pub fn look<T: Files + Threads + Sync, C: Sink, E: Sink>(
     ensures exits { result ≤ 4 }
     ensures check { (rows : List Row) → AsksCheck (map string_bytes words.now) rows → result ≤ 1
         → AreChecked T.File.remaining (weak_of (has_flag (codes "clear-weak") rows))
-        (length (given (codes "IMAGE") rows)) result }
-    ensures answered { takes look_line (map string_bytes words.now) ≡ true → result ≡ 0
-        → HasPassedOn (C.state out.new) }
-    ensures whole { result ≡ 0 → (C.state out.new).failed ≡ false }
+        (has_flag (codes "past-damage") rows) (length (given (codes "IMAGE") rows)) result }
+    ensures whole { result ≡ 0 → HasPassedOn (C.state out.new) }
     ensures silent { result ≡ 0
-        → (weak : Weak) × IsSilent T.File.remaining weak err.old err.new }
+        → (weak : Weak) × (past : Bool) × IsSilent T.File.remaining weak past err.old err.new }
 {
     match matches_of(alloc, words) {
         Ok(matches) => {
@@ -84,7 +83,7 @@ fn matches_of<'a>(alloc: Global, words: &'a [String]) -> Result<ArgMatches<'a>, 
 fn explain_words<C: Sink, E: Sink>(error: &Error, out: &mut C, err: &mut E) -> u8
     ensures exits { result ≤ 4 }
     ensures memory { kind_of error.now ≡ ErrorKind.OutOfMemory → result ≡ 4 }
-    ensures whole { result ≡ 0 → (C.state out.new).failed ≡ false }
+    ensures whole { result ≡ 0 → HasPassedOn (C.state out.new) }
     ensures silent { result ≡ 0 → err.new ≡ err.old }
 {
     if error.kind() == ErrorKind::OutOfMemory {
@@ -94,7 +93,7 @@ fn explain_words<C: Sink, E: Sink>(error: &Error, out: &mut C, err: &mut E) -> u
         print_names(None, err);
     }
     let exit = explain(error, out, err);
-    if exit == DONE && out.failed() {
+    if exit == DONE && write_all(out, b"").is_err() {
         return print_fault(None, &Fault::WriteFailed, err);
     }
     exit
@@ -115,10 +114,10 @@ fn answer_matches<T: Files + Threads + Sync, C: Sink, E: Sink>(
         → subcommand_rows_of asked.entry.matches.now ≡ Some (codes "check", rows)
         → result ≤ 1
         → AreChecked T.File.remaining (weak_of (has_flag (codes "clear-weak") rows))
-        (length (given (codes "IMAGE") rows)) result }
+        (has_flag (codes "past-damage") rows) (length (given (codes "IMAGE") rows)) result }
     ensures whole { result ≡ 0 → HasPassedOn (C.state out.new) }
     ensures silent { result ≡ 0
-        → (weak : Weak) × IsSilent T.File.remaining weak err.old err.new }
+        → (weak : Weak) × (past : Bool) × IsSilent T.File.remaining weak past err.old err.new }
 {
     match Request::of(alloc, asked.matches, asked.apart) {
         Ok(request) => answer_request(rt, alloc, &request, out, err),

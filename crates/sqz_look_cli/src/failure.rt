@@ -1,7 +1,7 @@
 //! Why a question has no answer.
 
 ghost use Rattle.std.specs.Prelude.{◌≡◌};
-ghost use Rattle.sqz_look_cli.specs.Failures.{failure_of_printing};
+ghost use Rattle.sqz_look_cli.specs.Failures.{IsReadFailure, failure_of_printing};
 ghost use Rattle.sqz_look_cli.specs.declared.failure.Failure.TheVariants.{OutOfMemory};
 
 use crate::loading::LoadError;
@@ -33,6 +33,8 @@ impl From<AllocError> for Failure {
 }
 
 impl From<LoadError> for Failure {
+    ghost from_gives = { λ _ failure. IsReadFailure failure };
+
     fn from(error: LoadError) -> Failure {
         match error {
             LoadError::OutOfMemory => Failure::OutOfMemory,

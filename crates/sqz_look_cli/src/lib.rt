@@ -10,6 +10,7 @@ mod entry_point;
 mod failure;
 mod lines;
 mod loading;
+mod mending;
 mod messages;
 mod objects;
 mod quiet_pipe;

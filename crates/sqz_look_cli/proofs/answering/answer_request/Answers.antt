@@ -15,20 +15,20 @@ returns-clause-accepted g c =
 
 pub returns-clause-ends : goal.returns-clause-ends
 returns-clause-ends g c =
-    let checked = rw c.clear_if-weak.ensures at c.answer-answered.ensures.check in
+    let checked = rw (c.clear_if-weak.ensures, c.looks_past_damage.ensures) at c.answer-answered.ensures.check in
     record {
       outcome = c.pass_on-outcome.result;
       exit_is = c.finish.ensures.exit;
       whole = HasPassedOn-written _ _ _ _ c.pass_on-outcome.ensures.written;
-      checked = checks_passed _ _ c.pass_on-outcome.ensures.outcome _ _ c.args.request.now.question checked;
+      checked = checks_passed _ _ c.pass_on-outcome.ensures.outcome _ _ _ c.args.request.now.question checked;
     }
 
 pub returns-clause-check : goal.returns-clause-check
 returns-clause-check g c =
-    let checked = rw c.clear_if-weak.ensures at c.answer-answered.ensures.check in
+    let checked = rw (c.clear_if-weak.ensures, c.looks_past_damage.ensures) at c.answer-answered.ensures.check in
     let question = c.args.request.now.question in
-    checked_at_one _ _ question c.pass_on-outcome.result _ c.finish.ensures.exit
-    (checks_passed _ _ c.pass_on-outcome.ensures.outcome _ _ question checked)
+    checked_at_one _ _ _ question c.pass_on-outcome.result _ c.finish.ensures.exit
+    (checks_passed _ _ c.pass_on-outcome.ensures.outcome _ _ _ question checked)
 
 pub returns-clause-whole : goal.returns-clause-whole
 returns-clause-whole g c =
@@ -37,7 +37,7 @@ returns-clause-whole g c =
 
 pub returns-clause-silent : goal.returns-clause-silent
 returns-clause-silent g c zero =
-    let silent = rw c.clear_if-weak.ensures at c.answer-answered.ensures.silent in
-    IsSilent-then _ _ _ _ _
+    let silent = rw (c.clear_if-weak.ensures, c.looks_past_damage.ensures) at c.answer-answered.ensures.silent in
+    IsSilent-then _ _ _ _ _ _
     (silent_at_zero _ _ _ c.pass_on-outcome.ensures.outcome silent (sym c.finish.ensures.exit ∙ zero))
     (inl (c.finish.ensures.silent zero))

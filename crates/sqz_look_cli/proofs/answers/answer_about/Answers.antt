@@ -1,14 +1,14 @@
 use Rattle.std.proofs.Common.{ap, ◌∙◌}
 use Rattle.sqz_image.specs.Objects.{SavedImage}
-use Rattle.sqz_look_cli.proofs.WarningLemmas.{IsSilent-warned}
+use Rattle.sqz_look_cli.proofs.WarningLemmas.{IsSilent-read}
 use Rattle.sqz_look_cli.proofs.answers.answer_about.Goals as goal
 
 pub returns-in_ok-exit-in-Image-clause-silent : goal.returns-in_ok-exit-in-Image-clause-silent
 returns-in_ok-exit-in-Image-clause-silent g c zero =
-    let loaded = rw c.in-Image.is at c.in_ok-image.ensures in
+    let was_read = rw c.in-Image.is at c.in_ok-read.ensures.read in
     let known = c.in_ok-subject-in-Image in
     let live = known.subject.live in
     let same_memory = known.subject.one_heap ∙ ap (λ (image : SavedImage). image.memory) known.ensures.image in
     rw (c.in_ok-exit-in-Image.ensures.silent zero)
-    (IsSilent-warned _ _ c.in-Image.image _ _ live.marks _ _ loaded same_memory known.ensures.weak live.reachable
+    (IsSilent-read _ _ _ c.in-Image.read _ _ live.marks _ _ _ was_read same_memory known.ensures.weak live.reachable
     c.warn.ensures)

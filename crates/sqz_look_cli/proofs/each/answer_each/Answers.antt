@@ -13,7 +13,7 @@ loop-path-preserved g c =
     let worst : c.max-exit.result ≡ max c.loop-path.exit one.field-0 = search rules in
     rw worst (
       IsAnswerExit-max _ _ so_far.0 one.ensures.exits,
-      λ zero. IsSilent-then _ _ _ _ _ (so_far.1 (omega arith)) (one.ensures.silent (omega arith)),
+      λ zero. IsSilent-then _ _ _ _ _ _ (so_far.1 (omega arith)) (one.ensures.silent (omega arith)),
     )
 
 pub returns-clause-exits : goal.returns-clause-exits

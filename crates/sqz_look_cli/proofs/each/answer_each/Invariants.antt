@@ -5,4 +5,4 @@ use Rattle.sqz_look_cli.proofs.each.answer_each.Given as goal
 
 abbrev pub invariant-loop-path : goal.invariant-loop-path
 invariant-loop-path g l =
-    IsAnswerExit l.exit × (l.exit ≡ 0 → IsSilent g.T.File.Read.remaining l.session.weak l.initial.err l.err)
+    IsAnswerExit l.exit × (l.exit ≡ 0 → IsSilent g.T.File.Read.remaining l.session.weak l.session.past_damage l.initial.err l.err)
