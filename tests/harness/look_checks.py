@@ -48,7 +48,7 @@ class Asking:
     def of_image(self):
         """The questions about the whole image."""
         answers, path = self.answers, self.path
-        status = 1 if answers.faults else 0
+        status = 1 if answers.defects else 0
         return [
             self.question("check", rows=[answers.check(path)], status=status),
             self.question("check", "--all", rows=[answers.check(path, True)], status=status),

@@ -6,7 +6,19 @@ import os
 from tests.harness.programs import SQZLOOK, run
 
 CLEAR = ("--clear-weak",)
-COMMANDS = ("check", "info", "census", "digest", "list", "show", "why", "refs", "top", "diff")
+COMMANDS = (
+    "check",
+    "mend",
+    "info",
+    "census",
+    "digest",
+    "list",
+    "show",
+    "why",
+    "refs",
+    "top",
+    "diff",
+)
 
 
 def look(*words, folder=None, **how):

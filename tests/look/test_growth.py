@@ -119,6 +119,9 @@ class GrowthTest(ProgramTest):
     def test_shared_literals(self):
         self.check_growth("shared_literals")
 
+    def test_nested_literals(self):
+        self.check_growth("nested_literals")
+
     def test_one_method(self):
         self.check_growth("one_method")
 

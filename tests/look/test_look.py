@@ -14,6 +14,7 @@ from tests.harness.worked_images import IMAGES, name_of, unreadable_paths
 from tests.making.random_images import random_files
 from tests.making.seed import SEED
 from tests.reference.answers import unreadable_check, unreadable_info
+from tests.reference.damage import readable
 from tests.reference.faults import Fault, cause
 from tests.reference.file_format import HEADER_WORDS, PREFIX, VERSION, words_of
 from tests.reference.image import Image
@@ -123,7 +124,8 @@ class UnreadableImagesTest(LookTest):
             fault = fault_of(file, path.with_suffix(".fault").read_bytes(), header)
             row = fault.row(header[1] if header else 0)
             known = header_row(*header) if header else None
-            checked, informed = unreadable_check(name, row), unreadable_info(name, row, known)
+            past = readable(file) if fault.number in (6, 7, 8, 9) else None
+            checked, informed = unreadable_check(name, row, past), unreadable_info(name, row, known)
             questions.append(Question(("check", "--json", name), [checked], 1))
             questions.append(Question(("check", "--all", "--json", name), [checked], 1))
             questions.append(Question(("info", "--json", name), [informed], 1))

@@ -23,6 +23,7 @@ class LookArgumentsTest(DeadArrayTest):
             "no object": ("show", "in"),
             "no class": ("list", "in"),
             "no order": ("list", "--by", "name", "in", "Point"),
+            "no group": ("top", "--by", "retained", "in"),
         }.items():
             with self.subTest(name):
                 outcome = self.look(*words)

@@ -69,21 +69,22 @@ class LookFaultsTest(PreloadTest):
                 self.check_allocations(functions, args)
 
     def test_allocations_of_two_images(self):
-        """The row of the first image is printed even if memory runs out at the second one.
-
-        A message has no path, since it could be that of either."""
+        """Each image has a row, even if memory runs out at one of them."""
         words = ("check", *(str(IMAGES / name) for name in TWO_IMAGES))
         whole = look(*words)
         self.assert_quiet(whole)
         first, second = whole.stdout.splitlines(keepends=True)
         self.assertNotEqual(first, second)
+        large = [f"{path}: {NO_MEMORY}\n".encode() for path in words[1:]]
         printed = collections.Counter()
         for outcome in self.failing(self.fail_allocations, SQZLOOK, *words):
             if outcome != whole:
                 self.assertEqual(outcome.status, 4)
-                self.assertRegex(outcome.stderr.decode(), rf"\A(sqzlook: )?{NO_MEMORY}\n\Z")
+                if outcome.stderr:
+                    self.assertRegex(outcome.stderr.decode(), rf"\A(sqzlook: )?{NO_MEMORY}\n\Z")
                 printed[outcome.stdout] += 1
-        self.assertEqual(set(printed), {b"", first})
+        rows = {b"", large[0] + second, first + large[1]}
+        self.assertEqual(set(printed), rows)
         self.assertGreater(min(printed.values()), 3)
 
     def test_failed_reads(self):
@@ -109,6 +110,9 @@ class LookFaultsTest(PreloadTest):
         for outcome in self.failing_looks(self.fail_allocations, args, "first_failed"):
             if outcome == whole:
                 ends[self.requester(functions)] += 1
+            elif args == CHECK and outcome.stdout:
+                self.assertEqual(outcome, self.too_large(args))
+                ends[FAULT] += 1
             else:
                 self.assert_ends_with(outcome, 4, NO_MEMORY, args)
                 self.assertEqual(outcome.stdout, b"")
@@ -116,6 +120,11 @@ class LookFaultsTest(PreloadTest):
         self.assertGreater(ends[FAULT], 10)
         self.assertEqual(ends[OTHER], RESERVATIONS)
         self.assertLessEqual(set(ends), {FAULT, OTHER, START})
+
+    def too_large(self, args):
+        """The end of a check of an image for which memory ran out."""
+        (path,) = paths_in(args)
+        return Outcome(4, stdout=f"{path}: {NO_MEMORY}\n".encode())
 
     def not_read(self, args, path):
         """The end of a run that cannot read an image. `check` has a line about it."""

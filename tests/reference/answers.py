@@ -6,7 +6,7 @@ import typing
 from tests.reference.faults import Defects
 from tests.reference.fields import SPECIAL_NAMES, AssociationField
 from tests.reference.names import Names, escaped
-from tests.reference.objects import compact_index, format_of, has_bytes, traced_end
+from tests.reference.objects import Format, compact_index, format_of, has_bytes, traced_end
 from tests.reference.reachability import Reachability
 from tests.reference.values import method_of, preview, signed, value_of
 
@@ -41,10 +41,17 @@ class Answers:
         """All faults of the image and its live objects."""
         return Defects(self.names).faults()
 
-    @functools.cached_property
-    def faults(self):
-        """The rows of these faults."""
-        return [fault.row(len(self.image.prefix)) for fault in self.defects]
+    def faults(self, show_all=False):
+        """The rows of these faults, or that of the first. Only one fault alone has a path."""
+        found = self.defects if show_all else self.defects[:1]
+        rows = []
+        for fault in found:
+            row = {**fault.row(len(self.image.prefix)), "owner": self.owner(fault)}
+            number = fault.number_of_object
+            if len(found) == 1 and number is not None and row["owner"] is None:
+                row["path"] = self.path(number)
+            rows.append(row)
+        return rows
 
     def is_live(self, number):
         return number in self.reach.found
@@ -57,11 +64,12 @@ class Answers:
     def check(self, path, show_all=False):
         return {
             "image": path,
-            "sound": not self.faults,
+            "sound": not self.defects,
             "objects": len(self.image.objects),
             "live_objects": len(self.live),
             "live_bytes": self.reach.live_bytes,
-            "faults": self.faults if show_all else self.faults[:1],
+            "faults": self.faults(show_all),
+            "readable": None,
         }
 
     def info(self, path):
@@ -78,7 +86,7 @@ class Answers:
             "live_bytes": self.reach.live_bytes,
             "dead_bytes": sum(self.reach.sizes) - self.reach.live_bytes,
             "free_chunks": self.free_chunks(),
-            "fault": self.faults[0] if self.faults else None,
+            "fault": next(iter(self.faults()), None),
         }
 
     def free_chunks(self):
@@ -252,6 +260,40 @@ class Answers:
             return {"slot": field, "name": SPECIAL_NAMES.get(field)}
         return {"slot": field, "name": self.names.field_name(number, field)}
 
+    def slot_text(self, owner, place):
+        """A slot as text."""
+        row = self.slot_name(owner, place)
+        field, name = row["slot"], row["name"]
+        if field == "class":
+            return field
+        if owner == self.image.special:
+            return f"special object {field}" + (f", {name}" if name else "")
+        if name is not None:
+            return f".{name}"
+        if (method := method_of(self.image, owner)) is not None and field <= method["literals"]:
+            return f"literal {field}" if field else "header"
+        first = self.first_indexed(owner)
+        return f"field {field}" if first is None or field < first else f"[{field - first + 1}]"
+
+    def first_indexed(self, number):
+        """The first indexed field of an object, if it has such fields."""
+        header = self.image.header_of(number)
+        if format_of(header) == Format.INDEXED:
+            return 0
+        if format_of(header) not in (Format.FIXED_AND_INDEXED, Format.WEAK):
+            return None
+        a_class = self.names.class_of(number)
+        fixed = None if a_class is None else self.image.fixed_fields(a_class)
+        return None if fixed is None or fixed < 0 else fixed
+
+    def owner(self, fault):
+        """The name of the object at fault with the slot, if the object has a name."""
+        number = fault.number_of_object
+        if number is None or not self.names.has_name(number):
+            return None
+        label, base = self.names.label(number), self.image.objects[number].base
+        return label if fault.place == base else f"{label}, {self.slot_text(number, fault.place)}"
+
     def is_weak(self, number, place):
         """Whether this data word is a weak field of an object."""
         weak = self.image.first_weak(number)
@@ -315,8 +357,9 @@ class Answers:
         ]
 
 
-def unreadable_check(path, fault):
-    """The row of `check` about an image that cannot be read for this fault, itself a row."""
+def unreadable_check(path, fault, readable=None):
+    """The row of `check` about an image that cannot be read for this fault, itself a row, with how
+    much can be read past damage."""
     return {
         "image": path,
         "sound": False,
@@ -324,6 +367,7 @@ def unreadable_check(path, fault):
         "live_objects": None,
         "live_bytes": None,
         "faults": [fault],
+        "readable": readable,
     }
 
 

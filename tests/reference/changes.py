@@ -9,8 +9,9 @@ import typing
 from tests.reference.alike import first_difference
 from tests.reference.fields import AssociationField, ClassField, OrganizerField
 from tests.reference.file_format import bytes_of
+from tests.reference.literals import Literals
 from tests.reference.names import STRINGS, SYMBOLS, escaped
-from tests.reference.objects import Format, format_of, has_bytes, traced_end
+from tests.reference.objects import Format, format_of, traced_end
 from tests.reference.partners import Partners
 from tests.reference.tree import Tree
 from tests.reference.values import signed
@@ -27,12 +28,8 @@ PARTS = "superclass", "instance_variables", "category"
 ORGANIZATION = b"SystemOrganization"
 # Names that are printed without quotes.
 PLAIN = re.compile(r"(?!none\Z)\w+", re.ASCII)
-# The elements of an array in a literal are compared down to this depth.
-DEPTH = 3
 # A last byte of at least this says that the last four bytes of a method are a source pointer.
 SOURCE_FLAG, SOURCE_BYTES = 252, 4
-# The formats of objects whose fields are words.
-WORD_FORMATS = range(5, 8)
 
 
 class Size(typing.NamedTuple):
@@ -128,6 +125,7 @@ class Side:
     def __init__(self, tree):
         self.tree, self.answers, self.names = tree, tree.answers, tree.names
         self.image = self.answers.image
+        self.literals = Literals(self.image, self.names)
 
     @classmethod
     def of(cls, answers):
@@ -184,6 +182,14 @@ class Side:
 
     @functools.cached_property
     def categories(self):
+        """The text of the category of each listed name of a class."""
+        return {
+            name: None if category is None else self.text(category)
+            for name, category in self.category_objects.items()
+        }
+
+    @functools.cached_property
+    def category_objects(self):
         """The category of each listed name of a class, if it is a string or a symbol."""
         names, found = self.names, {}
         organizers = [
@@ -209,7 +215,7 @@ class Side:
             if listed is not None and listed not in found:
                 category = categories[place] if place < len(categories) else None
                 is_text = category is not None and names.class_name(category) in STRINGS + SYMBOLS
-                found[listed] = self.text(category) if is_text else None
+                found[listed] = category if is_text else None
         return found
 
     @functools.cached_property
@@ -296,33 +302,8 @@ class Side:
         data = bytes_of(words[end : it.end], self.image.order)
         padding = format_of(words[it.base]) - Format.METHOD
         bytecodes = without_trailer(data[: max(0, len(data) - padding)])
-        literals = tuple(self.literal(word, DEPTH) for word in words[first + 1 : end])
+        literals = tuple(self.literals.value(word) for word in words[first + 1 : end])
         return tuple(words[first : first + 1][: it.end - first]), literals, bytecodes
-
-    @functools.cache
-    def literal(self, word, depth):
-        """What a literal is compared by, if arrays are compared down to a depth."""
-        if word & 1:
-            return "integer", signed(word)
-        number = self.image.numbers.get(word)
-        if number is None:
-            return ("bad",)
-        names = self.names
-        if any(
-            number in named
-            for named in (names.constants, names.class_labels, names.methods, names.variables)
-        ):
-            return "named", names.label(number)
-        header, name = self.image.header_of(number), names.class_name(number)
-        it = self.image.objects[number]
-        fields = self.image.words[it.base + 1 : it.end]
-        if has_bytes(header):
-            return "bytes", name, self.image.text(number)
-        if format_of(header) in WORD_FORMATS:
-            return "words", name, tuple(fields)
-        if format_of(header) == Format.INDEXED and depth > 0:
-            return "array", name, tuple(self.literal(field, depth - 1) for field in fields)
-        return "other", name
 
 
 def changes_of(old, new):
@@ -471,9 +452,8 @@ class Changes:
                 for side, it in self.differing()
             )
             yield f"first difference: {old} -> {new}"
-            matchables = self.partners.old, self.partners.new
-            for name, matchable, (side, it) in zip(("old", "new"), matchables, self.differing()):
-                yield f"  {name}: " + path_line(side, matchable.slot_text, it)
+            for name, (side, it) in zip(("old", "new"), self.differing()):
+                yield f"  {name}: " + path_line(side, side.answers.slot_text, it)
 
     def class_line(self, change):
         old, new = (it.objects if it else 0 for it in (change.old, change.new))

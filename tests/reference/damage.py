@@ -9,10 +9,13 @@ Among readings that contradict equally many, the best one skips the fewest words
 import array
 import typing
 
+from tests.reference.file_format import HEADER_WORDS, VERSION, bytes_of, words_of
 from tests.reference.objects import FREE, HEADER_TYPES
 
 # What a gap costs, in contradicted votes.
 GAP_VOTES = 16
+# The sizes of a header and of what may stand before it, in bytes.
+HEADER, PREFIX_SIZE = 4 * HEADER_WORDS, 512
 
 
 class Gap(typing.NamedTuple):
@@ -85,3 +88,65 @@ def mended_words(base, words):
     for gap in gaps_of(base, words):
         mended[gap.first] = 4 * gap.words + FREE
     return mended
+
+
+class Mended(typing.NamedTuple):
+    """What becomes of a damaged file: its bytes, the gaps, the bytes that are missing, and where
+    the data begin."""
+
+    file: bytes
+    gaps: list
+    missing: int
+    start: int
+
+
+def header_of(file):
+    """The byte order, the offset and the words of the header, or None if the file has none."""
+    for offset in (0, PREFIX_SIZE):
+        for order in ("little", "big"):
+            if int.from_bytes(file[offset : offset + 4], order) == VERSION:
+                header = file[offset : offset + HEADER]
+                return (order, offset, words_of(header, order)) if len(header) == HEADER else None
+    return None
+
+
+def mend_file(file):
+    """The file as it is mended, or None if its header has a fault."""
+    found = header_of(file)
+    if found is None:
+        return None
+    order, offset, header = found
+    size, base = header[2], header[3]
+    if header[1] != HEADER or size % 4 or base % 4 or base + size > 1 << 32:
+        return None
+    start = offset + HEADER
+    there = min(size, len(file) - start) // 4 * 4
+    words = words_of(file[start : start + there], order)
+    gaps, missing = gaps_of(base, words), size - there
+    if not gaps and not missing:
+        return Mended(file, gaps, missing, start)
+    for gap in gaps:
+        words[gap.first] = 4 * gap.words + FREE
+    header[2] = there
+    data = bytes_of(header, order) + bytes_of(words, order)
+    return Mended(file[:offset] + data + file[start + there :], gaps, missing, start)
+
+
+def readable(file):
+    """How much can be read of a file whose data cannot be read as they are, or None if no special
+    objects array can be read."""
+    it = mend_file(file)
+    if it is None:
+        return None
+    order, offset, header = header_of(it.file)
+    base, special, at, objects, found = header[3], header[4], 0, 0, False
+    words = words_of(it.file[it.start : it.start + header[2]], order)
+    while at < len(words):
+        place, end = chunk_at(words, at)
+        if words[at] & 3 != FREE:
+            objects += 1
+            found = found or base + 4 * place == special
+        at = end
+    size = 4 * sum(gap.words for gap in it.gaps)
+    known = {"unreadable_bytes": size, "missing_bytes": it.missing, "objects": objects}
+    return known if found else None

@@ -38,6 +38,7 @@ class Fault(typing.NamedTuple):
     address: str | None = None
     place: int | None = None
     cause: dict | None = None
+    number_of_object: int | None = None
 
     def byte(self, prefix):
         """The offset of the data word in a file that has `prefix` bytes before the image."""
@@ -51,6 +52,8 @@ class Fault(typing.NamedTuple):
             "address": self.address,
             "byte": self.byte(prefix),
             "cause": self.cause,
+            "owner": None,
+            "path": None,
         }
 
     def line(self, prefix):
@@ -111,13 +114,13 @@ class Defects:
         it, address = self.image.objects[number], self.names.address(number)
         header = self.image.header_of(number)
         if it.base == it.first and compact_index(header) == 0:
-            return Fault(11, f"no class for object {address}", address, it.base)
+            return Fault(11, f"no class for object {address}", address, it.base, None, number)
         if self.states_bad_end(number) and is_method(header):
-            return Fault(12, f"bad method {address}", address, it.base)
+            return Fault(12, f"bad method {address}", address, it.base, None, number)
         if self.states_bad_end(number) and is_context(header):
-            return Fault(13, f"bad context {address}", address, it.base)
+            return Fault(13, f"bad context {address}", address, it.base, None, number)
         if self.clear_weak and format_of(header) == Format.WEAK and self.is_bad_weak(number):
-            return Fault(20, f"bad weak object {address}", address, it.base)
+            return Fault(20, f"bad weak object {address}", address, it.base, None, number)
         return self.bad_pointer(number)
 
     def states_bad_end(self, number):
@@ -140,7 +143,7 @@ class Defects:
                 slot = "class" if place < it.base else f"field {place - it.base - 1}"
                 text = f"bad pointer in object {address}, {slot}"
                 cause = {"word": f"{word:08x}", "near": self.neighbour(word)}
-                return Fault(14, text, address, place, cause)
+                return Fault(14, text, address, place, cause, number)
         return None
 
     def slots(self, it):

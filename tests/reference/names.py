@@ -202,6 +202,10 @@ class Names:
             return self.variables[number]
         return self.own_label(number)
 
+    def has_name(self, number):
+        """Whether the label of an object is more than its class and its address."""
+        return self.label(number) != f"{self.class_name(number)} {self.address(number)}"
+
     def own_label(self, number):
         """The label of an object that nothing names."""
         name, data = self.class_name(number), self.image.text(number)

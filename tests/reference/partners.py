@@ -6,7 +6,6 @@ import functools
 from tests.reference.fields import AssociationField
 from tests.reference.names import escaped
 from tests.reference.objects import Format, format_of, has_bytes, is_context, is_method, traced_end
-from tests.reference.values import method_of
 
 # The numbers of references to a holder that are printed.
 REFERRERS = 2
@@ -78,22 +77,6 @@ class Matchable:
         """The object of each name that only one object has."""
         counts = collections.Counter(name for name, _ in self.named)
         return {name: number for name, number in self.named if counts[name] == 1}
-
-    def slot_text(self, owner, place):
-        """A slot as text."""
-        answers, image = self.answers, self.image
-        row = answers.slot_name(owner, place)
-        field, name = row["slot"], row["name"]
-        if field == "class":
-            return field
-        if owner == image.special:
-            return f"special object {field}" + (f", {name}" if name else "")
-        if name is not None:
-            return f".{name}"
-        if (method := method_of(image, owner)) is not None and field <= method["literals"]:
-            return f"literal {field}" if field else "header"
-        first = first_indexed(self, owner)
-        return f"field {field}" if first is None or field < first else f"[{field - first + 1}]"
 
 
 class Partners:
@@ -192,16 +175,4 @@ class Partners:
         """A slot as text, with what it is in."""
         side = self.new.side
         address, label = side.names.address(owner), side.tree.short_label(owner)
-        return f"{self.new.slot_text(owner, place)} of {address} {label}"
-
-
-def first_indexed(matchable, number):
-    """The first indexed field of an object, if it has such fields."""
-    header = matchable.image.header_of(number)
-    if format_of(header) == Format.INDEXED:
-        return 0
-    if format_of(header) not in (Format.FIXED_AND_INDEXED, Format.WEAK):
-        return None
-    a_class = matchable.side.names.class_of(number)
-    fixed = None if a_class is None else matchable.image.fixed_fields(a_class)
-    return None if fixed is None or fixed < 0 else fixed
+        return f"{self.new.answers.slot_text(owner, place)} of {address} {label}"

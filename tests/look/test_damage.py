@@ -1,0 +1,194 @@
+"""Runs `sqzlook` on damaged images: `mend`, and other commands with `--past-damage`."""
+
+import array
+import random
+
+from tests.harness.json_rows import rows_of
+from tests.harness.look_checks import LookTest
+from tests.harness.saved_image import SavedImageTest
+from tests.harness.sqzlook import look
+from tests.harness.worked_images import bytes_at, worked_paths
+from tests.making.random_images import random_files
+from tests.making.seed import SEED
+from tests.reference.damage import mend_file
+from tests.reference.file_format import HEADER_WORDS, VERSION, bytes_of
+
+HEADER = 4 * HEADER_WORDS
+SECTOR = 512
+# Random damages of small images.
+DAMAGES = 400
+
+
+def skipped_row(it, path):
+    """The line of JSON about what was skipped."""
+    skipped = [
+        {"word": gap.first, "byte": it.start + 4 * gap.first, "bytes": 4 * gap.words}
+        for gap in it.gaps
+    ]
+    return {"image": path, "skipped": skipped, "missing_bytes": it.missing}
+
+
+def skipped_line(it, path):
+    """The line of text about what was skipped."""
+    parts = []
+    if it.gaps:
+        first, size = it.gaps[0].first, 4 * sum(gap.words for gap in it.gaps)
+        count = f" in {len(it.gaps)} gaps, the first" if len(it.gaps) > 1 else ""
+        parts.append(f"skipped {size} bytes{count} at word {first} (byte {it.start + 4 * first})")
+    if it.missing:
+        parts.append(f"{it.missing} bytes of the data are missing at the end")
+    return f"sqzlook: {path}: {'; '.join(parts)}\n"
+
+
+class SmallDamageTest(LookTest):
+    """Small images of which some words or bytes were changed."""
+
+    def assert_mended(self, name, file):
+        """Checks what `mend` makes of a file. Returns what it should make of it."""
+        self.write(name, file)
+        outcome, it = look("mend", name, folder=self.folder), mend_file(file)
+        if it is None:
+            self.assertEqual((outcome.status, outcome.stdout), (1, b""))
+            return None
+        self.assertEqual((outcome.status, outcome.stdout), (0, it.file))
+        warnings = skipped_line(it, name) if it.gaps or it.missing else ""
+        self.assertEqual(outcome.stderr.decode(), warnings)
+        return it
+
+    def damaged(self, generator, file):
+        """The file with one to three changes: a word, a sector, or its end."""
+        file = bytearray(file)
+        for _ in range(generator.randint(1, 3)):
+            at = generator.randrange(max(1, len(file) // 4)) * 4
+            match generator.randrange(4):
+                case 0:
+                    file[at : at + 4] = generator.randbytes(4)
+                case 1:
+                    file[at : at + 1] = generator.randbytes(1)
+                case 2:
+                    file[at : at + 32] = bytes(len(file[at : at + 32]))
+                case 3:
+                    del file[max(at, len(file) // 2) :]
+        return bytes(file)
+
+    def test_worked_images(self):
+        for path in worked_paths():
+            with self.subTest(path.stem):
+                self.assert_mended("worked.image", bytes_at(path))
+
+    def test_random_damages(self):
+        generator = random.Random(SEED)
+        files = [*map(bytes_at, worked_paths()), *random_files().values()]
+        for number in range(DAMAGES):
+            file = self.damaged(generator, generator.choice(files))
+            with self.subTest(number=number):
+                self.assert_mended("damaged.image", file)
+
+    def test_gap_at_every_other_word(self):
+        # free chunks of one word, each followed by a word that begins no chunk
+        words = array.array("I", [VERSION, HEADER, 0, 0x1000, 0x1000] + [0] * 11)
+        data = array.array("I", [6, 0] * 2000)
+        words[2] = 4 * len(data)
+        it = self.assert_mended("gaps.image", bytes_of(words + data, "little"))
+        self.assertEqual(it.gaps, [(1, len(data) - 1)])
+
+
+class SavedDamageTest(SavedImageTest):
+    """An image that Squeak saved, of which some words or bytes were changed."""
+
+    def setUp(self):
+        super().setUp()
+        self.file = self.image.file()
+        self.sounds = [
+            number for number, it in enumerate(self.image.objects) if it.end - it.first > 200
+        ]
+        self.write("whole.image", self.file)
+
+    def with_base(self, number, change):
+        """The file with another base header of an object."""
+        at = HEADER + 4 * self.image.objects[number].base
+        word = int.from_bytes(self.file[at : at + 4], self.image.order)
+        changed = change(word).to_bytes(4, self.image.order)
+        return self.file[:at] + changed + self.file[at + 4 :]
+
+    def zeroed(self, file, at):
+        """The file with a sector of zeros."""
+        return file[:at] + bytes(SECTOR) + file[at + SECTOR :]
+
+    def damages(self):
+        """Files with damage, by name."""
+        count = len(self.image.objects)
+        middle, later = count // 2, 3 * count // 4
+        short = next(it for it in range(middle, count) if self.has_short_header(it))
+        at = HEADER + 4 * self.image.objects[middle].first
+        other = HEADER + 4 * self.image.objects[later].first
+        cut = HEADER + 4 * self.image.objects[later].first + 4
+        return {
+            "too_large": self.with_base(short, lambda word: word | 63 << 2),
+            "wrong_type": self.with_base(short, lambda word: word & ~3),
+            "zeroed": self.zeroed(self.file, at),
+            "zeroed_twice": self.zeroed(self.zeroed(self.file, at), other),
+            "cut": self.file[: HEADER + 7 * (len(self.file) - HEADER) // 10],
+            "cut_in_a_header": self.file[:cut],
+        }
+
+    def has_short_header(self, number):
+        """Whether an object has one header word and some fields, but less than 60."""
+        it = self.image.objects[number]
+        return it.base == it.first and 4 < it.end - it.first < 60
+
+    def test_damages(self):
+        for name, file in self.damages().items():
+            with self.subTest(name):
+                self.assert_answers_past_damage(f"{name}.image", file)
+
+    def assert_answers_past_damage(self, name, file):
+        """Checks that each command answers past the damage as for the mended file."""
+        it = mend_file(file)
+        self.write(name, file)
+        self.write("mended.image", it.file)
+        self.assertTrue(it.gaps or it.missing)
+        outcome = look("mend", name, folder=self.folder)
+        self.assertEqual((outcome.status, outcome.stdout), (0, it.file))
+        for words in (("info",), ("census",), ("census", "--dead"), ("top",)):
+            plain = look(*words, "--json", "mended.image", folder=self.folder)
+            past = look(*words, "--json", "--past-damage", name, folder=self.folder)
+            (row, *rows), expected = rows_of(past.stdout), rows_of(plain.stdout)
+            for its in (rows, expected):
+                for one in its:
+                    one.pop("image", None)
+            self.assertEqual(row, skipped_row(it, name))
+            self.assertEqual((past.status, rows), (plain.status, expected))
+            self.assertEqual(past.stderr.decode().splitlines(True)[0], skipped_line(it, name))
+        check = look("check", "--past-damage", name, folder=self.folder)
+        self.assertEqual(check.status, 1)
+        diff = look("diff", "--past-damage", "whole.image", name, folder=self.folder)
+        self.assertEqual(diff.status, 1)
+        why = look("why", "--past-damage", name, "Object", folder=self.folder)
+        self.assertEqual(why.status, 0)
+
+    def test_check_says_how_much_can_be_read(self):
+        file = self.damages()["cut"]
+        it = mend_file(file)
+        self.write("cut.image", file)
+        outcome = look("check", "--json", "cut.image", folder=self.folder)
+        (row,) = rows_of(outcome.stdout)
+        size = 4 * sum(gap.words for gap in it.gaps)
+        readable = row["readable"]
+        self.assertEqual((outcome.status, row["faults"][0]["number"]), (1, 6))
+        found = readable["unreadable_bytes"], readable["missing_bytes"]
+        self.assertEqual(found, (size, it.missing))
+        text = look("check", "cut.image", folder=self.folder).stdout.decode()
+        self.assertEqual(
+            text,
+            f"cut.image: fault 6: data are truncated: {it.missing} bytes are missing, {size} bytes "
+            f"cannot be read; {readable['objects']} objects before and after\n",
+        )
+
+    def test_undamaged(self):
+        for words in (("check",), ("census",)):
+            plain = look(*words, "whole.image", folder=self.folder)
+            past = look(*words, "--past-damage", "whole.image", folder=self.folder)
+            self.assertEqual(plain, past)
+        outcome = look("mend", "whole.image", folder=self.folder)
+        self.assertEqual((outcome.status, outcome.stdout, outcome.stderr), (0, self.file, b""))
