@@ -1,8 +1,8 @@
 # Completes the words of sqzlook in bash.
 _sqzlook() {
-  local word=${COMP_WORDS[COMP_CWORD]} options='--clear-weak --human --json --help'
+  local word=${COMP_WORDS[COMP_CWORD]} options='--clear-weak --human --json --past-damage --help'
   if ((COMP_CWORD == 1)); then
-    mapfile -t COMPREPLY < <(compgen -W 'check info census digest list show why refs top diff --help --version' -- "$word")
+    mapfile -t COMPREPLY < <(compgen -W 'check mend info census digest list show why refs top diff --help --version' -- "$word")
     return
   fi
   case ${COMP_WORDS[1]} in
@@ -10,7 +10,7 @@ _sqzlook() {
     list) options+=' --all --by --dead' ;;
     census) options+=' --all --dead --retained' ;;
     why) options+=' --all --raw' ;;
-    top) options+=' --depth --min --folded --svg' ;;
+    top) options+=' --by --depth --min --folded --svg' ;;
   esac
   if [[ $word == -* ]]; then
     mapfile -t COMPREPLY < <(compgen -W "$options" -- "$word")
