@@ -67,7 +67,7 @@ vote-no : (base word k : ℕ) → (word ≡ base + 4 * k → ⊥) → vote base 
 unfolding vote
 vote-no base word k not = rw (ne_eqb word (base + 4 * k) not) refl
 
--- a word does not vote for words behind the one that it votes for
+-- a word does not vote for words after the one that it votes for
 no_more_votes : (base word first count : ℕ) → word < base + 4 * first → sum_from (vote base word) first count ≡ 0
 no_more_votes base word first zero lt = refl
 no_more_votes base word first (suc count) lt =

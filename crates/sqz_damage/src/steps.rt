@@ -17,7 +17,7 @@ use std::alloc::{AllocError, Global};
 /// What a contradicted vote costs. A skipped word costs 1.
 const VOTE: u64 = 1 << 30;
 
-/// What a gap costs beside the words that it skips.
+/// What a gap costs besides the words that it skips.
 const GAP: u64 = 16 * VOTE;
 
 /// Returns for each data word the first step of the best reading from there on, and one step more

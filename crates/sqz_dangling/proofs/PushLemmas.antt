@@ -94,7 +94,7 @@ module _ (memory : Memory) (chunk : List ℕ) where
       (Contains-append_left (front ++ Field index ∷ []) (dangling_among memory chunk rest) (Field index)
       (Contains-append_right front (Field index ∷ []) (Field index) (0, omega arith, refl)))
 
--- ---- patches of slots behind others
+-- ---- patches of slots after others
 
 module _ (nil : Option ℕ) (object : Object) where
   pub ArePushed-none : (items : List Patch) → ArePushed nil object [] items items

@@ -1,4 +1,4 @@
--- The patches of some slots behind others. Private to the crate's functions.
+-- The patches of some slots, appended to others. Private to the crate's functions.
 use Rattle.std.specs.Prelude.{◌≡◌, ℕ, ◌++◌, List, [], map, Option, None, unwrap_or, Contains}
 use Rattle.sqz_image.specs.declared.slot.Slot.{Slot}
 use Rattle.sqz_image.specs.Objects.{Object}
@@ -11,7 +11,7 @@ use Rattle.sqz_dangling.specs.Patches.{slot_patch}
 abbrev pub nil_or_zero : Option ℕ → ℕ
 nil_or_zero nil = unwrap_or nil 0
 
--- the patches of these slots of an object stand behind the old ones; without a nil there are none
+-- the patches of these slots of an object are appended to the old ones; without nil there are none
 pub record ArePushed (nil : Option ℕ) (object : Object) (slots : List Slot) (old new : List Patch) : Type 0 where
   pub pushed : new ≡ old ++ map (slot_patch (nil_or_zero nil) object) slots
   pub needed : nil ≡ None → slots ≡ []

@@ -27,7 +27,7 @@ IsNone-or damage = at damage.gaps.items refl damage.missing refl
     at [] no_gap (suc missing) some = inr (λ none. let bad : suc missing ≡ 0 = sym some ∙ none.complete in cc)
     at (gap ∷ gaps) some missing is = inr (λ none. let bad : gap ∷ gaps ≡ [] = sym some ∙ none.no_gap in cc)
 
--- a file that was not read for want of an image
+-- a file was read that holds no image
 HoldsNone-unread : (bytes : List ℕ) (unread : UnreadFile) → unread.fault ≢ OutOfMemory → IsUnread bytes unread → HoldsNone bytes
 HoldsNone-unread bytes unread known is = (
   unread.fault,
