@@ -3,10 +3,10 @@
 ghost use Rattle.std.specs.Prelude.{◌<◌};
 ghost use Rattle.sqz_image.specs.Objects.{object_count};
 
-use crate::bytecodes::MethodParts;
 use crate::literal_numbers::{LiteralNumbers, object_in};
 use crate::numbers::Numbers;
 use sqz_look_view::Inspector;
+use sqz_methods::{method_literals, method_parts};
 use sqz_object::ObjectIndex;
 use std::alloc::{AllocError, Global};
 use std::collections::BTreeMap;
@@ -43,17 +43,18 @@ impl<'a> Contents<'a> {
         }
         let (alloc, heap) = (inspector.alloc, inspector.live.graph.heap);
         let mut description = Vec::new(alloc);
-        let parts = MethodParts::of(alloc, heap.order(), &heap.object(method))?;
-        description.extend_from_slice(&parts.literals.len().to_le_bytes())?;
-        for literal in parts.literals.iter() {
+        let literals = method_literals(heap, method);
+        description.extend_from_slice(&literals.len().to_le_bytes())?;
+        for literal in literals.iter() {
             if let Some(object) = object_in(heap, literal) {
                 self.literals.add(inspector, numbers, object)?;
             }
             self.literals.describe(heap, literal, &mut description)?;
         }
-        if let Some(header) = parts.header {
+        if let Some(header) = heap.object(method).fields().get(0) {
             description.extend_from_slice(&header.to_le_bytes())?;
         }
+        let parts = method_parts(alloc, heap, method)?;
         description.extend_from_slice(&parts.bytecodes)?;
         let number = numbers.number_of(description)?;
         self.methods.insert(method, number)?;

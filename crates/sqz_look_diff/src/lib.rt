@@ -2,7 +2,6 @@
 //! printed as text or as lines of JSON. Everything is compared by its name, and nothing by address.
 #![tactic(auto)]
 
-mod bytecodes;
 mod classes;
 mod contents;
 mod definition_view;
