@@ -1,6 +1,6 @@
 //! The gaps of the best reading of damaged data words.
 
-ghost use Rattle.std.specs.Prelude.{◌≡◌, ◌+◌, ◌*◌, ◌%◌, ◌^◌, ◌<◌, ◌≤◌, length, IfOk};
+ghost use Rattle.std.specs.Prelude.{◌≡◌, ◌+◌, ◌*◌, ◌^◌, ◌<◌, ◌≤◌, length, IfOk};
 ghost use Rattle.sqz_damage.specs.Readings.{AreBestGaps};
 
 use crate::gap::Gap;
@@ -21,7 +21,6 @@ use std::alloc::{AllocError, Global};
 /// Fails only if out of memory.
 pub fn gaps_of(alloc: Global, base: Address, words: &Words<'_>) -> Result<Vec<Gap>, AllocError>
     requires few { length words.now < 2 ^ 30 }
-    requires aligned { base % 4 ≡ 0 }
     requires within { base + 4 * length words.now ≤ 2 ^ 32 }
     ensures { IfOk result (λ gaps. AreBestGaps base words.now gaps.items) }
 {

@@ -32,14 +32,14 @@ impl Damage {
 
 /// Where the data of a file are, in bytes: the whole words that are there.
 #[derive(Clone, Copy)]
-pub(crate) struct DataRange {
-    pub(crate) start: usize,
-    pub(crate) end: usize,
+pub struct DataRange {
+    pub start: usize,
+    pub end: usize,
 }
 
 impl DataRange {
     /// Returns where the data are in a file with this header.
-    pub(crate) fn of(file: &[u8], header: &Header) -> Self
+    pub fn of(file: &[u8], header: &Header) -> Self
         requires { HasSoundWords file.now header.now }
         ensures start { result.start ≡ data_offset header.now }
         ensures end { result.end ≡ result.start + 4 * length (words_there file.now header.now) }

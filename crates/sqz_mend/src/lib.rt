@@ -5,5 +5,5 @@ mod damage;
 mod mending;
 mod recovery;
 
-pub use damage::{Damage, damage_of};
+pub use damage::{Damage, DataRange, damage_of};
 pub use recovery::{MendedFile, RecoverError, Recovered, mend_file, recover};
