@@ -1,0 +1,98 @@
+-- Files in which no pointer of a live object leads nowhere.
+use Rattle.std.specs.Prelude.{◌≡◌, ◌⊎◌, ℕ, ◌+◌, ◌*◌, ◌<◌, Bool, List, length, take, drop, All, Option, Some, None}
+use Rattle.std.specs.List.{concat}
+use Rattle.sqz_object.specs.Bytes.{words_of}
+use Rattle.sqz_image.specs.declared.fault.Fault.{Fault}
+use Rattle.sqz_image.specs.declared.header.Header.{Header}
+use Rattle.sqz_image.specs.Objects.{SavedImage}
+use Rattle.sqz_image.specs.Refusals.{Holds, IsUnreadable}
+use Rattle.sqz_trace.specs.declared.weak.Weak.{Weak}
+use Rattle.sqz_trace.specs.Faults.{first_fault}
+use Rattle.sqz_trace.specs.Reachability.{IsReachability}
+use Rattle.sqz_dangling.specs.declared.patch.Patch.{Patch}
+use Rattle.sqz_dangling.specs.declared.nil_error.NilError.{NilError}
+use Rattle.sqz_dangling.specs.declared.nil_error.NilError.TheVariants as nil_errors
+use Rattle.sqz_dangling.specs.Patches.{AreNilPatches, IsNilError, patched}
+use Rattle.sqz_mend.specs.Damaged.{HasSoundWords, words_there}
+use Rattle.sqz_mend.specs.Mended.{data_offset}
+use Rattle.sqz_repair.specs.declared.repairing.Repaired.{Repaired}
+use Rattle.sqz_repair.specs.declared.repairing.RepairError.{RepairError}
+use Rattle.sqz_repair.specs.declared.repairing.RepairError.TheVariants.{OutOfMemory, NoImage, NoNil, NoSpecialObjects, Unsound}
+
+-- the file holds an image, and a fact of its first fault is true; the marks are those of its
+-- reachable objects
+pub record HasFirstFault (weak : Weak) (P : Option Fault → Type 0) (bytes : List ℕ) : Type 0 where
+  pub image : SavedImage
+  pub holds : Holds bytes image
+  pub marks : List Bool
+  pub reachable : ∥ IsReachability image.memory weak marks ∥₁
+  pub fault : P (first_fault image.memory weak marks)
+
+-- the file holds an image without a fault for which a compaction rejects it
+abbrev pub IsSound : Weak → List ℕ → Type 0
+IsSound weak bytes = HasFirstFault weak (λ fault. fault ≡ None) bytes
+
+-- a compaction rejects the file for this fault
+abbrev pub HasFault : Weak → List ℕ → Fault → Type 0
+HasFault weak bytes fault = HasFirstFault weak (λ first. first ≡ Some fault) bytes ⊎ IsUnreadable bytes fault
+
+-- the patches of the live objects of the image that the file holds
+pub record ArePatchesOf (weak : Weak) (file : List ℕ) (patches : List Patch) : Type 0 where
+  pub image : SavedImage
+  pub holds : Holds file image
+  pub marks : List Bool
+  pub reachable : ∥ IsReachability image.memory weak marks ∥₁
+  pub exact : AreNilPatches image.memory marks patches
+  pub inside : All (λ patch. patch.word < length (concat image.memory.chunks)) patches
+
+-- the file with these patches in its data words, and all other bytes as they were
+pub record ArePatched (file : List ℕ) (header : Header) (patches : List Patch) (bytes : List ℕ) : Type 0 where
+  pub sized : length bytes ≡ length file
+  pub before : take (data_offset header) bytes ≡ take (data_offset header) file
+  pub words : words_of header.order (take (4 * length (words_there file header)) (drop (data_offset header) bytes))
+      ≡ patched (words_there file header) patches
+  pub rest : drop (data_offset header + 4 * length (words_there file header)) bytes
+      ≡ drop (data_offset header + 4 * length (words_there file header)) file
+
+-- the file with the patches of its live objects
+pub record IsPatchedFile (weak : Weak) (file : List ℕ) (patches : List Patch) (bytes : List ℕ) : Type 0 where
+  pub header : Header
+  pub is_header : HasSoundWords file header
+  pub found : ArePatchesOf weak file patches
+  pub written : ArePatched file header patches bytes
+
+-- the file with the patches of its live objects, which a compaction accepts
+pub record IsRepaired (weak : Weak) (file : List ℕ) (repaired : Repaired) : Type 0 where
+  pub patched : IsPatchedFile weak file repaired.patches.items repaired.bytes.items
+  pub sound : IsSound weak repaired.bytes.items
+
+-- the image that the file holds has no patches
+pub record HasNoPatches (weak : Weak) (file : List ℕ) (error : NilError) : Type 0 where
+  pub image : SavedImage
+  pub holds : Holds file image
+  pub marks : List Bool
+  pub reachable : ∥ IsReachability image.memory weak marks ∥₁
+  pub refused : IsNilError image.memory marks error
+
+-- why there are no patches
+abbrev pub LacksPatches : Weak → List ℕ → RepairError → Type 0
+LacksPatches weak file OutOfMemory = Unit {0}
+LacksPatches weak file (NoImage fault) = IsUnreadable file fault
+LacksPatches weak file NoNil = HasNoPatches weak file nil_errors.NoNil
+LacksPatches weak file NoSpecialObjects = HasNoPatches weak file nil_errors.NoSpecialObjects
+LacksPatches weak file (Unsound fault) = ⊥
+
+-- the file with its patches still has this fault
+pub record StaysFaulty (weak : Weak) (file : List ℕ) (fault : Fault) : Type 0 where
+  pub patches : List Patch
+  pub bytes : List ℕ
+  pub patched : IsPatchedFile weak file patches bytes
+  pub faulty : HasFault weak bytes fault
+
+-- why a file was not repaired
+abbrev pub StopsRepair : Weak → List ℕ → RepairError → Type 0
+StopsRepair weak file OutOfMemory = Unit {0}
+StopsRepair weak file (NoImage fault) = IsUnreadable file fault
+StopsRepair weak file NoNil = HasNoPatches weak file nil_errors.NoNil
+StopsRepair weak file NoSpecialObjects = HasNoPatches weak file nil_errors.NoSpecialObjects
+StopsRepair weak file (Unsound fault) = StaysFaulty weak file fault
