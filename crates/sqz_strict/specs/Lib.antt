@@ -1,3 +1,4 @@
 pub mod Shapes
 pub mod Sets
 pub mod Warnings
+pub mod Findings

@@ -11,6 +11,12 @@ use Rattle.sqz_strict.specs.declared.warning.Warning.TheVariants.{Shape, MethodD
 use Rattle.sqz_strict.specs.Shapes.{misfit}
 use Rattle.sqz_strict.specs.Sets.{class_list, dictionary_list, pool_list, array_list, element_list, is_short, has_no_key}
 
+-- the object that a warning is about
+abbrev pub object_of : Warning → ℕ
+object_of (Shape object stated) = object
+object_of (MethodDictionary object) = object
+object_of (NoKey object) = object
+
 abbrev pub shape_warnings : ℕ → Option ClassShape → List Warning
 shape_warnings object None = []
 shape_warnings object (Some stated) = Shape object stated ∷ []

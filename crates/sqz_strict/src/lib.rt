@@ -3,6 +3,7 @@
 
 mod associations;
 mod class_shape;
+mod findings;
 mod sets;
 mod shapes;
 #[cfg(test)]
@@ -11,5 +12,6 @@ mod warning;
 mod warnings;
 
 pub use class_shape::ClassShape;
+pub use findings::{Findings, findings_of};
 pub use warning::Warning;
 pub use warnings::warnings_of;

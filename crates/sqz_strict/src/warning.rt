@@ -1,5 +1,8 @@
 //! What a virtual machine would trip over.
 
+ghost use Rattle.std.specs.Prelude.{◌≡◌};
+ghost use Rattle.sqz_strict.specs.Warnings.{object_of};
+
 use crate::class_shape::ClassShape;
 use sqz_object::ObjectIndex;
 
@@ -24,4 +27,17 @@ pub enum Warning {
         /// The association.
         object: ObjectIndex,
     },
+}
+
+impl Warning {
+    /// Returns the object that the warning is about.
+    pub fn object(self) -> ObjectIndex
+        ensures { result ≡ object_of self }
+    {
+        match self {
+            Warning::Shape { object, .. }
+            | Warning::MethodDictionary { object }
+            | Warning::NoKey { object } => object,
+        }
+    }
 }
