@@ -2,25 +2,24 @@
 
 Usage: python3 -m bench.draw_compaction [IN OUT] >docs/compaction.svg
 
-If no image is named, it has nil, a dead array, two free words, and the special objects array.
+If no image is named, it is `images/accepted/dead_array.image`: nil, a dead array, and the special
+objects array.
 """
 
-import array
 import pathlib
 import sys
 
+from tests.harness.worked_images import IMAGES
 from tests.reference.fields import SpecialField
-from tests.reference.file_format import BASE, image_file
 from tests.reference.image import Image
 from tests.reference.objects import traced_end
 
-# The place of the first word, and a word's width and height; the tops of the two rows; and the
-# picture's height.
-LEFT, WIDE, HIGH = 70, 80, 34
+# The place of the first word, and a word's width and height; the tops of the two rows and of the
+# legend; and the picture's height.
+LEFT, WIDE, HIGH = 84, 80, 34
 TOPS = (74, 214)
-HEIGHT = 320
-# The data words of the example.
-WORDS = (0x1007, 0x320F, 1, 1, 0xA, 0, 0x320B, BASE)
+LEGEND, HEIGHT = 312, 340
+EXAMPLE = [IMAGES / "accepted" / f"dead_array{end}" for end in (".image", ".out.image")]
 # On a page of any colour the picture has its own, which is white.
 PAGE, TEXT, LIVE, DEAD, MOVE = "#ffffff", "#24292f", "#0550ae", "#57606a", "#9a4a00"
 
@@ -107,9 +106,36 @@ def head_of(name, colour):
     )
 
 
+def sample(left, colour, dashes=""):
+    """A small box of a colour."""
+    return (
+        f'<rect x="{left}" y="{LEGEND}" width="22" height="14" rx="3" fill="{colour}" '
+        f'fill-opacity="0.15" stroke="{colour}"{dashes}/>'
+    )
+
+
+def short_arrow(left, colour, head, width):
+    """A short arrow of a colour."""
+    line = f"M{left} {LEGEND + 7} L{left + 22} {LEGEND + 7}"
+    style = f'stroke="{colour}" stroke-width="{width}" marker-end="url(#{head})"'
+    return f'<path d="{line}" fill="none" {style}/>'
+
+
+def draw_legend():
+    """What boxes and arrows mean."""
+    lefts = [LEFT + 2 + 120 * place for place in range(4)]
+    yield sample(lefts[0], LIVE)
+    yield sample(lefts[1], DEAD, ' stroke-dasharray="5 4"')
+    yield short_arrow(lefts[2], LIVE, "live", 1)
+    yield short_arrow(lefts[3], MOVE, "move", 2)
+    for left, words in zip(lefts, ("live object", "dead object", "pointer", "copied to")):
+        yield words_at(left + 30, LEGEND + 12, words, "start")
+
+
 def draw_row(image, live, top, name):
     """The words of an image, its objects, and the pointers of live ones."""
-    yield words_at(LEFT - 12, top + 22, name, "end")
+    yield words_at(LEFT - 12, top + 16, name, "end")
+    yield words_at(LEFT - 12, top + 32, f"{4 * len(image.words)} bytes", "end")
     yield from draw_free(image, top)
     for number in range(len(image.objects)):
         yield from draw_object(image, number, live[number], top)
@@ -134,15 +160,14 @@ def draw(before, after):
     moved = [it for it, is_live in zip(before.objects, live) if is_live]
     for old, new in zip(moved, after.objects):
         yield arrow(*(LEFT + WIDE * (it.first + it.end) // 2 for it in (old, new)))
+    yield from draw_legend()
     yield "</svg>"
 
 
 def main():
-    files = [pathlib.Path(path).read_bytes() for path in sys.argv[1:3]]
-    if not files:
-        files = [image_file(array.array("I", WORDS), BASE + 4 * (len(WORDS) - 2))]
-    images = [Image.read(file)[0] for file in files]
-    print("\n".join(draw(images[0], images[1] if len(images) > 1 else images[0].compacted())))
+    paths = [pathlib.Path(path) for path in sys.argv[1:3]] or EXAMPLE
+    before, after = (Image.read(path.read_bytes())[0] for path in paths)
+    print("\n".join(draw(before, after)))
 
 
 if __name__ == "__main__":

@@ -4,15 +4,19 @@ use crate::rows::Row;
 use std::alloc::{AllocError, Global};
 
 /// The width of a drawing in pixels.
-pub(crate) const WIDTH: u64 = 1200;
+pub(crate) const WIDTH: u64 = 900;
 
 /// The height of a level, and that of a box: levels have a gap between them.
-pub(crate) const LEVEL_HEIGHT: u64 = 20;
+pub(crate) const LEVEL_HEIGHT: u64 = 40;
 
-pub(crate) const BOX_HEIGHT: u64 = 19;
+pub(crate) const BOX_HEIGHT: u64 = 39;
 
 /// The height of what is above the boxes.
-pub(crate) const HEAD_HEIGHT: u64 = 28;
+pub(crate) const HEAD_HEIGHT: u64 = 56;
+
+/// The number of boxes that are as wide as the first row together, if each has the least width that
+/// is drawn at first: 0.2 percent of it. A reader who zooms sees narrower boxes.
+const MOST_DRAWN: u64 = 500;
 
 /// Where a box is, across: in hundredths of a pixel from the left.
 #[derive(Clone, Copy, Debug, PartialEq, Eq)]
@@ -40,6 +44,12 @@ pub(crate) fn spans_of(alloc: Global, rows: &[Row], whole: u64) -> Result<Vec<Sp
     Ok(spans)
 }
 
+/// Returns whether the box of a row is wide enough to be drawn at first, given the bytes of the
+/// first row.
+pub(crate) fn is_drawn(row: &Row, whole: u64) -> bool {
+    row.retained.saturating_mul(MOST_DRAWN) >= whole
+}
+
 /// Returns where the box of a row begins, down: in pixels from the top.
 pub(crate) fn top_of(row: &Row) -> u64 {
     HEAD_HEIGHT.saturating_add(LEVEL_HEIGHT.saturating_mul(row.depth as u64))
@@ -52,6 +62,11 @@ pub(crate) fn height_of(rows: &[Row]) -> u64 {
         height = height.max(top_of(row).saturating_add(LEVEL_HEIGHT));
     }
     height
+}
+
+/// Returns hundredths of a pixel as pixels.
+pub(crate) fn pixels(alloc: Global, hundredths: u64) -> Result<String, AllocError> {
+    format!(in alloc; "{}.{:02}", hundredths / 100, hundredths % 100)
 }
 
 /// Returns how far from the left a number of bytes is, in hundredths of a pixel.

@@ -17,8 +17,9 @@ const BOX_DEPTH: u32 = 12;
 /// requested, in tenths of a percent.
 const LEAST_ROW: u32 = 10;
 
-/// The least share of the first row that has a box of its own in a drawing, in tenths of a percent.
-const LEAST_BOX: u32 = 2;
+/// The number of boxes that retain as much as the first row together, if each retains the least
+/// that has a box of its own in a drawing: 0.02 percent of it.
+const MOST_BOXES: u64 = 5000;
 
 /// Returns which part of the tree below an object that retains `whole` bytes has rows. A drawing
 /// has no box that is too narrow to be seen.
@@ -26,20 +27,19 @@ pub(crate) fn limits_of(options: TopOptions, root: ObjectIndex, whole: u64) -> T
     ensures { result.root ≡ root }
 {
     let is_drawing = options.form == TopForm::Drawing;
-    let (usual, least) = if is_drawing {
-        (BOX_DEPTH, LEAST_BOX)
+    let (depth, least) = if is_drawing {
+        (BOX_DEPTH, whole.div_ceil(MOST_BOXES))
     } else {
-        (ROW_DEPTH, LEAST_ROW)
+        (ROW_DEPTH, Percent::tenths(LEAST_ROW).bytes_of(whole))
     };
-    let least = Percent::tenths(least);
-    let share = match options.min {
-        Some(min) if is_drawing => min.max(least),
-        Some(min) => min,
+    let bytes = match options.min {
+        Some(min) if is_drawing => least.max(min.bytes_of(whole)),
+        Some(min) => min.bytes_of(whole),
         None => least,
     };
     TopLimits {
         root,
-        depth: options.depth.unwrap_or(usual).min(MOST_DEPTH),
-        bytes: share.bytes_of(whole),
+        depth: options.depth.unwrap_or(depth).min(MOST_DEPTH),
+        bytes,
     }
 }

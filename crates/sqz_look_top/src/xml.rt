@@ -1,19 +1,23 @@
 //! Text in XML.
 
-use std::alloc::{AllocError, Global};
+use std::fmt;
 
-/// Returns text as XML writes it.
-pub(crate) fn xml_text(alloc: Global, text: &str) -> Result<String, AllocError> {
-    let mut escaped = String::new(alloc);
-    for character in text.chars() {
-        match character {
-            '&' => escaped.push_str("&amp;")?,
-            '<' => escaped.push_str("&lt;")?,
-            '>' => escaped.push_str("&gt;")?,
-            '"' => escaped.push_str("&quot;")?,
-            character if character.is_control() => escaped.push(' ')?,
-            character => escaped.push(character)?,
+/// A text as XML writes it. Control characters become spaces.
+#[derive(Clone, Copy)]
+pub(crate) struct XmlText<'a>(pub(crate) &'a str);
+
+impl fmt::Display for XmlText<'_> {
+    fn fmt<W: fmt::Write>(&self, f: &mut fmt::Formatter<W>) -> fmt::Result {
+        for character in self.0.chars() {
+            match character {
+                '&' => f.write_str("&amp;")?,
+                '<' => f.write_str("&lt;")?,
+                '>' => f.write_str("&gt;")?,
+                '"' => f.write_str("&quot;")?,
+                character if character.is_control() => f.write_char(' ')?,
+                character => f.write_char(character)?,
+            }
         }
+        Ok(())
     }
-    Ok(escaped)
 }
