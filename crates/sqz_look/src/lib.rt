@@ -1,13 +1,15 @@
 //! Answers about an image, printed as text for a person or as lines of JSON: its classes and their
-//! instances, what an object is, what keeps it, and what points to it.
+//! instances, what an object is, what keeps it, what points to it, and which strings match.
 #![tactic(auto)]
 
 mod addresses;
 mod census;
+mod dump;
 mod find;
 mod holders;
 mod labelled;
 mod list;
+mod matches;
 mod method_view;
 mod near_names;
 mod path_rows;
@@ -15,14 +17,16 @@ mod paths;
 mod preview;
 mod refs;
 mod show;
+mod slot_holders;
 mod slot_rows;
-mod values;
 mod weak_note;
 mod why;
 
 pub use census::{print_census, print_dead_census, print_retained_census};
+pub use dump::print_dump;
 pub use find::{Found, find_class, find_object};
 pub use list::{print_dead_list, print_list};
+pub use matches::print_matches;
 pub use refs::print_refs;
 pub use show::print_show;
 pub use why::print_why;

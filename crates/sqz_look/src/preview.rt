@@ -3,9 +3,8 @@
 ghost use Rattle.std.specs.Prelude.{◌<◌};
 ghost use Rattle.sqz_image.specs.Objects.{object_count};
 
-use crate::values::value_text;
 use sqz_facts::object_facts;
-use sqz_look_view::{Counted, Inspector};
+use sqz_look_view::{Counted, Inspector, value_text};
 use sqz_names::Label;
 use sqz_names::formats::{FIXED_AND_INDEXED, FIXED_AND_WEAK, INDEXED};
 use sqz_object::ObjectIndex;

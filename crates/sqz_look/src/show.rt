@@ -6,14 +6,13 @@ ghost use Rattle.sqz_answers.specs.Shown.{shown_count};
 
 use crate::method_view::MethodView;
 use crate::slot_rows::SlotView;
-use crate::values::value_text;
 use serde::Serialize;
 use sqz_answers::{Shown, shown_object, slot_at, slot_count};
 use sqz_histogram::first_bytes;
 use sqz_image::Sink;
 use sqz_look_view::{
-    Counted, Hex, Inspector, More, ObjectLabel, Out, PrintError, SlotNames, write_amount,
-    write_bytes,
+    Counted, Hex, Inspector, More, ObjectLabel, Out, PrintError, SlotNames, value_text,
+    write_amount, write_bytes,
 };
 use sqz_names::escaped;
 use sqz_object::ObjectIndex;

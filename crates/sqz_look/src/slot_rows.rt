@@ -14,7 +14,7 @@ use std::fmt;
 /// What a slot holds: a SmallInteger, or a word.
 #[derive(Clone, Copy, Drop, Serialize)]
 #[serde(untagged)]
-enum SlotValue {
+pub(crate) enum SlotValue {
     Number(i32),
     Word(Hex),
 }
@@ -22,7 +22,7 @@ enum SlotValue {
 /// What the word of a slot is.
 #[derive(Clone, Copy, Drop, Serialize)]
 #[serde(rename_all = "lowercase")]
-enum SlotKind {
+pub(crate) enum SlotKind {
     Integer,
     Pointer,
     Weak,
@@ -89,7 +89,7 @@ impl fmt::Display for SlotView {
 }
 
 /// Returns what the word of a slot is.
-fn kind_of(held: Held) -> SlotKind {
+pub(crate) fn kind_of(held: Held) -> SlotKind {
     match held {
         Held::Integer(_) => SlotKind::Integer,
         Held::Pointer(_) => SlotKind::Pointer,
@@ -100,7 +100,7 @@ fn kind_of(held: Held) -> SlotKind {
 }
 
 /// Returns what a slot holds.
-fn value_of(facts: SlotFacts) -> SlotValue {
+pub(crate) fn value_of(facts: SlotFacts) -> SlotValue {
     match facts.held {
         Held::Integer(number) => SlotValue::Number(number),
         _ => SlotValue::Word(Hex(facts.word)),

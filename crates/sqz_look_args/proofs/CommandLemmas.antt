@@ -12,8 +12,8 @@ use Rattle.clap.specs.Words.{AddsArg, AddsConflicts, AddsSubcommand, App, Rule, 
 use Rattle.clap.specs.declared.builder.arg.Arg.{Arg}
 use Rattle.clap.specs.declared.builder.command.Command.{Command}
 use Rattle.clap.proofs.SimpleLemmas.{not_empty}
-use Rattle.sqz_look_args.specs.declared.commands.Argument.{Argument}
-use Rattle.sqz_look_args.specs.declared.commands.Subcommand.{Subcommand}
+use Rattle.sqz_look_args.specs.declared.arguments.Argument.{Argument}
+use Rattle.sqz_look_args.specs.declared.subcommands.Subcommand.{Subcommand}
 use Rattle.sqz_look_args.specs.CommandLine.{HasRule, HasShape, Listed, argument_rule, bare_line, flag_option, listed_of}
 use Rattle.sqz_look_args.specs.CommandLine.{look_line, shape_of_listed, subcommands}
 

@@ -17,8 +17,8 @@ use Rattle.clap.specs.declared.parser.matches.Found.{Found}
 use Rattle.clap.specs.declared.parser.matches.MatchedArg.{MatchedArg}
 use Rattle.clap.specs.declared.parser.matches.SubCommand.{SubCommand}
 use Rattle.clap.proofs.WalkLemmas.{one_text-rows, raw_values-rows}
-use Rattle.sqz_look_args.specs.declared.commands.Name.{Name}
-use Rattle.sqz_look_args.specs.declared.commands.Name.TheVariants as names
+use Rattle.sqz_look_args.specs.declared.subcommands.Name.{Name}
+use Rattle.sqz_look_args.specs.declared.subcommands.Name.TheVariants as names
 use Rattle.sqz_look_args.specs.declared.requests.Question.{Question}
 use Rattle.sqz_look_args.specs.declared.requests.Question.TheVariants.{Check, Mend, Each, Diff, About}
 use Rattle.sqz_look_args.specs.Mends.{is_mend}
@@ -95,8 +95,8 @@ name_is_check m rows word name asked entered named =
 
 -- to check an image is not to mend it
 pub is_mend-check : (rows : List Row) (question : Question) → IsCheckOf rows question → is_mend question ≡ false
-is_mend-check rows (Check images all) is = refl
-is_mend-check rows (Mend image) is = absurd is
+is_mend-check rows (Check images all strict) is = refl
+is_mend-check rows (Mend image nil) is = absurd is
 is_mend-check rows (Each images question) is = absurd is
 is_mend-check rows (Diff old new) is = absurd is
 is_mend-check rows (About image question) is = absurd is

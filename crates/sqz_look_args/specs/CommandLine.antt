@@ -8,12 +8,15 @@ use Rattle.clap.specs.declared.builder.arg.Arg.{Arg}
 use Rattle.clap.specs.declared.builder.command.Command.{Command}
 use Rattle.clap.specs.declared.builder.command.Command.TheViews.{out-Command as fields_of}
 use Rattle.clap.specs.declared.builder.value_parser.ValueParser.TheVariants as vp
-use Rattle.sqz_look_args.specs.declared.commands.Name.{Name}
-use Rattle.sqz_look_args.specs.declared.commands.Name.TheVariants.{Check, Mend, Info, Census, Digest, List as ListName, Show, Why, Refs, Top, Diff}
-use Rattle.sqz_look_args.specs.declared.commands.Subcommand.{Subcommand}
-use Rattle.sqz_look_args.specs.declared.commands.Argument.{Argument}
-use Rattle.sqz_look_args.specs.declared.commands.Argument.TheVariants.{Image, Images, Old, New, Object, Root, Class, AllFaults, All}
-use Rattle.sqz_look_args.specs.declared.commands.Argument.TheVariants.{Dead, Retained, DeadInstances, By, GroupBy, Raw, Depth, Min, Folded, Svg}
+use Rattle.sqz_look_args.specs.declared.subcommands.Name.{Name}
+use Rattle.sqz_look_args.specs.declared.subcommands.Name.TheVariants.{Check, Mend, Info, Census, Digest, List as ListName, Show, Why, Refs, Top, Diff}
+use Rattle.sqz_look_args.specs.declared.subcommands.Name.TheVariants.{Code, Senders, Implementors, Stacks, Find, Dump}
+use Rattle.sqz_look_args.specs.declared.subcommands.Subcommand.{Subcommand}
+use Rattle.sqz_look_args.specs.declared.arguments.Argument.{Argument}
+use Rattle.sqz_look_args.specs.declared.arguments.Argument.TheVariants.{Image, Images, Old, New, Object, Root, Class, AllFaults, All}
+use Rattle.sqz_look_args.specs.declared.arguments.Argument.TheVariants.{ClassOrMethod, Selector, Pattern, Nil, Strict}
+use Rattle.sqz_look_args.specs.declared.arguments.Argument.TheVariants.{Classes, Unsent, Unimplemented}
+use Rattle.sqz_look_args.specs.declared.arguments.Argument.TheVariants.{Dead, Retained, DeadInstances, By, GroupBy, Raw, Depth, Min, Folded, Svg}
 
 -- a required word
 abbrev pub required_word : Text → Rule
@@ -53,6 +56,14 @@ argument_rule New = required_word (codes "NEW")
 argument_rule Object = required_words (codes "OBJECT")
 argument_rule Root = optional_words (codes "OBJECT")
 argument_rule Class = required_words (codes "CLASS")
+argument_rule ClassOrMethod = optional_words (codes "CODE")
+argument_rule Selector = required_word (codes "SELECTOR")
+argument_rule Pattern = required_word (codes "REGEX")
+argument_rule Nil = flag_option (codes "nil")
+argument_rule Strict = flag_option (codes "strict")
+argument_rule Classes = exclusive_flag (codes "classes")
+argument_rule Unsent = exclusive_flag (codes "unsent")
+argument_rule Unimplemented = exclusive_flag (codes "unimplemented")
 argument_rule AllFaults = flag_option (codes "all")
 argument_rule All = flag_option (codes "all")
 argument_rule Dead = flag_option (codes "dead")
@@ -78,8 +89,8 @@ listed name word arguments = record { name = name; word = word; arguments = argu
 -- the subcommands, in the order of the help
 abbrev pub subcommands : List Listed
 subcommands =
-    listed Check (codes "check") (Images ∷ AllFaults ∷ [])
-    ∷ listed Mend (codes "mend") (Image ∷ [])
+    listed Check (codes "check") (Images ∷ AllFaults ∷ Strict ∷ [])
+    ∷ listed Mend (codes "mend") (Image ∷ Nil ∷ [])
     ∷ listed Info (codes "info") (Images ∷ [])
     ∷ listed Census (codes "census") (Images ∷ Dead ∷ Retained ∷ All ∷ [])
     ∷ listed Digest (codes "digest") (Images ∷ [])
@@ -89,6 +100,12 @@ subcommands =
     ∷ listed Refs (codes "refs") (Image ∷ Object ∷ All ∷ [])
     ∷ listed Top (codes "top") (Image ∷ Root ∷ GroupBy ∷ Depth ∷ Min ∷ Folded ∷ Svg ∷ [])
     ∷ listed Diff (codes "diff") (Old ∷ New ∷ All ∷ [])
+    ∷ listed Code (codes "code") (Image ∷ ClassOrMethod ∷ Classes ∷ Unsent ∷ Unimplemented ∷ All ∷ [])
+    ∷ listed Senders (codes "senders") (Image ∷ Selector ∷ All ∷ [])
+    ∷ listed Implementors (codes "implementors") (Image ∷ Selector ∷ All ∷ [])
+    ∷ listed Stacks (codes "stacks") (Image ∷ All ∷ [])
+    ∷ listed Find (codes "find") (Image ∷ Pattern ∷ All ∷ [])
+    ∷ listed Dump (codes "dump") (Image ∷ [])
     ∷ []
 
 -- the subcommand that a word stands for

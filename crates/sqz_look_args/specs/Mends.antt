@@ -5,8 +5,8 @@ use Rattle.sqz_look_args.specs.declared.requests.Question.TheVariants.{Check, Me
 
 -- what can be mended of an image is asked for
 abbrev pub is_mend : Question → Bool
-is_mend (Check images all) = false
-is_mend (Mend image) = true
+is_mend (Check images all strict) = false
+is_mend (Mend image nil) = true
 is_mend (Each images question) = false
 is_mend (Diff old new) = false
 is_mend (About image question) = false

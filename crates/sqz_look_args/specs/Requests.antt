@@ -23,11 +23,13 @@ given id rows = unwrap_or (all_of id rows) []
 abbrev pub has_flag : Text → List Row → Bool
 has_flag id rows = option_map_or (λ text. bytes_eq text (codes "true")) (one_of id rows) false
 
--- the question is whether the images at these paths are sound, with all their faults or the first
+-- the question is whether the images at these paths are sound, with all their faults or the first,
+-- and with warnings or without
 abbrev pub IsCheckOf : List Row → Question → Type 0
-IsCheckOf rows (Check images all) =
+IsCheckOf rows (Check images all strict) =
     (texts images.items ≡ given (codes "IMAGE") rows) × (all ≡ has_flag (codes "all") rows)
-IsCheckOf rows (Mend image) = ⊥
+    × (strict ≡ has_flag (codes "strict") rows)
+IsCheckOf rows (Mend image nil) = ⊥
 IsCheckOf rows (Each images question) = ⊥
 IsCheckOf rows (Diff old new) = ⊥
 IsCheckOf rows (About image question) = ⊥

@@ -19,6 +19,8 @@ pub enum BadRequest<'a> {
     NoOrder(&'a str),
     /// The value of `--by` is nothing that objects are grouped by.
     NoGrouping(&'a str),
+    /// The word is no regular expression.
+    NoPattern(&'a str),
 }
 
 impl From<AllocError> for BadRequest<'_> {
@@ -39,6 +41,7 @@ impl fmt::Display for BadRequest<'_> {
             }
             BadRequest::NoOrder(text) => write!(f, "--by takes retained or size: {text}"),
             BadRequest::NoGrouping(text) => write!(f, "--by takes class or category: {text}"),
+            BadRequest::NoPattern(text) => write!(f, "not a regular expression: {text}"),
         }
     }
 }

@@ -1,7 +1,9 @@
 //! What a command line of `sqzlook` asks for.
 #![tactic(auto)]
 
+mod arguments;
 mod bad_request;
+mod code_question;
 mod commands;
 mod counting;
 mod grouping;
@@ -9,9 +11,11 @@ pub mod laws;
 mod list_order;
 mod percent;
 mod requests;
+mod subcommands;
 mod top_options;
 
 pub use bad_request::BadRequest;
+pub use code_question::CodeQuestion;
 pub use commands::command;
 pub use counting::Counting;
 pub use grouping::{BadGrouping, Grouping};

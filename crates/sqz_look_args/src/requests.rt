@@ -10,13 +10,16 @@ ghost use Rattle.sqz_look_args.specs.Requests.{looks_past};
 ghost use Rattle.sqz_look_args.specs.Requests.{given, has_flag};
 
 use crate::bad_request::BadRequest;
-use crate::commands::Name;
+use crate::code_question::CodeQuestion;
 use crate::counting::Counting;
 use crate::grouping::Grouping;
 use crate::list_order::ListOrder;
 use crate::percent::Percent;
+use crate::subcommands::Name;
 use crate::top_options::{TopForm, TopOptions};
 use clap::ArgMatches;
+use regex::bytes::Regex;
+use regex::{Error, RegexBuilder};
 use std::alloc::{AllocError, Global};
 
 /// What a command line asks for.
@@ -40,11 +43,16 @@ pub struct Request<'a> {
 pub enum Question<'a> {
     Check {
         images: Vec<&'a str>,
+        /// Whether all faults are asked for, and not only the first.
         all: bool,
+        /// Whether warnings are asked for.
+        strict: bool,
     },
     /// The image with what cannot be read as free chunks.
     Mend {
         image: &'a str,
+        /// Whether pointers that lead nowhere are to become nil.
+        nil: bool,
     },
     Each {
         images: Vec<&'a str>,
@@ -82,6 +90,15 @@ pub enum NamedQuestion {
         options: TopOptions,
     },
     About(ObjectsAsked),
+    Code(CodeQuestion),
+    /// The methods that send a selector.
+    Senders(String),
+    /// The methods with a selector.
+    Implementors(String),
+    Stacks,
+    /// The strings that match a regular expression.
+    Find(Regex),
+    Dump,
 }
 
 /// A question that is asked about each of some objects.
@@ -176,11 +193,13 @@ fn question_of<'a>(
             return Ok(Question::Check {
                 images: values_of(alloc, matches, "IMAGE")?,
                 all: flag_of(matches, "all"),
+                strict: flag_of(matches, "strict"),
             });
         }
         Name::Mend => {
             return Ok(Question::Mend {
                 image: value_of(matches, "IMAGE")?,
+                nil: flag_of(matches, "nil"),
             });
         }
         Name::Diff => {
@@ -210,6 +229,12 @@ fn question_of<'a>(
             let raw = flag_of(matches, "raw") || flag_of(matches, "json");
             about_objects(alloc, matches, apart, ObjectQuestion::Why { raw })?
         }
+        Name::Code => NamedQuestion::Code(CodeQuestion::asked(alloc, matches)?),
+        Name::Senders => NamedQuestion::Senders(text_of(alloc, matches, "SELECTOR")?),
+        Name::Implementors => NamedQuestion::Implementors(text_of(alloc, matches, "SELECTOR")?),
+        Name::Stacks => NamedQuestion::Stacks,
+        Name::Find => NamedQuestion::Find(pattern_of(alloc, matches)?),
+        Name::Dump => NamedQuestion::Dump,
     };
     let image = value_of(matches, "IMAGE")?;
     Ok(Question::About { image, question })
@@ -314,8 +339,27 @@ fn value_of<'a>(matches: &ArgMatches<'a>, id: &'static str) -> Result<&'a str, B
     }
 }
 
+/// Returns the value of a required argument as a text of its own.
+fn text_of<'a>(
+    alloc: Global,
+    matches: &ArgMatches<'a>,
+    id: &'static str,
+) -> Result<String, BadRequest<'a>> {
+    Ok(String::from_str(alloc, value_of(matches, id)?)?)
+}
+
+/// Returns the regular expression of a command line: for bytes, of which each is a character.
+fn pattern_of<'a>(alloc: Global, matches: &ArgMatches<'a>) -> Result<Regex, BadRequest<'a>> {
+    let text = value_of(matches, "REGEX")?;
+    match RegexBuilder::new(text).unicode(false).build_bytes(alloc) {
+        Ok(pattern) => Ok(pattern),
+        Err(Error::OutOfMemory) => Err(BadRequest::OutOfMemory),
+        Err(_) => Err(BadRequest::NoPattern(text)),
+    }
+}
+
 /// Returns the values of an argument.
-fn values_of<'a>(
+pub(crate) fn values_of<'a>(
     alloc: Global,
     matches: &ArgMatches<'a>,
     id: &str,
@@ -338,7 +382,7 @@ pub(crate) fn flag_of(matches: &ArgMatches<'_>, id: &str) -> bool
 }
 
 /// Returns words joined by spaces.
-fn joined(alloc: Global, words: &[&str]) -> Result<String, AllocError> {
+pub(crate) fn joined(alloc: Global, words: &[&str]) -> Result<String, AllocError> {
     let mut text = String::new(alloc);
     for (index, word) in words.iter().enumerate() {
         if index > 0 {

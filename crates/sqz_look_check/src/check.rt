@@ -2,15 +2,18 @@
 
 ghost use Rattle.std.specs.Prelude.{IfOk, IsTrue, ◌≡◌, ◌↔◌};
 ghost use Rattle.sqz_trace.specs.Faults.{first_fault};
+ghost use Rattle.sqz_look_check.specs.Warned.{IsWarned};
 
 use crate::causes::Cause;
 use crate::faults::FaultView;
 use crate::read_failure::ReadFailure;
 use crate::unreadable::{Extent, Unreadable};
+use crate::warnings::{WarningView, warning_views};
 use serde::Serialize;
 use sqz_answers::{Findings, findings_of};
 use sqz_image::{Fault, Sink};
 use sqz_look_view::{Counted, Hex, Inspector, Out, PrintError, Subject, write_bytes};
+use sqz_strict::findings_of as strict_findings_of;
 use std::alloc::{AllocError, Global};
 use std::fmt;
 use std::thread::Threads;
@@ -24,6 +27,9 @@ struct CheckView<'a> {
     live_objects: Option<u32>,
     live_bytes: Option<u64>,
     faults: Vec<FaultView>,
+    /// The warnings, if they were asked for.
+    #[serde(skip_serializing_if = "Option::is_none")]
+    warnings: Option<Vec<WarningView>>,
     /// How much can be read past what cannot be read.
     readable: Option<Extent>,
     /// The address of the last object before a chunk that cannot be read.
@@ -45,6 +51,7 @@ impl<'a> CheckView<'a> {
             live_objects: Some(findings.live_objects),
             live_bytes: Some(findings.live_bytes),
             faults,
+            warnings: None,
             readable: None,
             last_object: None,
         })
@@ -71,6 +78,7 @@ impl<'a> CheckView<'a> {
             live_objects: None,
             live_bytes: None,
             faults,
+            warnings: None,
             readable: None,
             last_object: None,
         })
@@ -79,6 +87,20 @@ impl<'a> CheckView<'a> {
 
 impl fmt::Display for CheckView<'_> {
     fn fmt<W: fmt::Write>(&self, f: &mut fmt::Formatter<W>) -> fmt::Result {
+        self.write_faults(f)?;
+        let path = self.image;
+        if let Some(warnings) = &self.warnings {
+            for warning in warnings {
+                write!(f, "\n{path}: warning: {warning}")?;
+            }
+        }
+        Ok(())
+    }
+}
+
+impl CheckView<'_> {
+    /// Writes the faults, or that there are none.
+    fn write_faults<W: fmt::Write>(&self, f: &mut fmt::Formatter<W>) -> fmt::Result {
         let path = self.image;
         let numbers = (self.objects, self.live_objects, self.live_bytes);
         if let ((Some(objects), Some(live), Some(bytes)), true) = (numbers, self.sound) {
@@ -101,27 +123,78 @@ impl fmt::Display for CheckView<'_> {
     }
 }
 
-/// Prints whether an image is sound: its first fault, or all if `all`, with the names of the
-/// objects at fault, or its objects and live bytes. Returns whether it is sound: whether there is
-/// no fault for which a compaction rejects it.
+/// What is asked about the soundness of an image.
+#[derive(Clone, Copy)]
+pub struct CheckOptions {
+    /// Whether all faults are asked for, and not only the first.
+    pub all: bool,
+    /// Whether warnings are asked for.
+    pub strict: bool,
+}
+
+/// What was found of an image.
+#[derive(Clone, Copy, Debug, PartialEq, Eq)]
+pub struct Verdict {
+    /// Whether there is no fault for which a compaction rejects the image.
+    pub is_sound: bool,
+    /// Whether there are warnings, and they were asked for.
+    pub has_warnings: bool,
+}
+
+/// Prints whether an image is sound: its first fault, or all if these are asked for, with the names
+/// of the objects at fault, or its objects and live bytes; and the warnings, if these are asked for.
+/// Returns what was found.
 pub fn print_check<C: Sink>(
     rt: &(impl Threads + Sync),
     subject: Subject<'_>,
     path: &str,
-    all: bool,
+    options: CheckOptions,
     out: &mut Out<'_, C>,
-) -> Result<bool, PrintError>
-    ensures { IfOk result (λ sound. IsTrue sound ↔ (first_fault subject.entry.live.graph.heap.now
-        subject.entry.live.graph.weak subject.entry.live.marks ≡ None)) }
+) -> Result<Verdict, PrintError>
+    ensures sound { IfOk result (λ verdict. IsTrue verdict.is_sound ↔ (first_fault
+        subject.entry.live.graph.heap.now subject.entry.live.graph.weak
+        subject.entry.live.marks ≡ None)) }
+    ensures warned { IfOk result (λ verdict. IsWarned subject.entry.live.graph.heap.now
+        subject.entry.live.graph.weak subject.entry.live.marks options.strict
+        verdict.has_warnings) }
 {
-    let findings = findings_of(rt, subject.alloc, &subject.live, all)?;
+    let findings = findings_of(rt, subject.alloc, &subject.live, options.all)?;
     let mut view = CheckView::of(&subject, path, &findings)?;
-    let is_sound = findings.is_sound();
-    if !is_sound {
+    let warned = warnings_in(&subject, options.strict)?;
+    let verdict = Verdict {
+        is_sound: findings.is_sound(),
+        has_warnings: warned.are_some,
+    };
+    view.warnings = warned.views;
+    if !verdict.is_sound {
         view.add_owners(&Inspector::of(subject)?)?;
     }
     out.emit(&view)?;
-    Ok(is_sound)
+    Ok(verdict)
+}
+
+/// The warnings about an image, if these are asked for, and whether there are some.
+#[derive(Drop)]
+struct Warned {
+    views: Option<Vec<WarningView>>,
+    are_some: bool,
+}
+
+/// Returns the warnings about an image, if these are asked for.
+fn warnings_in(subject: &Subject<'_>, strict: bool) -> Result<Warned, AllocError>
+    ensures { IfOk result (λ warned. IsWarned subject.now.live.graph.heap.now
+        subject.now.live.graph.weak subject.now.live.marks strict warned.are_some) }
+{
+    if !strict {
+        return Ok(Warned {
+            views: None,
+            are_some: false,
+        });
+    }
+    let findings = strict_findings_of(subject.alloc, &subject.live)?;
+    let views = Some(warning_views(subject, &findings)?);
+    let are_some = !findings.is_empty();
+    Ok(Warned { views, are_some })
 }
 
 /// Prints that no image could be read from a file, why, and how much can be read, if that was

@@ -9,14 +9,20 @@ mod faults;
 mod file_kinds;
 mod info;
 mod read_failure;
+mod repaired;
 mod skipped;
 mod unreadable;
 mod versions;
+mod warnings;
 
-pub use check::{print_check, print_check_missing, print_check_too_large, print_check_unreadable};
+pub use check::{
+    CheckOptions, Verdict, print_check, print_check_missing, print_check_too_large,
+    print_check_unreadable,
+};
 pub use digest::print_digest;
 pub use faults::fault_message;
 pub use info::{print_info, print_info_unreadable};
 pub use read_failure::ReadFailure;
+pub use repaired::RepairedView;
 pub use skipped::SkippedView;
 pub use unreadable::Unreadable;

@@ -51,7 +51,7 @@ impl<'a> SkippedView<'a> {
 }
 
 /// Returns where a data word is in a file with this header, in bytes.
-fn byte_of(header: &Header, word: WordIndex) -> u64 {
+pub(crate) fn byte_of(header: &Header, word: WordIndex) -> u64 {
     let start = header.offset.saturating_add(HEADER_SIZE) as u64;
     start.saturating_add(4 * u64::from(word))
 }

@@ -1,4 +1,1 @@
-pub mod CheckLemmas
-pub mod DamageLemmas
-pub mod EndingLemmas
-pub mod WarningLemmas
+mod EndingLemmas

@@ -1,7 +1,2 @@
-pub mod Failures
-pub mod Checks
-pub mod Damaged
-pub mod Verdicts
 pub mod Endings
-pub mod Warnings
 pub mod Lines

@@ -1,21 +1,22 @@
 //! Answering a request, and the exit.
 
-ghost use Rattle.std.specs.Prelude.{◌≡◌, ◌≢◌, ◌⊎◌, ◌≤◌, OnOk};
+ghost use Rattle.std.specs.Prelude.{◌≡◌, ◌≢◌, ◌⊎◌, ◌≤◌, false, true, IfOk, OnOk};
 ghost use Rattle.sqz_image.specs.Devices.{WritesWhole};
-ghost use Rattle.sqz_look_cli.specs.declared.failure.Failure.TheVariants.{NotPrinted};
-ghost use Rattle.sqz_look_cli.specs.Verdicts.{AreChecked};
-ghost use Rattle.sqz_look_cli.specs.Endings.{EndsAnswer, HasPassedOn, IfCheck};
-ghost use Rattle.sqz_look_cli.specs.Failures.{exit_of_outcome};
-ghost use Rattle.sqz_look_cli.specs.Warnings.{IsSilent};
+ghost use Rattle.sqz_look_files.specs.declared.failure.Failure.TheVariants.{NotPrinted};
+ghost use Rattle.sqz_look_files.specs.Verdicts.{AreChecked, EndsChecks};
+ghost use Rattle.sqz_look_files.specs.Failures.{IsAnswerExit, exit_of_outcome};
+ghost use Rattle.sqz_look_files.specs.Mending.{WritesMended};
+ghost use Rattle.sqz_look_files.specs.Warnings.{IsSilent};
+ghost use Rattle.sqz_look_cli.specs.Endings.{EndsAnswer, HasPassedOn, IfCheck, IfMend};
 ghost use Rattle.sqz_trace.specs.WeakSlots.{weak_of};
+ghost use Rattle.sqz_look_args.specs.Mends.{is_mend};
 ghost use Rattle.sqz_look_args.specs.Requests.{looks_past};
 
 use crate::answers::answer;
-use crate::failure::Failure;
-use crate::messages::explain_failure;
-use crate::session::Session;
+use sqz_cli::DONE;
 use sqz_image::{Sink, write_all};
-use sqz_look_args::Request;
+use sqz_look_args::{NamedQuestion, Question, Request};
+use sqz_look_files::{Failure, Session, explain_failure, mend};
 use sqz_look_view::{Format, Out};
 use sqz_trace::Weak;
 use std::alloc::Global;
@@ -40,9 +41,12 @@ pub fn answer_request<T: Files + Threads + Sync, C: Sink, E: Sink>(
     ensures exits { result ≤ 4 }
     ensures accepted { result ≢ 2 }
     ensures ends { EndsAnswer T.File.remaining request.now (C.state out.new) result }
-    ensures check { IfCheck request.now.question (λ files. result ≤ 1
+    ensures check { IfCheck request.now.question (λ strict files. result ≤ 1
         → AreChecked T.File.remaining (weak_of request.now.clear_weak) (looks_past request.now)
-        files result) }
+        strict files result) }
+    ensures mended { IfMend request.now.question (λ nil. result ≡ 0
+        → WritesMended T.File.remaining (weak_of request.now.clear_weak) nil (C.state out.old)
+        (C.state out.new)) }
     ensures whole { result ≡ 0 → HasPassedOn (C.state out.new) }
     ensures silent { result ≡ 0
         → IsSilent T.File.remaining (weak_of request.now.clear_weak) (looks_past request.now)
@@ -55,16 +59,84 @@ pub fn answer_request<T: Files + Threads + Sync, C: Sink, E: Sink>(
         weak,
         past_damage: request.looks_past_damage(),
     };
-    let mut printed = Out::new(alloc, out, format_of(request));
-    let answered = answer(&session, &request.question, &mut printed, err);
-    let rest = printed.into_unwritten();
-    let outcome = pass_on(answered, rest.as_str(), out);
+    let outcome = outcome_of(&session, request, out, err);
     finish(&outcome, request.image(), err)
 }
 
-/// Returns the form in which the answer to a request is printed.
+/// Answers a request, and returns the exit, or why there is no answer.
+fn outcome_of<T: Files + Threads + Sync, C: Sink, E: Sink>(
+    session: &Session<'_, T>,
+    request: &Request<'_>,
+    out: &mut C,
+    err: &mut E,
+) -> Result<u8, Failure>
+    requires { is_mend request.now.question ≡ true → session.now.past_damage ≡ true }
+    ensures exits { IfOk result IsAnswerExit }
+    ensures whole { OnOk result (HasPassedOn (C.state out.new)) }
+    ensures check { IfCheck request.now.question (λ strict files.
+        EndsChecks T.File.remaining session.now.weak
+        session.now.past_damage strict files result) }
+    ensures mended { IfMend request.now.question (λ nil. OnOk result
+        (WritesMended T.File.remaining session.now.weak nil (C.state out.old) (C.state out.new))) }
+    ensures silent { IfOk result (λ exit. exit ≡ 0
+        → IsSilent T.File.remaining session.now.weak
+        session.now.past_damage err.old err.new) }
+{
+    match &request.question {
+        Question::Mend { image, nil } => mended(session, image, *nil, out, err),
+        question => printed(session, question, format_of(request), out, err),
+    }
+}
+
+/// Writes an image as it is mended, and returns the exit.
+fn mended<T: Files + Threads + Sync, C: Sink, E: Sink>(
+    session: &Session<'_, T>,
+    path: &str,
+    nil: bool,
+    out: &mut C,
+    err: &mut E,
+) -> Result<u8, Failure>
+    requires { session.now.past_damage ≡ true }
+    ensures exit { IfOk result (λ exit. exit ≡ 0) }
+    ensures whole { OnOk result (HasPassedOn (C.state out.new)) }
+    ensures written { OnOk result (WritesMended T.File.remaining session.now.weak nil
+        (C.state out.old) (C.state out.new)) }
+    ensures silent { OnOk result (IsSilent T.File.remaining session.now.weak
+        session.now.past_damage err.old err.new) }
+{
+    match mend(session, path, nil, out, err) {
+        Ok(()) => Ok(DONE),
+        Err(failure) => Err(failure),
+    }
+}
+
+/// Prints the answer to a question, and returns the exit.
+fn printed<T: Files + Threads + Sync, C: Sink, E: Sink>(
+    session: &Session<'_, T>,
+    question: &Question<'_>,
+    format: Format,
+    out: &mut C,
+    err: &mut E,
+) -> Result<u8, Failure>
+    requires { is_mend question.now ≡ false }
+    ensures exits { IfOk result IsAnswerExit }
+    ensures whole { OnOk result (HasPassedOn (C.state out.new)) }
+    ensures check { IfCheck question.now (λ strict files.
+        EndsChecks T.File.remaining session.now.weak
+        session.now.past_damage strict files result) }
+    ensures silent { IfOk result (λ exit. exit ≡ 0
+        → IsSilent T.File.remaining session.now.weak
+        session.now.past_damage err.old err.new) }
+{
+    let mut printed = Out::new(session.alloc, out, format);
+    let answered = answer(session, question, &mut printed, err);
+    let rest = printed.into_unwritten();
+    pass_on(answered, rest.as_str(), out)
+}
+
+/// Returns the form in which the answer to a request is printed. A dump is always JSON.
 fn format_of(request: &Request<'_>) -> Format {
-    if request.json {
+    if request.json || is_dump(&request.question) {
         Format::Json
     } else {
         Format::Text {
@@ -72,6 +144,17 @@ fn format_of(request: &Request<'_>) -> Format {
             human: request.human,
         }
     }
+}
+
+/// Returns whether a question asks for a dump.
+fn is_dump(question: &Question<'_>) -> bool {
+    matches!(
+        question,
+        Question::About {
+            question: NamedQuestion::Dump,
+            ..
+        }
+    )
 }
 
 /// Writes the rest of an answer, if there is an answer, and then flushes. Returns how that ends.

@@ -1,28 +1,27 @@
 //! Answers to questions.
 
-ghost use Rattle.std.specs.Prelude.{◌≡◌, ◌≤◌, ◌<◌, IfOk, true};
-ghost use Rattle.sqz_image.specs.Objects.{object_count};
-ghost use Rattle.sqz_look_cli.specs.Verdicts.{EndsChecks};
+ghost use Rattle.std.specs.Prelude.{◌≡◌, ◌≤◌, IfOk, false};
+ghost use Rattle.sqz_look_files.specs.Verdicts.{EndsChecks};
 ghost use Rattle.sqz_look_args.specs.Mends.{is_mend};
 ghost use Rattle.sqz_look_cli.specs.Endings.{IfCheck};
-ghost use Rattle.sqz_look_cli.specs.Failures.{IsAnswerExit};
-ghost use Rattle.sqz_look_cli.specs.Warnings.{IsSilent};
+ghost use Rattle.sqz_look_files.specs.Failures.{IsAnswerExit};
+ghost use Rattle.sqz_look_files.specs.Warnings.{IsSilent};
 
-use crate::checks::check_all;
+use crate::code::{answer_about_code, selector_in, the_object};
 use crate::comparison::compare;
 use crate::each::answer_each;
-use crate::failure::Failure;
-use crate::mending::mend;
 use crate::objects::answer_about_objects;
-use crate::session::{ReadFile, Session};
-use crate::warnings::warn;
 use sqz_cli::{BAD_IMAGE, DONE};
 use sqz_image::Sink;
-use sqz_look::{Found, find_class, find_object, print_dead_list, print_list, print_why};
+use sqz_look::{
+    Found, find_class, print_dead_list, print_dump, print_list, print_matches, print_why,
+};
 use sqz_look_args::{Instances, NamedQuestion, Question, TopOptions};
+use sqz_look_check::CheckOptions;
+use sqz_look_code::{print_implementors, print_senders, print_stacks};
+use sqz_look_files::{Failure, ReadFile, Session, check_all, warn};
 use sqz_look_top::print_top;
 use sqz_look_view::{Inspector, Out};
-use sqz_object::ObjectIndex;
 use std::io::Read;
 use std::rt::Files;
 use std::thread::Threads;
@@ -35,18 +34,25 @@ pub(crate) fn answer<T: Files + Threads + Sync, C: Sink, E: Sink>(
     out: &mut Out<'_, C>,
     err: &mut E,
 ) -> Result<u8, Failure>
-    requires { is_mend question.now ≡ true → session.now.past_damage ≡ true }
+    requires { is_mend question.now ≡ false }
     ensures exits { IfOk result IsAnswerExit }
-    ensures check { IfCheck question.now (λ files.
+    ensures check { IfCheck question.now (λ strict files.
         EndsChecks T.File.remaining session.now.weak
-        session.now.past_damage files result) }
+        session.now.past_damage strict files result) }
     ensures silent { IfOk result (λ exit. exit ≡ 0
         → IsSilent T.File.remaining session.now.weak
         session.now.past_damage err.old err.new) }
 {
     match question {
-        Question::Check { images, all } => check_all(session, images, *all, out, err),
-        Question::Mend { image } => mend(session, image, out, err),
+        Question::Check {
+            images,
+            all,
+            strict,
+        } => {
+            let (all, strict) = (*all, *strict);
+            check_all(session, images, CheckOptions { all, strict }, out, err)
+        }
+        Question::Mend { .. } => unreachable!(),
         Question::Each { images, question } => { answer_each(session, images, *question, out, err) }
         Question::Diff { old, new } => compare(session, old, new, out, err),
         Question::About { image, question } => answer_about(session, image, question, out, err),
@@ -91,16 +97,25 @@ fn answer_by_names<C: Sink, E: Sink>(
     ensures silent { IfOk result (λ exit. exit ≡ 0 → err.new ≡ err.old) }
 {
     match question {
+        NamedQuestion::About(asked) => {
+            return answer_about_objects(inspector, path, asked, out, err);
+        }
         NamedQuestion::List { class, which } => {
             answer_about_class(inspector, class.as_str(), *which, out)?;
-            Ok(DONE)
         }
         NamedQuestion::Top { object, options } => {
             answer_about_tree(inspector, object.as_ref(), *options, out)?;
-            Ok(DONE)
         }
-        NamedQuestion::About(asked) => answer_about_objects(inspector, path, asked, out, err),
+        NamedQuestion::Code(asked) => answer_about_code(inspector, asked, out)?,
+        NamedQuestion::Senders(word) => print_senders(inspector, selector_in(word), out)?,
+        NamedQuestion::Implementors(word) => {
+            print_implementors(inspector, selector_in(word), out)?;
+        }
+        NamedQuestion::Stacks => print_stacks(inspector, out)?,
+        NamedQuestion::Find(pattern) => print_matches(inspector, pattern, out)?,
+        NamedQuestion::Dump => print_dump(inspector, out)?,
     }
+    Ok(DONE)
 }
 
 /// Prints instances of the class that words stand for.
@@ -139,14 +154,4 @@ fn answer_about_tree<C: Sink>(
         print_why(inspector, root, false, out)?;
     }
     Ok(())
-}
-
-/// Returns the object that words stand for.
-fn the_object(inspector: &Inspector<'_>, words: &str) -> Result<ObjectIndex, Failure>
-    ensures { IfOk result (λ object. object < object_count inspector.now.live.graph.heap.now) }
-{
-    match find_object(inspector, words)? {
-        Found::One(object) => Ok(object),
-        Found::Nothing(message) => Err(Failure::NotThere(message)),
-    }
 }

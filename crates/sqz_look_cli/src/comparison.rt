@@ -1,16 +1,14 @@
 //! What changed between two images.
 
 ghost use Rattle.std.specs.Prelude.{◌≤◌, IfOk};
-ghost use Rattle.sqz_look_cli.specs.Damaged.{IsReadAs};
-ghost use Rattle.sqz_look_cli.specs.Warnings.{IsSilent};
-ghost use Rattle.sqz_look_cli.specs.declared.session.ReadFile.TheVariants as read;
+ghost use Rattle.sqz_look_files.specs.Damaged.{IsReadAs};
+ghost use Rattle.sqz_look_files.specs.Warnings.{IsSilent};
+ghost use Rattle.sqz_look_files.specs.declared.session.ReadFile.TheVariants as read;
 
-use crate::failure::Failure;
-use crate::session::{ReadFile, ReadImage, Session};
-use crate::warnings::warn;
 use sqz_cli::{BAD_IMAGE, DONE};
 use sqz_image::Sink;
 use sqz_look_diff::print_diff;
+use sqz_look_files::{Failure, ReadFile, ReadImage, Session, warn};
 use sqz_look_view::{Inspector, Out};
 use std::rt::Files;
 use std::thread::Threads;

@@ -1,18 +1,15 @@
 //! A question about each of some images.
 
 ghost use Rattle.std.specs.Prelude.{◌≡◌, IfOk};
-ghost use Rattle.sqz_look_cli.specs.Failures.{IsAnswerExit};
-ghost use Rattle.sqz_look_cli.specs.Warnings.{IsSilent};
+ghost use Rattle.sqz_look_files.specs.Failures.{IsAnswerExit};
+ghost use Rattle.sqz_look_files.specs.Warnings.{IsSilent};
 
-use crate::failure::Failure;
-use crate::messages::explain_failure;
-use crate::session::{ReadFile, Session};
-use crate::warnings::warn;
 use sqz_cli::{BAD_IMAGE, DONE};
 use sqz_image::Sink;
 use sqz_look::{print_census, print_dead_census, print_retained_census};
 use sqz_look_args::{Counting, EachQuestion};
 use sqz_look_check::{print_digest, print_info, print_info_unreadable};
+use sqz_look_files::{Failure, ReadFile, Session, explain_failure, warn};
 use sqz_look_view::{Out, PrintError, Subject};
 use std::fmt;
 use std::io::Read;

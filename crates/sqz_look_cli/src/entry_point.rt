@@ -6,20 +6,20 @@ ghost use Rattle.std.specs.Prelude.{IfErr, IfOk, codes, string_bytes};
 ghost use Rattle.clap.specs.Words.{Row, kind_of, subcommand_of, subcommand_rows_of, takes};
 ghost use Rattle.sqz_look_args.specs.CommandLine.{look_line};
 ghost use Rattle.sqz_look_args.specs.Requests.{AsksCheck, HasCommand, given, has_flag};
-ghost use Rattle.sqz_look_cli.specs.Verdicts.{AreChecked};
+ghost use Rattle.sqz_look_files.specs.Verdicts.{AreChecked};
 ghost use Rattle.sqz_look_cli.specs.Endings.{HasPassedOn};
-ghost use Rattle.sqz_look_cli.specs.Warnings.{IsSilent};
+ghost use Rattle.sqz_look_files.specs.Warnings.{IsSilent};
 ghost use Rattle.sqz_trace.specs.declared.weak.Weak.{Weak};
 ghost use Rattle.sqz_trace.specs.WeakSlots.{weak_of};
 
 use crate::answering::answer_request;
 use crate::lines::words_apart;
-use crate::messages::{print_fault, print_message, print_names};
 use clap::error::ErrorKind;
 use clap::{ArgMatches, Error};
 use sqz_cli::{BAD_ARGUMENTS, DONE, explain};
 use sqz_image::{Fault, Sink, write_all};
 use sqz_look_args::{BadRequest, Request, command};
+use sqz_look_files::{print_fault, print_message, print_names};
 use std::alloc::Global;
 use std::rt::Files;
 use std::thread::Threads;
@@ -43,7 +43,8 @@ pub fn look<T: Files + Threads + Sync, C: Sink, E: Sink>(
     ensures exits { result ≤ 4 }
     ensures check { (rows : List Row) → AsksCheck (map string_bytes words.now) rows → result ≤ 1
         → AreChecked T.File.remaining (weak_of (has_flag (codes "clear-weak") rows))
-        (has_flag (codes "past-damage") rows) (length (given (codes "IMAGE") rows)) result }
+        (has_flag (codes "past-damage") rows) (has_flag (codes "strict") rows)
+        (length (given (codes "IMAGE") rows)) result }
     ensures whole { result ≡ 0 → HasPassedOn (C.state out.new) }
     ensures silent { result ≡ 0
         → (weak : Weak) × (past : Bool) × IsSilent T.File.remaining weak past err.old err.new }
@@ -114,7 +115,8 @@ fn answer_matches<T: Files + Threads + Sync, C: Sink, E: Sink>(
         → subcommand_rows_of asked.entry.matches.now ≡ Some (codes "check", rows)
         → result ≤ 1
         → AreChecked T.File.remaining (weak_of (has_flag (codes "clear-weak") rows))
-        (has_flag (codes "past-damage") rows) (length (given (codes "IMAGE") rows)) result }
+        (has_flag (codes "past-damage") rows) (has_flag (codes "strict") rows)
+        (length (given (codes "IMAGE") rows)) result }
     ensures whole { result ≡ 0 → HasPassedOn (C.state out.new) }
     ensures silent { result ≡ 0
         → (weak : Weak) × (past : Bool) × IsSilent T.File.remaining weak past err.old err.new }

@@ -3,19 +3,13 @@
 
 mod answering;
 mod answers;
-mod checks;
+mod code;
 mod comparison;
 mod each;
 mod entry_point;
-mod failure;
 mod lines;
-mod loading;
-mod mending;
-mod messages;
 mod objects;
 mod quiet_pipe;
-mod session;
-mod warnings;
 
 pub use answering::answer_request;
 pub use entry_point::look;

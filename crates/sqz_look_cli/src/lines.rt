@@ -3,9 +3,9 @@
 ghost use Rattle.std.specs.Prelude.{◌≡◌, ◌⊎◌, IfErr, IfOk, IsOk, false, map, string_bytes};
 ghost use Rattle.sqz_look_cli.specs.Lines.{has_lines};
 
-use crate::messages::{print_fault, print_message};
 use sqz_cli::DEVICE_FAILED;
 use sqz_image::{Fault, ReadSource, Sink, read_all};
+use sqz_look_files::{print_fault, print_message};
 use std::alloc::{AllocError, Global};
 use std::io::Read;
 

@@ -3,12 +3,11 @@
 ghost use Rattle.std.specs.Prelude.{◌≡◌, ◌≤◌, ◌<◌, IfOk};
 ghost use Rattle.sqz_image.specs.Objects.{object_count};
 
-use crate::failure::Failure;
-use crate::messages::print_message;
 use sqz_cli::{BAD_IMAGE, DONE};
 use sqz_image::Sink;
 use sqz_look::{Found, find_object, print_refs, print_show, print_why};
 use sqz_look_args::{ObjectQuestion, ObjectsAsked};
+use sqz_look_files::{Failure, print_message};
 use sqz_look_view::{Inspector, Out, PrintError};
 use sqz_object::ObjectIndex;
 

@@ -15,18 +15,19 @@ use std::collections::BTreeMap;
 /// The name of the global variable whose value says which categories classes have.
 const ORGANIZATION: &[u8] = b"SystemOrganization";
 
-/// The categories of the classes of an image, as its system organizer states them.
+/// The categories of classes, as the system organizer of an image states them, or those of the
+/// methods of a class, as its organizer does.
 #[derive(Drop)]
 pub struct Categories {
-    /// For each object that is the name of a class, the place of its category.
+    /// For each object that is the name of a class, or a selector, the place of its category.
     places: BTreeMap<ObjectIndex, u32>,
 }
 
 impl Categories {
-    /// Returns the categories of the classes of an image, given its system organizer. An organizer
-    /// lists the names of classes in the order of their categories, and for each category how many
-    /// names end with it. A name that is listed several times has the first of its categories.
-    /// Fails only if out of memory.
+    /// Returns the categories that an organizer states. The system organizer lists the names of
+    /// classes in the order of their categories, and for each category how many names end with it;
+    /// that of a class does so for the selectors of its methods. A name that is listed several times
+    /// has the first of its categories. Fails only if out of memory.
     pub fn of(inspector: &Inspector<'_>, organizer: Option<ObjectIndex>) -> Result<Self, AllocError>
         requires { IfSome organizer (λ organizer.
             organizer < object_count inspector.now.live.graph.heap.now) }
@@ -60,7 +61,26 @@ impl Categories {
     {
         if let Some(organizer) = organizer
             && let Some(name) = field_of(inspector, class, NAME)
-            && let Some(place) = self.places.get(&name)
+        {
+            return self.of_listed(inspector, organizer, name);
+        }
+        Ok(None)
+    }
+
+    /// Returns the category under which an organizer lists an object: a string or a symbol. The
+    /// organizer is that of these categories. None if it lists none for the object. Fails only if
+    /// out of memory.
+    pub fn of_listed(
+        &self,
+        inspector: &Inspector<'_>,
+        organizer: ObjectIndex,
+        listed: ObjectIndex,
+    ) -> Result<Option<ObjectIndex>, AllocError>
+        requires { organizer < object_count inspector.now.live.graph.heap.now }
+        ensures { IfOk result (λ found. IfSome found (λ category.
+            category < object_count inspector.now.live.graph.heap.now)) }
+    {
+        if let Some(place) = self.places.get(&listed)
             && let Some(array) = field_of(inspector, organizer, CATEGORIES)
             && let Some(category) = field_of(inspector, array, *place)
         {

@@ -15,6 +15,7 @@ mod print_error;
 mod slots;
 mod special_names;
 mod subject;
+mod values;
 
 pub use amounts::{write_amount, write_bytes, write_difference, write_unit};
 pub use categories::{Categories, organizer_of};
@@ -28,3 +29,4 @@ pub use places::{field_of, object_at};
 pub use print_error::PrintError;
 pub use slots::{SlotName, SlotNames};
 pub use subject::Subject;
+pub use values::value_text;

@@ -1,6 +1,6 @@
 use Rattle.std.proofs.Common.{ap, ◌∙◌}
 use Rattle.sqz_image.specs.Objects.{SavedImage}
-use Rattle.sqz_look_cli.proofs.WarningLemmas.{IsSilent-read}
+use Rattle.sqz_look_files.proofs.WarningLemmas.{IsSilent-read}
 use Rattle.sqz_look_cli.proofs.answers.answer_about.Goals as goal
 
 pub returns-in_ok-exit-in-Image-clause-silent : goal.returns-in_ok-exit-in-Image-clause-silent

@@ -1,6 +1,6 @@
 use Rattle.std.proofs.Common.{ap, ◌∙◌}
 use Rattle.sqz_image.specs.Objects.{SavedImage}
-use Rattle.sqz_look_cli.proofs.WarningLemmas.{IsSilent-damage, IsSilent-warned, IsSilent-then}
+use Rattle.sqz_look_files.proofs.WarningLemmas.{IsSilent-damage, IsSilent-warned, IsSilent-then}
 use Rattle.sqz_look_cli.proofs.comparison.compare.Goals as goal
 
 pub returns-clause-silent : goal.returns-clause-silent

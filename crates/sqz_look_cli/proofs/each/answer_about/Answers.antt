@@ -1,6 +1,6 @@
-use Rattle.std.proofs.Common.{ap, inl, ◌∙◌}
+use Rattle.std.proofs.Common.{ap, ◌∙◌}
 use Rattle.sqz_image.specs.Objects.{SavedImage}
-use Rattle.sqz_look_cli.proofs.WarningLemmas.{IsSilent-read, IsSilent-damage}
+use Rattle.sqz_look_files.proofs.WarningLemmas.{IsSilent-read, IsSilent-damage}
 use Rattle.sqz_look_cli.proofs.each.answer_about.Goals as goal
 use Rattle.sqz_look_cli.proofs.each.answer_about.Goals.{in-Info+in_ok-print_heading-in-Info+in_ok-print_info-in-Info}
 use Rattle.sqz_look_cli.proofs.each.answer_about.Goals.{in-Digest+in_ok-warn-in-Digest+in_ok-print_digest-in-Digest}

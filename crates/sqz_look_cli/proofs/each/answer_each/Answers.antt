@@ -1,6 +1,6 @@
 use Rattle.std.proofs.Common.{◌≡◌, max, refl, inl, arith, rules}
-use Rattle.sqz_look_cli.proofs.CheckLemmas.{IsAnswerExit-max}
-use Rattle.sqz_look_cli.proofs.WarningLemmas.{IsSilent-then}
+use Rattle.sqz_look_files.proofs.CheckLemmas.{IsAnswerExit-max}
+use Rattle.sqz_look_files.proofs.WarningLemmas.{IsSilent-then}
 use Rattle.sqz_look_cli.proofs.each.answer_each.Goals as goal
 
 pub loop-path-init : goal.loop-path-init

@@ -1,6 +1,6 @@
 use Rattle.std.proofs.Common.{◌≡◌}
-use Rattle.sqz_look_cli.specs.Failures.{IsAnswerExit}
-use Rattle.sqz_look_cli.specs.Warnings.{IsSilent}
+use Rattle.sqz_look_files.specs.Failures.{IsAnswerExit}
+use Rattle.sqz_look_files.specs.Warnings.{IsSilent}
 use Rattle.sqz_look_cli.proofs.each.answer_each.Given as goal
 
 abbrev pub invariant-loop-path : goal.invariant-loop-path

@@ -1,0 +1,14 @@
+use Rattle.std.proofs.Common.{codes}
+use Rattle.std.proofs.lemmas.Result.{IfOk-weaker}
+use Rattle.sqz_look_args.specs.CommandLine.{exclusive_flag, flag_option}
+use Rattle.sqz_look_args.proofs.CommandLemmas.{HasRule-exclusive}
+use Rattle.sqz_look_args.proofs.arguments.unimplemented.Goals as goal
+
+pub returns : goal.returns
+returns c =
+    let first = c.in_ok-conflicts_with.field-0 in
+    let second = c.in_ok-conflicts_with-2.field-0 in
+    let once = HasRule-exclusive c.flag.result first (flag_option (codes "unimplemented")) _ c.in_ok-conflicts_with.ensures c.flag.ensures in
+    let twice = HasRule-exclusive first second (exclusive_flag (codes "unimplemented")) _ c.in_ok-conflicts_with-2.ensures once in
+    IfOk-weaker c.conflicts_with-3.result _ _ (λ made added. HasRule-exclusive second made (exclusive_flag (codes "unimplemented")) _ added twice)
+    c.conflicts_with-3.ensures

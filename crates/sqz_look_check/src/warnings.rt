@@ -1,0 +1,156 @@
+//! What a strict check finds of an image.
+
+ghost use Rattle.std.specs.Prelude.{◌<◌, All};
+ghost use Rattle.sqz_image.specs.Objects.{object_count};
+ghost use Rattle.sqz_strict.specs.Warnings.{object_of};
+
+use serde::Serialize;
+use sqz_damage::Gap;
+use sqz_image::{HEADER_SIZE, Object};
+use sqz_look_view::{Counted, Hex, Subject, write_bytes};
+use sqz_object::{WordIndex, base_of};
+use sqz_strict::{ClassShape, Findings, Warning};
+use std::alloc::AllocError;
+use std::fmt;
+
+/// A warning about an image.
+#[derive(Drop, Serialize)]
+#[serde(tag = "kind", rename_all = "snake_case")]
+pub(crate) enum WarningView {
+    /// An object is not as its class states.
+    Shape {
+        address: Hex,
+        class: String,
+        has: ShapeView,
+        stated: ShapeView,
+    },
+    /// A method dictionary has fewer methods than selectors.
+    MethodDictionary {
+        address: Hex,
+    },
+    /// An association of a variable has no key.
+    NoKey {
+        address: Hex,
+    },
+    /// No chunk is here in the reading of the data that contradicts the fewest pointers.
+    Gap {
+        word: WordIndex,
+        byte: u64,
+        bytes: u64,
+    },
+}
+
+/// What an object has, or what its class states: the format, the number of fields or of fixed ones,
+/// and the compact class index.
+#[derive(Clone, Copy, Drop, Serialize)]
+pub(crate) struct ShapeView {
+    format: u32,
+    fields: u32,
+    compact: u32,
+}
+
+impl ShapeView {
+    /// Returns what an object has.
+    fn of_object(object: &Object<'_>) -> Self {
+        let base = base_of(object.header().base);
+        ShapeView {
+            format: base.format,
+            fields: object.fields().len() as u32,
+            compact: base.compact,
+        }
+    }
+
+    /// Returns what a class states.
+    fn of_class(stated: ClassShape) -> Self {
+        ShapeView {
+            format: stated.format,
+            fields: stated.fixed,
+            compact: stated.compact,
+        }
+    }
+}
+
+impl WarningView {
+    /// Returns a warning about an object.
+    fn of(subject: &Subject<'_>, warning: Warning) -> Result<Self, AllocError>
+        requires { object_of warning < object_count subject.now.live.graph.heap.now }
+    {
+        let object = warning.object();
+        let address = subject.address(object);
+        Ok(match warning {
+            Warning::Shape { stated, .. } => WarningView::Shape {
+                address,
+                class: subject.name_of_class_of(object)?,
+                has: ShapeView::of_object(&subject.live.graph.heap.object(object)),
+                stated: ShapeView::of_class(stated),
+            },
+            Warning::MethodDictionary { .. } => WarningView::MethodDictionary { address },
+            Warning::NoKey { .. } => WarningView::NoKey { address },
+        })
+    }
+
+    /// Returns a gap of the best reading of the data.
+    fn of_gap(subject: &Subject<'_>, gap: Gap) -> Self {
+        let start = subject.image.prefix().len() as u64 + HEADER_SIZE as u64;
+        WarningView::Gap {
+            word: gap.first,
+            byte: start + 4 * u64::from(gap.first),
+            bytes: 4 * u64::from(gap.words),
+        }
+    }
+}
+
+/// Returns all that a strict check found of an image.
+pub(crate) fn warning_views(
+    subject: &Subject<'_>,
+    findings: &Findings,
+) -> Result<Vec<WarningView>, AllocError>
+    requires { All (λ warning. object_of warning < object_count subject.now.live.graph.heap.now)
+        findings.now.warnings.items }
+{
+    let mut views = Vec::new(subject.alloc);
+    for warning in &findings.warnings {
+        views.push(WarningView::of(subject, *warning)?)?;
+    }
+    for gap in &findings.gaps {
+        views.push(WarningView::of_gap(subject, *gap))?;
+    }
+    Ok(views)
+}
+
+impl fmt::Display for ShapeView {
+    fn fmt<W: fmt::Write>(&self, f: &mut fmt::Formatter<W>) -> fmt::Result {
+        let (format, fields) = (self.format, Counted(u64::from(self.fields), "field"));
+        write!(f, "format {format}, {fields}, compact {}", self.compact)
+    }
+}
+
+impl fmt::Display for WarningView {
+    fn fmt<W: fmt::Write>(&self, f: &mut fmt::Formatter<W>) -> fmt::Result {
+        match self {
+            WarningView::Shape {
+                address,
+                class,
+                has,
+                stated,
+            } => {
+                let class = class.as_str();
+                write!(f, "{class} {address} has {has}; its class states {stated}")
+            }
+            WarningView::MethodDictionary { address } => {
+                write!(
+                    f,
+                    "method dictionary {address} has fewer methods than selectors"
+                )
+            }
+            WarningView::NoKey { address } => write!(f, "association {address} has no key"),
+            WarningView::Gap { word, byte, bytes } => {
+                write_bytes(f, *bytes)?;
+                write!(
+                    f,
+                    " at word {word} (byte {byte}) are no chunk that pointers agree with"
+                )
+            }
+        }
+    }
+}

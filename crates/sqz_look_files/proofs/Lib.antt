@@ -1,0 +1,3 @@
+pub mod CheckLemmas
+pub mod DamageLemmas
+pub mod WarningLemmas

@@ -1,0 +1,44 @@
+-- What is read of files past what cannot be read.
+use Rattle.std.specs.Prelude.{◌≡◌, ◌⊎◌, ℕ, Bool, true, false, List, Option}
+use Rattle.sqz_image.specs.declared.header.Header.{Header}
+use Rattle.sqz_mend.specs.declared.damage.Damage.{Damage}
+use Rattle.sqz_mend.specs.Damaged.{HasSoundWords, IsDamageOf, IsNone}
+use Rattle.sqz_mend.specs.Recovery.{IsRecovered}
+use Rattle.sqz_look_files.specs.declared.loading.Loaded.TheVariants as loaded
+use Rattle.sqz_look_files.specs.declared.loading.LoadedPast.{LoadedPast}
+use Rattle.sqz_look_files.specs.declared.loading.LoadedPast.TheVariants as past
+use Rattle.sqz_look_files.specs.declared.session.ReadFile.{ReadFile}
+use Rattle.sqz_look_files.specs.declared.session.ReadFile.TheVariants as read
+use Rattle.sqz_look_files.specs.Checks.{ReadsFile, ReadsSome, HoldsNone, IsLoaded}
+
+-- the data of a file with these bytes lack something: by the best reading there is a gap, or the
+-- file is shorter than its header states
+pub record IsDamaged (bytes : List ℕ) : Type 0 where
+  pub header : Header
+  pub is_header : HasSoundWords bytes header
+  pub damage : Damage
+  pub is_damage : IsDamageOf bytes header damage
+  pub some : IsNone damage → ⊥
+
+-- what a file with these bytes holds past what cannot be read: this image, or none
+abbrev pub IsHeldPast : List ℕ → LoadedPast → Type 0
+IsHeldPast bytes (past.Image recovered) = IsRecovered bytes recovered
+IsHeldPast bytes (past.Unreadable unreadable) = HoldsNone bytes ⊎ IsDamaged bytes
+
+-- some file was read to its end, and holds this past what cannot be read
+pub record IsLoadedPast {F : Type 0} (left : F → Option (List ℕ)) (loaded : LoadedPast) : Type 0 where
+  pub bytes : List ℕ
+  pub read : ReadsFile left bytes
+  pub held : IsHeldPast bytes loaded
+
+-- a damaged file was read, as it was asked for
+abbrev pub ReadsDamaged : {F : Type 0} → (F → Option (List ℕ)) → Bool → Type 0
+ReadsDamaged left past = (past ≡ true) × ReadsSome left IsDamaged
+
+-- what was read of some file: a whole image, of which nothing was printed, or one of which
+-- something was skipped, or none
+abbrev pub IsReadAs : {F E : Type 0} → (F → Option (List ℕ)) → Bool → E → E → ReadFile → Type 0
+IsReadAs left past old new (read.Image image) =
+    (image.is_whole ≡ true → (new ≡ old) × IsLoaded left (loaded.Image image.image))
+    × (image.is_whole ≡ false → ReadsDamaged left past)
+IsReadAs left past old new (read.Unreadable unreadable) = ReadsSome left HoldsNone ⊎ ReadsDamaged left past

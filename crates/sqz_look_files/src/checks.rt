@@ -1,0 +1,115 @@
+//! Whether images are sound.
+
+ghost use Rattle.std.specs.Prelude.{◌≡◌, length, IfOk, IfErr};
+ghost use Rattle.sqz_look_files.specs.Verdicts.{EndsChecks, IsChecked, IsImageExit, StopsChecks};
+
+use crate::failure::Failure;
+use crate::session::{ReadFile, Session};
+use sqz_cli::{BAD_IMAGE, DEVICE_FAILED, DONE};
+use sqz_image::Sink;
+use sqz_look_check::{
+    CheckOptions, print_check, print_check_missing, print_check_too_large, print_check_unreadable,
+};
+use sqz_look_view::{Out, PrintError, Subject};
+use std::io::Read;
+use std::rt::Files;
+use std::thread::Threads;
+
+/// The exit if memory ran out for an image.
+const OUT_OF_MEMORY: u8 = 4;
+
+/// Prints whether the images in some files are sound, each before the next is read, and the warnings
+/// about them if these are asked for. Returns the exit: that of the worst image.
+pub fn check_all<T: Files + Threads + Sync, C: Sink, E: Sink>(
+    session: &Session<'_, T>,
+    paths: &[&str],
+    options: CheckOptions,
+    out: &mut Out<'_, C>,
+    err: &mut E,
+) -> Result<u8, Failure>
+    ensures checked { EndsChecks T.File.remaining session.now.weak session.now.past_damage
+        options.strict (length paths.now) result }
+    ensures silent { IfOk result (λ exit. exit ≡ 0 → err.new ≡ err.old) }
+{
+    let mut exit = DONE;
+    for path in paths {
+        exit = exit.max(check_next(session, path, options, out, err)?);
+        // what was found of this image is not lost if the next one stops the check
+        out.flush()?;
+    }
+    Ok(exit)
+}
+
+/// Prints whether the image in a file is sound, or that memory is out for it, and returns the exit.
+fn check_next<T: Files + Threads + Sync, C: Sink, E: Sink>(
+    session: &Session<'_, T>,
+    path: &str,
+    options: CheckOptions,
+    out: &mut Out<'_, C>,
+    err: &mut E,
+) -> Result<u8, Failure>
+    ensures checked { IfOk result (IsChecked T.File.remaining session.now.weak
+        session.now.past_damage options.strict) }
+    ensures silent { IfOk result (λ exit. exit ≡ 0 → err.new ≡ err.old) }
+    ensures stopped { IfErr result StopsChecks }
+{
+    match check_one(session, path, options, out, err) {
+        Err(Failure::OutOfMemory) => {
+            print_check_too_large(session.alloc, path, out)?;
+            Ok(OUT_OF_MEMORY)
+        }
+        checked => checked,
+    }
+}
+
+/// Prints whether the image in a file is sound, and returns the exit.
+fn check_one<T: Files + Threads + Sync, C: Sink, E: Sink>(
+    session: &Session<'_, T>,
+    path: &str,
+    options: CheckOptions,
+    out: &mut Out<'_, C>,
+    err: &mut E,
+) -> Result<u8, Failure>
+    ensures checked { IfOk result (IsChecked T.File.remaining session.now.weak
+        session.now.past_damage options.strict) }
+    ensures silent { IfOk result (λ exit. exit ≡ 0 → err.new ≡ err.old) }
+    ensures stopped { IfErr result StopsChecks }
+{
+    match session.read(path, true, out, err) {
+        Ok(ReadFile::Image(read)) => {
+            let subject = session.subject(&read.image)?;
+            let exit = check_image(session.rt, subject, path, options, out)?;
+            Ok(if read.is_whole { exit } else { BAD_IMAGE })
+        }
+        Ok(ReadFile::Unreadable(unreadable)) => {
+            print_check_unreadable(session.alloc, &unreadable, path, out)?;
+            Ok(BAD_IMAGE)
+        }
+        Err(failure) => match failure {
+            Failure::NotRead(why) => {
+                print_check_missing(session.alloc, path, why, out)?;
+                Ok(DEVICE_FAILED)
+            }
+            _ => Err(failure),
+        },
+    }
+}
+
+/// Prints whether an image is sound, and returns the exit.
+fn check_image<T: Threads + Sync, C: Sink>(
+    rt: &T,
+    subject: Subject<'_>,
+    path: &str,
+    options: CheckOptions,
+    out: &mut Out<'_, C>,
+) -> Result<u8, PrintError>
+    ensures { IfOk result (IsImageExit subject.entry.live.graph.heap.now
+        subject.entry.live.graph.weak subject.entry.live.marks options.strict) }
+{
+    let verdict = print_check(rt, subject, path, options, out)?;
+    Ok(if verdict.is_sound && !verdict.has_warnings {
+        DONE
+    } else {
+        BAD_IMAGE
+    })
+}

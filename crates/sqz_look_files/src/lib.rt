@@ -1,0 +1,17 @@
+//! What is done with the files of images: reading, checking and mending them.
+#![tactic(auto)]
+
+mod checks;
+mod failure;
+mod loading;
+mod mending;
+mod messages;
+mod session;
+mod warnings;
+
+pub use checks::check_all;
+pub use failure::Failure;
+pub use mending::mend;
+pub use messages::{explain_failure, print_fault, print_message, print_names};
+pub use session::{ReadFile, ReadImage, Session};
+pub use warnings::warn;

@@ -1,0 +1,138 @@
+//! Reading images from files.
+
+ghost use Rattle.std.specs.Prelude.{IfOk};
+ghost use Rattle.sqz_image.specs.Unread.{IsUnread};
+ghost use Rattle.sqz_look_files.specs.Checks.{IsHeldBy, IsLoaded, ReadsFile};
+ghost use Rattle.sqz_look_files.specs.Damaged.{IsHeldPast, IsLoadedPast};
+
+use sqz_image::{Fault, Image, ReadSource, UnreadFile, image_or_file, read_all};
+use sqz_look_check::{ReadFailure, Unreadable};
+use sqz_mend::{RecoverError, Recovered, recover};
+use std::alloc::{AllocError, Global};
+use std::fs::{File, OpenFile};
+use std::io::Read;
+use std::rt::Files;
+
+/// What a file holds.
+#[derive(Drop)]
+pub(crate) enum Loaded {
+    Image(Image),
+    Unreadable(Unreadable),
+}
+
+/// What a file holds past what cannot be read.
+#[derive(Drop)]
+pub(crate) enum LoadedPast {
+    Image(Recovered),
+    Unreadable(Unreadable),
+}
+
+/// Why it is not known what a file holds.
+#[derive(Clone, Copy, Debug, PartialEq, Eq)]
+pub(crate) enum LoadError {
+    /// Memory ran out.
+    OutOfMemory,
+    /// The file cannot be read.
+    NotRead(ReadFailure),
+}
+
+impl From<AllocError> for LoadError {
+    fn from(_error: AllocError) -> LoadError {
+        LoadError::OutOfMemory
+    }
+}
+
+/// Returns what the file with this path holds; if `measures`, with how much can be read of one that
+/// holds no image. The file is read once.
+pub(crate) fn load<T: Files>(
+    rt: &T,
+    alloc: Global,
+    path: &str,
+    measures: bool,
+) -> Result<Loaded, LoadError>
+    ensures { IfOk result (IsLoaded T.File.remaining) }
+{
+    let bytes = bytes_of(rt, alloc, path)?;
+    Ok(loaded_of(alloc, bytes, measures)?)
+}
+
+/// Returns what the file with this path holds past what cannot be read. The file is read once.
+pub(crate) fn load_past_damage<T: Files>(
+    rt: &T,
+    alloc: Global,
+    path: &str,
+) -> Result<LoadedPast, LoadError>
+    ensures { IfOk result (IsLoadedPast T.File.remaining) }
+{
+    let bytes = bytes_of(rt, alloc, path)?;
+    Ok(recovered_of(alloc, bytes)?)
+}
+
+/// Returns the bytes of the file with this path.
+pub(crate) fn bytes_of<T: Files>(rt: &T, alloc: Global, path: &str) -> Result<Vec<u8>, LoadError>
+    ensures { IfOk result (λ bytes. ReadsFile T.File.remaining bytes.items) }
+{
+    let file = match File::open(rt, path) {
+        Ok(file) => file,
+        Err(error) => return Err(LoadError::NotRead(ReadFailure::of(error.kind()))),
+    };
+    if is_directory(&file) {
+        return Err(LoadError::NotRead(ReadFailure::Directory));
+    }
+    let mut source = ReadSource::new(file);
+    match read_all(alloc, &mut source) {
+        Ok(bytes) => Ok(bytes),
+        Err(Fault::OutOfMemory) => Err(LoadError::OutOfMemory),
+        Err(_) => Err(LoadError::NotRead(ReadFailure::Other)),
+    }
+}
+
+/// Returns whether a file is known to be a directory, which can be opened but not read.
+fn is_directory<F: OpenFile>(file: &F) -> bool {
+    match file.metadata() {
+        Ok(metadata) => metadata.is_dir(),
+        Err(_) => false,
+    }
+}
+
+/// Returns what the file with these bytes holds.
+fn loaded_of(alloc: Global, bytes: Vec<u8>, measures: bool) -> Result<Loaded, AllocError>
+    ensures { IfOk result (IsHeldBy bytes.items) }
+{
+    match image_or_file(alloc, bytes) {
+        Ok(image) => Ok(Loaded::Image(image)),
+        Err(unread) => match unread.fault {
+            Fault::OutOfMemory => Err(AllocError),
+            _ => Ok(Loaded::Unreadable(unreadable_of(alloc, unread, measures)?)),
+        },
+    }
+}
+
+/// Returns what could be read of a file without an image.
+fn unreadable_of(
+    alloc: Global,
+    unread: UnreadFile,
+    measures: bool,
+) -> Result<Unreadable, AllocError>
+    requires { IsUnread unread.bytes.items unread }
+{
+    if measures {
+        Unreadable::measured(alloc, unread)
+    } else {
+        Unreadable::of(alloc, &unread)
+    }
+}
+
+/// Returns what the file with these bytes holds past what cannot be read.
+fn recovered_of(alloc: Global, bytes: Vec<u8>) -> Result<LoadedPast, AllocError>
+    ensures { IfOk result (IsHeldPast bytes.items) }
+{
+    match recover(alloc, bytes) {
+        Ok(recovered) => Ok(LoadedPast::Image(recovered)),
+        Err(RecoverError::OutOfMemory) => Err(AllocError),
+        Err(RecoverError::NoImage(unread)) => match unread.fault {
+            Fault::OutOfMemory => Err(AllocError),
+            _ => Ok(LoadedPast::Unreadable(unreadable_of(alloc, unread, false)?)),
+        },
+    }
+}

@@ -1,0 +1,119 @@
+//! What questions are answered with.
+
+ghost use Rattle.std.specs.Prelude.{◌≡◌, IfErr, IfOk, true};
+ghost use Rattle.sqz_look_files.specs.Damaged.{IsReadAs};
+ghost use Rattle.sqz_look_files.specs.Failures.{IsReadFailure};
+
+use crate::failure::Failure;
+use crate::loading::{Loaded, LoadedPast, load, load_past_damage};
+use crate::messages::print_message;
+use sqz_image::{Image, Sink};
+use sqz_look_check::{SkippedView, Unreadable};
+use sqz_look_view::{Out, Subject};
+use sqz_mend::Recovered;
+use sqz_trace::Weak;
+use std::alloc::{AllocError, Global};
+use std::io::Read;
+use std::rt::Files;
+
+/// What questions are answered with: the runtime, the allocator, the policy on weak slots, and
+/// whether images are read past damage.
+#[derive(Drop)]
+pub struct Session<'a, T> {
+    pub rt: &'a T,
+    pub alloc: Global,
+    pub weak: Weak,
+    pub past_damage: bool,
+}
+
+/// What was read of a file.
+#[derive(Drop)]
+pub enum ReadFile {
+    Image(ReadImage),
+    Unreadable(Unreadable),
+}
+
+/// An image that was read, and whether nothing was skipped.
+#[derive(Drop)]
+pub struct ReadImage {
+    pub image: Image,
+    pub is_whole: bool,
+}
+
+impl<T> Session<'_, T> {
+    /// Returns an image with its live objects.
+    pub fn subject<'b>(&self, image: &'b Image) -> Result<Subject<'b>, AllocError>
+        ensures image { IfOk result (λ subject. subject.image.now ≡ image.now) }
+        ensures weak { IfOk result (λ subject. subject.live.graph.weak ≡ self.now.weak) }
+    {
+        Subject::of(self.alloc, image, self.weak)
+    }
+
+    /// Prints what was skipped of a file: as text a line on `err`, as JSON a line on `out`.
+    fn print_skipped<C: Sink, E: Sink>(
+        &self,
+        recovered: &Recovered,
+        path: &str,
+        out: &mut Out<'_, C>,
+        err: &mut E,
+    ) -> Result<(), Failure>
+        ensures { IfErr result IsReadFailure }
+    {
+        let view = SkippedView::of(self.alloc, path, &recovered.header, &recovered.damage)?;
+        print_message(Some(path), view.to_string(self.alloc)?.as_str(), err);
+        out.data(&view)?;
+        Ok(())
+    }
+}
+
+impl<T: Files> Session<'_, T> {
+    /// Reads the file with this path, and prints what was skipped of it, if anything. If
+    /// `measures`, finds how much can be read of one that holds no image.
+    pub fn read<C: Sink, E: Sink>(
+        &self,
+        path: &str,
+        measures: bool,
+        out: &mut Out<'_, C>,
+        err: &mut E,
+    ) -> Result<ReadFile, Failure>
+        ensures read { IfOk result (IsReadAs T.File.remaining self.now.past_damage
+            err.old err.new) }
+        ensures failed { IfErr result IsReadFailure }
+    {
+        if self.past_damage {
+            return self.read_past_damage(path, out, err);
+        }
+        Ok(match load(self.rt, self.alloc, path, measures)? {
+            Loaded::Image(image) => ReadFile::Image(ReadImage {
+                image,
+                is_whole: true,
+            }),
+            Loaded::Unreadable(unreadable) => ReadFile::Unreadable(unreadable),
+        })
+    }
+
+    /// Reads the file with this path past what cannot be read, and prints what was skipped of it,
+    /// if anything.
+    fn read_past_damage<C: Sink, E: Sink>(
+        &self,
+        path: &str,
+        out: &mut Out<'_, C>,
+        err: &mut E,
+    ) -> Result<ReadFile, Failure>
+        requires { self.now.past_damage ≡ true }
+        ensures read { IfOk result (IsReadAs T.File.remaining self.now.past_damage
+            err.old err.new) }
+        ensures failed { IfErr result IsReadFailure }
+    {
+        let recovered = match load_past_damage(self.rt, self.alloc, path)? {
+            LoadedPast::Image(recovered) => recovered,
+            LoadedPast::Unreadable(unreadable) => return Ok(ReadFile::Unreadable(unreadable)),
+        };
+        let is_whole = recovered.damage.is_none();
+        if !is_whole {
+            self.print_skipped(&recovered, path, out, err)?;
+        }
+        let image = recovered.image;
+        Ok(ReadFile::Image(ReadImage { image, is_whole }))
+    }
+}

@@ -1,0 +1,31 @@
+//! Warnings of images that are not sound.
+
+ghost use Rattle.std.specs.Prelude.{◌≡◌, ◌≢◌, ◌⊎◌, None};
+ghost use Rattle.sqz_trace.specs.Faults.{first_fault};
+
+use crate::messages::print_message;
+use sqz_image::Sink;
+use sqz_look_check::fault_message;
+use sqz_look_view::Subject;
+use sqz_trace::first_fault;
+use std::alloc::AllocError;
+use std::thread::Threads;
+
+/// Prints a line on `err` if an image is not sound, with its path and its first fault.
+pub fn warn<T: Threads + Sync, E: Sink>(
+    rt: &T,
+    subject: &Subject<'_>,
+    path: &str,
+    err: &mut E,
+) -> Result<(), AllocError>
+    ensures { (err.new ≡ err.old) ⊎ (first_fault subject.now.live.graph.heap.now
+        subject.now.live.graph.weak subject.now.live.marks ≢ None) }
+{
+    let Some(fault) = first_fault(rt, &subject.live) else {
+        return Ok(());
+    };
+    let fault = fault_message(subject, fault)?;
+    let message = format!(in subject.alloc; "not sound: {fault}")?;
+    print_message(Some(path), message.as_str(), err);
+    Ok(())
+}
