@@ -2,8 +2,8 @@
 
 The image is that of Debian's package `scratch`. The machine is that of `squeak-vm`, on a screen of
 `xvfb`. It runs the image as it is, with garbage, in the other byte order after 512 bytes, and with
-a weak array that holds garbage; and what the program makes of each. It starts each alone, and with
-a project to open.
+a weak array that holds garbage; what the program makes of each; and an image that was mended after
+a sound in it was damaged. It starts each alone, and with a project to open.
 
 The first screen of each start that stands still is the one that all other images must show. A
 screen that differs may still change: the test waits until it is the expected one, and fails after a
@@ -23,7 +23,7 @@ import subprocess
 import tempfile
 import time
 
-from tests.harness.programs import SQZCOMPACT
+from tests.harness.programs import SQZCOMPACT, SQZLOOK
 from tests.harness.squeak_image import SqueakImageTest
 from tests.making import garbage
 from tests.making.seed import SEED
@@ -35,6 +35,7 @@ WIDTH, HEIGHT = 1024, 768
 PROJECT = pathlib.Path("Projects", "Games", "1 GuessingGame.sb")
 KEEP = os.environ.get("SQZ_KEEP")
 COUNT = 20_000
+SOUND = "SoundBuffer"
 # How often a screen must look the same, half a second apart, before it counts: more often if no
 # screen is expected, since an image may pause while it starts.
 LOOKS, FIRST_LOOKS, PAUSE = 6, 20, 0.5
@@ -165,6 +166,27 @@ class MachineTest(SqueakImageTest):
         yield "with garbage held weakly", held
         yield "with garbage held weakly, compacted", self.compacted(held)
         yield "with garbage held weakly, cleared", self.compacted(held, "--clear-weak")
+        yield "with a damaged sound, mended", self.mended(self.with_damaged_sound(image))
+
+    def with_damaged_sound(self, image):
+        """The file of an image in which the header of its longest sound has a wrong type."""
+        sounds = [
+            it
+            for number, it in enumerate(image.objects)
+            if image.class_of(number) is not None and image.name(image.class_of(number)) == SOUND
+        ]
+        longest = max(sounds, key=lambda it: it.end - it.base)
+        words = image.words[:]
+        words[longest.base] &= ~3
+        return Image(image.header, words, image.order).file()
+
+    def mended(self, file):
+        """What `sqzlook mend --nil` makes of a file, without the lost object."""
+        self.write("damaged", file)
+        outcome = self.run_here(SQZLOOK, "mend", "--nil", "damaged")
+        self.assertEqual(outcome.status, 0)
+        self.assertIn(b"skipped", outcome.stderr)
+        return outcome.stdout
 
     def compacted(self, file, *options):
         """What the program makes of a file."""

@@ -18,6 +18,12 @@ COMMANDS = (
     "refs",
     "top",
     "diff",
+    "code",
+    "senders",
+    "implementors",
+    "stacks",
+    "find",
+    "dump",
 )
 
 

@@ -3,18 +3,22 @@
 import re
 import typing
 
-from tests.harness.drawing import Drawing, contrast_with_black
+from tests.harness.drawing import Drawing, contrast
 from tests.harness.json_rows import difference, rows_of
 from tests.harness.look_checks import LookTest, warning_about
 from tests.harness.sqzlook import look_at_all
+from tests.reference.kinds import KINDS, kind_of
 from tests.reference.tree import Tree, folded, percent
 
-# The words with which a label says what it names.
-KIND = re.compile("^(class variable|class|Smalltalk at:) ")
+# The words that the label of a narrow box does without.
+WORDS = re.compile("^(class variable|Smalltalk at:) ")
+NUMBER = re.compile("[0-9]")
 # What a box may be off by, in pixels.
 ROUNDED = 0.03
 # The least contrast ratio of a text that is read well.
 READABLE = 7
+# A box that retains less than this part of the first row's bytes is not drawn at first.
+DRAWN = 500
 
 
 class Shape(typing.NamedTuple):
@@ -94,11 +98,14 @@ class TopTest(LookTest):
         boxes, titles = drawing.boxes, [self.title(tree, row) for row in rows]
         self.assertEqual([box.title for box in boxes], titles)
         self.assertEqual(drawing.count("title"), len(rows))
-        self.assertEqual(drawing.count("rect"), len(rows) + 1)  # one is the background
+        self.assertEqual(len(drawing.children("boxes")), len(rows))
+        self.check_beds(drawing, rows)
         self.check_places(drawing, tree, rows)
         for row, box in zip(rows, boxes):
-            self.check_text(drawing, row, box)
-        self.check_colours([tree.class_name(row) for row in rows], boxes)
+            self.assertEqual(box.is_drawn, row.retained * DRAWN >= tree.whole, box)
+            self.assertEqual(box.kind, kind_of(tree.class_name(row)), box)
+            self.check_texts(drawing, tree, row, box)
+        self.check_colours(drawing)
 
     def title(self, tree, row):
         share, plural = percent(row.retained, tree.whole), "" if row.objects == 1 else "s"
@@ -122,24 +129,47 @@ class TopTest(LookTest):
                 self.assertTrue(before.right <= box.left + ROUNDED, box)
             line[row.depth :] = [box]
 
-    def check_text(self, drawing, row, box):
-        """The text in a box is its label, or in a narrow one the beginning of its name, or the
-        number of its smaller objects."""
+    def check_beds(self, drawing, rows):
+        """There is a bed below each box that is drawn and has others below it."""
+        above = {id(row.above) for row in rows if row.above}
+        places = [
+            (box.left, box.bottom + 1, box.width)
+            for row, box in zip(rows, drawing.boxes)
+            if box.is_drawn and id(row) in above
+        ]
+        beds = drawing.children("beds")
+        found = [tuple(float(it.get(key)) for key in ("x", "y", "width")) for it in beds]
+        self.assertEqual(found, places)
+
+    def check_texts(self, drawing, tree, row, box):
+        """The texts in a box are its label and what the row retains, as there is room for them."""
+        size = f"{row.retained} bytes, {percent(row.retained, tree.whole)}%"
+        sizes = (size, size.rpartition(" ")[2])
+        self.assertLessEqual(len(box.texts), 2)
+        self.assertFalse(box.texts and not box.is_drawn, box)
         for text in box.texts:
-            shown, name = text.text, KIND.sub("", row.label)
-            if row.number is None and shown != row.label:
-                self.assertEqual(shown, row.label.partition(": ")[0])
-            elif shown not in (row.label, name):
-                self.assertTrue(shown.endswith(".."), shown)
-                self.assertTrue(name.startswith(shown.removesuffix("..")), shown)
+            if text is not box.texts[-1] or text.text not in sizes:
+                self.check_label(row.label, text.text)
             left = float(text.get("x"))
             self.assertTrue(box.left <= left, box)
-            self.assertTrue(left + drawing.narrowest(shown) <= box.right, box)
+            self.assertTrue(left + drawing.narrowest(text.text) <= box.right, box)
             self.assertTrue(box.top < float(text.get("y")) < box.bottom, box)
 
-    def check_colours(self, classes, boxes):
-        """The boxes of a class have one colour, on which black text is readable."""
-        colours = {}
-        for a_class, box in zip(classes, boxes):
-            self.assertEqual(colours.setdefault(a_class, box.colour), box.colour)
-            self.assertGreater(contrast_with_black(box.colour), READABLE)
+    def check_label(self, label, shown):
+        """What is shown is a label, or the beginning of its name, or its number of objects."""
+        name = WORDS.sub("", label)
+        if shown in (label, name):
+            return
+        if NUMBER.match(label):
+            self.assertEqual(shown, label.partition(": ")[0])
+            return
+        self.assertTrue(shown.endswith(".."), shown)
+        self.assertTrue(name.startswith(shown.removesuffix("..")), shown)
+
+    def check_colours(self, drawing):
+        """Each kind has a colour of its own, and texts are readable on it."""
+        for text, boxes in drawing.palettes():
+            self.assertEqual(list(boxes), list(KINDS))
+            self.assertEqual(len(set(boxes.values())), len(KINDS))
+            for colour in boxes.values():
+                self.assertGreater(contrast(text, colour), READABLE)

@@ -2,21 +2,26 @@
 
 import array
 import random
+import re
 
 from tests.harness.json_rows import rows_of
 from tests.harness.look_checks import LookTest
+from tests.harness.programs import SQZCOMPACT, run
 from tests.harness.saved_image import SavedImageTest
-from tests.harness.sqzlook import look
+from tests.harness.sqzlook import CLEAR, look
 from tests.harness.worked_images import bytes_at, worked_paths
 from tests.making.random_images import random_files
 from tests.making.seed import SEED
 from tests.reference.damage import mend_file
 from tests.reference.file_format import HEADER_WORDS, VERSION, bytes_of
+from tests.reference.repair import repaired_file
 
 HEADER = 4 * HEADER_WORDS
 SECTOR = 512
 # Random damages of small images.
 DAMAGES = 400
+# The maximum number of words that `mend --nil` lists.
+MOST_WORDS = 20
 
 
 def skipped_row(it, path):
@@ -55,6 +60,21 @@ class SmallDamageTest(LookTest):
         self.assertEqual(outcome.stderr.decode(), warnings)
         return it
 
+    def assert_repaired(self, name, file, *options):
+        """Checks what `mend --nil` makes of a file, and that `sqzcompact` accepts it."""
+        self.write(name, file)
+        outcome = look("mend", "--nil", *options, name, folder=self.folder)
+        expected, patches = repaired_file(file, options == CLEAR)
+        if expected is None:
+            self.assertEqual((outcome.status, outcome.stdout), (1, b""))
+            return
+        self.assertEqual((outcome.status, outcome.stdout), (0, expected))
+        words = [int(it) for it in re.findall(rb"^word (\d+) ", outcome.stderr, re.MULTILINE)]
+        self.assertEqual(words, [place for place, _ in patches][:MOST_WORDS])
+        self.write("repaired.image", expected)
+        compacted = run(SQZCOMPACT, [*options, "repaired.image", "out.image"], folder=self.folder)
+        self.assertEqual((compacted.status, compacted.stderr), (0, b""))
+
     def damaged(self, generator, file):
         """The file with one to three changes: a word, a sector, or its end."""
         file = bytearray(file)
@@ -75,6 +95,8 @@ class SmallDamageTest(LookTest):
         for path in worked_paths():
             with self.subTest(path.stem):
                 self.assert_mended("worked.image", bytes_at(path))
+                self.assert_repaired("worked.image", bytes_at(path))
+                self.assert_repaired("worked.image", bytes_at(path), *CLEAR)
 
     def test_random_damages(self):
         generator = random.Random(SEED)
@@ -83,6 +105,7 @@ class SmallDamageTest(LookTest):
             file = self.damaged(generator, generator.choice(files))
             with self.subTest(number=number):
                 self.assert_mended("damaged.image", file)
+                self.assert_repaired("damaged.image", file)
 
     def test_gap_at_every_other_word(self):
         # free chunks of one word, each followed by a word that begins no chunk
@@ -150,6 +173,7 @@ class SavedDamageTest(SavedImageTest):
         self.assertTrue(it.gaps or it.missing)
         outcome = look("mend", name, folder=self.folder)
         self.assertEqual((outcome.status, outcome.stdout), (0, it.file))
+        self.assert_compacts(name)
         for words in (("info",), ("census",), ("census", "--dead"), ("top",)):
             plain = look(*words, "--json", "mended.image", folder=self.folder)
             past = look(*words, "--json", "--past-damage", name, folder=self.folder)
@@ -166,6 +190,14 @@ class SavedDamageTest(SavedImageTest):
         self.assertEqual(diff.status, 1)
         why = look("why", "--past-damage", name, "Object", folder=self.folder)
         self.assertEqual(why.status, 0)
+
+    def assert_compacts(self, name):
+        """Checks that a damaged image can be compacted after it was mended."""
+        mended = look("mend", "--nil", name, folder=self.folder)
+        self.assertEqual(mended.status, 0)
+        self.write("repaired.image", mended.stdout)
+        outcome = run(SQZCOMPACT, ["repaired.image", "out.image"], folder=self.folder)
+        self.assertEqual((outcome.status, outcome.stderr), (0, b""))
 
     def test_check_says_how_much_can_be_read(self):
         file = self.damages()["cut"]

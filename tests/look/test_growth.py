@@ -42,7 +42,9 @@ class Run(typing.NamedTuple):
 def lines_about(it):
     """The words of each command about an image at `NAME`, in the forms that differ most."""
     first, *others = it.objects
-    lines = [("check", "--all"), ("info",), ("top", "--min", "0")]
+    lines = [("check", "--all"), ("check", "--strict"), ("info",), ("top", "--min", "0")]
+    lines += [("code", "--all"), ("code", "--unsent"), ("code", "--unimplemented")]
+    lines += [("stacks",), ("dump",)]
     lines += [("census", "--dead"), ("census", "--retained")]
     lines += [("top", *form) for form in (("--json",), ("--svg",), ("--folded", "--min", "0"))]
     lines += [("show", "--json"), ("why", "--raw")]
@@ -52,6 +54,8 @@ def lines_about(it):
         lines += [("refs", *form, NAME, first), ("why", *form, NAME, first)]
     for form in ((), ("--json",)):
         lines += [("diff", *form, OTHER, NAME), ("diff", *form, NAME, NAME)]
+    lines += [(command, NAME, "go") for command in ("senders", "implementors")]
+    lines += [("find", "--json", NAME, "."), ("code", NAME, it.a_class)]
     for word in others:
         lines += [(command, NAME, word) for command in ("show", "why", "refs")]
     return lines

@@ -31,6 +31,13 @@ QUESTIONS = (
     ("top", "accepted/class_names.image", "--json"),
     ("top", "accepted/class_names.image", "--folded"),
     ("top", "accepted/class_names.image", "--svg"),
+    ("code", "accepted/class_names.image"),
+    ("code", "accepted/class_names.image", "--unsent"),
+    ("senders", "accepted/class_names.image", "+"),
+    ("stacks", "accepted/dead_cycle.image"),
+    ("find", "accepted/class_names.image", "P", "--json"),
+    ("dump", "accepted/dead_cycle.image"),
+    ("mend", "--nil", "accepted/dead_cycle.image"),
     ("diff", "accepted/dozen_classes.image", "accepted/class_names.image"),
     ("diff", "accepted/metaclass.image", "accepted/class_names.image", "--json"),
 )

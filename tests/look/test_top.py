@@ -220,7 +220,8 @@ class TextTest(KnownImageTest):
             self.assertRegex(text, line)
 
     def test_drawing_in_docs(self):
-        self.assertEqual(self.printed("top", "--svg"), (ROOT / "docs" / "top.svg").read_bytes())
+        printed = self.printed("top", "--svg", "--depth", "4", "--min", "2")
+        self.assertEqual(printed, (ROOT / "docs" / "top.svg").read_bytes())
 
     def test_lines(self):
         tree = tree_of(self.answers)
