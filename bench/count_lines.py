@@ -1,6 +1,6 @@
 #!/usr/bin/env python3
 """Counts what each crate has: lines of code, of definitions and of proofs, mutants and tests.
-Prints a table in Markdown.
+Prints a table in Markdown, with the sums of each group of `crates.txt`.
 
 Usage: bench/count_lines.py
 
@@ -33,20 +33,40 @@ def counts_of(crate):
     )
 
 
+def groups_of(lines):
+    """The crates of each group, by the first word of the comment above them; of `Product, the
+    inspector`, the words after the comma."""
+    groups, name = {}, None
+    for line in lines:
+        if line.startswith("# "):
+            name = line[2:].rpartition("Product, ")[2].removeprefix("the ").split(",")[0].lower()
+            groups.setdefault(name, [])
+        elif ":" in line:
+            groups[name].append(line.split(":")[0])
+    return groups
+
+
+def sums_of(rows):
+    return tuple(map(sum, zip(*rows)))
+
+
+def print_row(name, counts):
+    print(f"| {name} | " + " | ".join(map(str, counts)) + " |")
+
+
 def main():
-    names = [
-        line.split(":")[0]
-        for line in (ROOT / "crates.txt").read_text(encoding="utf-8").splitlines()
-        if ":" in line and not line.startswith("#")
-    ]
-    rows = [(name, counts_of(ROOT / "crates" / name)) for name in names]
-    rows.append(("all", tuple(map(sum, zip(*(counts for _, counts in rows))))))
+    groups = groups_of((ROOT / "crates.txt").read_text(encoding="utf-8").splitlines())
     print("| crate | " + " | ".join(COLUMNS) + " |")
     print("|---|" + "---:|" * len(COLUMNS))
-    for name, counts in rows:
-        print(
-            f"| {name if name == 'all' else f'`{name}`'} | " + " | ".join(map(str, counts)) + " |"
-        )
+    sums = {}
+    for group, names in groups.items():
+        rows = {name: counts_of(ROOT / "crates" / name) for name in names}
+        for name, counts in rows.items():
+            print_row(f"`{name}`", counts)
+        sums[group] = sums_of(rows.values())
+    for group, counts in sums.items():
+        print_row(f"{len(groups[group])} crates: {group}", counts)
+    print_row(f"all {sum(map(len, groups.values()))} crates", sums_of(sums.values()))
 
 
 if __name__ == "__main__":

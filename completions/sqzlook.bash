@@ -2,11 +2,14 @@
 _sqzlook() {
   local word=${COMP_WORDS[COMP_CWORD]} options='--clear-weak --human --json --past-damage --help'
   if ((COMP_CWORD == 1)); then
-    mapfile -t COMPREPLY < <(compgen -W 'check mend info census digest list show why refs top diff --help --version' -- "$word")
+    mapfile -t COMPREPLY < <(compgen -W 'check mend info census digest list show why refs top diff code senders implementors stacks find dump --help --version' -- "$word")
     return
   fi
   case ${COMP_WORDS[1]} in
-    check | show | refs | diff) options+=' --all' ;;
+    check) options+=' --all --strict' ;;
+    mend) options+=' --nil' ;;
+    show | refs | diff | senders | implementors | stacks | find) options+=' --all' ;;
+    code) options+=' --all --classes --unsent --unimplemented' ;;
     list) options+=' --all --by --dead' ;;
     census) options+=' --all --dead --retained' ;;
     why) options+=' --all --raw' ;;
