@@ -177,7 +177,7 @@ class MachineTest(SqueakImageTest):
         ]
         longest = max(sounds, key=lambda it: it.end - it.base)
         words = image.words[:]
-        words[longest.base] &= ~3
+        words[longest.base] ^= 3
         return Image(image.header, words, image.order).file()
 
     def mended(self, file):
