@@ -52,8 +52,8 @@ TEST_ASKED = "the test asks again"
 # The public calls that can run out of memory, except those of the program itself.
 CALLS = set(
     """
-    read_all MemorySink::new read_image mark_plain Regions::of live_words bases Forward::build
-    mark_locked mark slide census print MarkTable::new MarkTable::close run
+    read_all read_image_bytes MemorySink::new read_image mark_plain Regions::of live_words bases
+    Forward::build mark_locked mark slide census print MarkTable::new MarkTable::close run
     """.split()
 )
 CLOSES_AGAIN = tests_path("sqz_test_marks")

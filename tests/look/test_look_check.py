@@ -2,18 +2,24 @@
 bad pointers."""
 
 import gzip
+import os
+import threading
 import typing
 
 from tests.harness.json_rows import rows_of
 from tests.harness.look_checks import LookTest
+from tests.harness.outcomes import Outcome
+from tests.harness.programs import SQZLOOK, Limits
 from tests.harness.saved_image import SavedImageTest
 from tests.harness.sqzlook import look
 from tests.making.changed_images import named_image, with_bad_pointers
 from tests.reference.answers import Answers
 from tests.reference.faults import OTHER_VERSIONS, Fault
-from tests.reference.file_format import PREFIX
+from tests.reference.file_format import HEADER_WORDS, PREFIX
 
 UNREADABLE = Fault(16, "cannot read the image", cause={"reason": "no such file"})
+# The bytes that decide whether a header has a fault: those of a prefix, and the header.
+FRONT = len(PREFIX) + 4 * HEADER_WORDS
 # Bad pointers that are put into a small image.
 BAD = 6
 
@@ -162,4 +168,53 @@ class CausesTest(LookTest):
         self.assert_quiet(outcome, 1)
         found = {row["image"]: row["faults"][0]["text"] for row in rows_of(outcome.stdout)}
         expected = {name: f"version is not 6502{cause}" for name, (_, cause) in files.items()}
+        self.assertEqual(found, expected)
+
+
+class FrontsTest(LookTest):
+    """Files whose first bytes show that they hold no image."""
+
+    LINE = b"it: fault 2: version is not 6502\n"
+
+    def check(self, *options, **how):
+        return self.run_here(SQZLOOK, "check", *options, "it", **how)
+
+    def test_pipe_that_nobody_closes(self):
+        os.mkfifo(self.folder / "it")
+        pipe = os.open(self.folder / "it", os.O_RDWR)
+        self.addCleanup(os.close, pipe)
+        for options in ((), ("--past-damage",)):
+            with self.subTest(options=options):
+                os.write(pipe, bytes(FRONT))
+                self.assert_ends(self.check(*options), Outcome(1, stdout=self.LINE))
+
+    def test_image_in_a_pipe_is_read_once(self):
+        os.mkfifo(self.folder / "it")
+        file = named_image().file()
+        writing = threading.Thread(target=self.write, args=("it", file))
+        writing.start()
+        outcome = self.check()
+        writing.join()
+        self.assertEqual((outcome.status, outcome.stderr), (0, b""))
+        self.assertTrue(outcome.stdout.startswith(b"it: sound, "))
+
+    def test_large_file_takes_little_memory(self):
+        with open(self.folder / "it", "wb") as file:
+            file.truncate(3 << 30)
+        outcome = self.check(limits=Limits(memory=64 << 20))
+        self.assert_ends(outcome, Outcome(1, stdout=self.LINE))
+
+    def test_headers_that_are_cut(self):
+        """Each front of a file without an image is rejected as the whole is, or is too short."""
+        whole = named_image().file(PREFIX)
+        bad = whole[: len(PREFIX) + 4] + bytes(4) + whole[len(PREFIX) + 8 :]
+        for size in (*range(506, FRONT + 8), len(bad)):
+            self.write(f"{size}", bad[:size])
+        sizes = sorted(int(it.name) for it in self.folder.iterdir())
+        outcome = look("check", "--json", *map(str, sizes), folder=self.folder)
+        found = {int(row["image"]): row["faults"][0]["number"] for row in rows_of(outcome.stdout)}
+        known = len(PREFIX) + 4  # from here on the version after the prefix can be read
+        expected = {
+            size: 3 if size >= FRONT else 1 if size >= known else 2 for size in sizes
+        }
         self.assertEqual(found, expected)

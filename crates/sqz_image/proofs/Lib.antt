@@ -16,3 +16,4 @@ pub mod Parts
 pub mod SavedLemmas
 pub mod FoundLemmas
 pub mod RenewedLemmas
+pub mod FrontLemmas

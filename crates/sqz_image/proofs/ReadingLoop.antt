@@ -1,12 +1,13 @@
 -- A loop of reads: what it has read so far, and how it ends.
--- Serves `read_whole::read_all`.
-use Rattle.std.proofs.Common.{◌≡◌, Bool, ℕ, ◌+◌, ◌<◌, arith, List, ◌++◌, take, Ok, Err, Result, ap, ◌∙◌, refl, inl, inr}
+-- Serves `read_whole::read`.
+use Rattle.std.proofs.Common.{◌≡◌, Bool, ℕ, ◌+◌, ◌<◌, arith, List, ◌++◌, take, Ok, Err, Result, ap, ◌∙◌, sym, refl, inl, inr}
 use Rattle.std.proofs.Common.{◌⊎◌, true}
 use Rattle.std.specs.Io.KnownBytes.{Consumes}
 use Rattle.std.proofs.KnownBytes.{Consumes-trans, Consumes-kept}
 use Rattle.sqz_image.specs.declared.device.DeviceFault.{DeviceFault}
 use Rattle.sqz_image.specs.declared.fault.Fault.TheVariants.{OutOfMemory, ReadFailed}
-use Rattle.sqz_image.specs.Devices.{SourceState, IsRead, one_more, turn_limit, count_after, StopsWithin, ReadStops}
+use Rattle.sqz_image.specs.Fronts.{BeginsNoImage, ReadsFront}
+use Rattle.sqz_image.specs.Devices.{SourceState, IsRead, IsUnfinished, one_more, turn_limit, count_after, StopsWithin, ReadStops}
 use Rattle.std.proofs.lemmas.Bool.{ne_eqb}
 use Rattle.sqz_image.proofs.Turns.{one_more-count_after, count_after-lt}
 
@@ -41,18 +42,32 @@ module _ (gives_all : Bool) (old now new : SourceState) (file piece : List ℕ) 
   )
   ReadStops-limit (Err fault) read all = ReadStops-failed fault read (omega arith)
 
+  -- the bytes so far and those of one more read
+  more_bytes : (count : ℕ) → IsRead gives_all now new piece (Ok count) → Consumes old.left new.left (file ++ take count piece)
+  more_bytes count read = Consumes-trans old.left now.left new.left file (take count piece) so_far.bytes read.3
+
+  -- a read gave some bytes, and turns are left
+  is_unfinished : (count : ℕ) → IsRead gives_all now new piece (Ok count) → 0 < count → turns + 1 < turn_limit → IsUnfinished old new
+  is_unfinished count read some left =
+      let no_end : new.empty_reads ≡ now.empty_reads = read.6 ∙ rw (ne_eqb count 0 (λ e. omega arith)) refl in
+      let counted : new.reads ≡ count_after old.reads (turns + 1) = counted_more read.5 in
+      record {
+        sound = read.1;
+        below_limit = rw counted (count_after-lt old.reads (turns + 1) left);
+        no_end = no_end ∙ so_far.none_empty;
+      }
+
   -- there is no memory for what was read
   pub ReadStops-memory : (count : ℕ) → IsRead gives_all now new piece (Ok count) → 0 < count → turns + 1 < turn_limit → ReadStops old new OutOfMemory
   ReadStops-memory count read some left =
-      let no_end : new.empty_reads ≡ now.empty_reads = read.6 ∙ rw (ne_eqb count 0 (λ e. omega arith)) refl in
-      let counted : new.reads ≡ count_after old.reads (turns + 1) = counted_more read.5 in (
-        (file ++ take count piece, Consumes-trans old.left now.left new.left file (take count piece) so_far.bytes read.3),
-        inl (
-          refl,
-          record {
-            sound = read.1;
-            below_limit = rw counted (count_after-lt old.reads (turns + 1) left);
-            no_end = no_end ∙ so_far.none_empty;
-          },
-        ),
-      )
+      ((file ++ take count piece, more_bytes count read), inl (refl, is_unfinished count read some left))
+
+  -- what was read is the beginning of no image
+  pub ReadsFront-read : (count : ℕ) → IsRead gives_all now new piece (Ok count) → 0 < count → turns + 1 < turn_limit
+      → BeginsNoImage (file ++ take count piece) → ReadsFront old new (file ++ take count piece)
+  ReadsFront-read count read some left none = record {
+    bytes = more_bytes count read;
+    started_sound = sym so_far.failed ∙ read.0;
+    unfinished = is_unfinished count read some left;
+    no_image = none;
+  }

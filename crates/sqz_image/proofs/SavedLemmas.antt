@@ -60,7 +60,7 @@ same_order bytes others little big =
     ap (λ (n : ℕ). order_by n (number_of Big bytes)) little ∙ ap (λ (n : ℕ). order_by (number_of Little others) n) big
 
 -- the first four bytes tell it
-order_of-append : (bytes rest : List ℕ) → 4 ≤ length bytes → order_of (bytes ++ rest) ≡ order_of bytes
+pub order_of-append : (bytes rest : List ℕ) → 4 ≤ length bytes → order_of (bytes ++ rest) ≡ order_of bytes
 order_of-append bytes rest le =
     same_order (bytes ++ rest) bytes (little_from-append 4 bytes rest le) (big_from-append 4 bytes rest le)
 

@@ -9,5 +9,6 @@ pub mod Memory
 pub mod Ranks
 pub mod Index
 pub mod Unread
+pub mod Fronts
 pub mod MemoryDevices
 pub mod Readable

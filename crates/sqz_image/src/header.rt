@@ -1,10 +1,11 @@
 //! The header of an image file, and its offset in the file.
 
-ghost use Rattle.std.specs.Prelude.{◌≡◌, ◌⊎◌, ◌≤◌, length, take, IfOk, IfErr, Some};
+ghost use Rattle.std.specs.Prelude.{◌≡◌, ◌⊎◌, ◌≤◌, length, take, IfOk, IfErr, IsTrue, Some};
 ghost use Rattle.sqz_object.specs.Bytes.{words_of};
 ghost use Rattle.sqz_image.specs.File.{order_of, prefix_size, header_offset, header_of};
 ghost use Rattle.sqz_image.specs.File.{IsHeader, HasNoHeader, base_address, data_size, special_address};
 ghost use Rattle.sqz_image.specs.Refusals.{header_fault, file_fault, words_fault};
+ghost use Rattle.sqz_image.specs.Fronts.{BeginsNoImage};
 
 use crate::fault::Fault;
 use sqz_object::{Address, Order, word_at};
@@ -66,6 +67,21 @@ impl Header {
             offset,
             words,
         })
+    }
+
+    /// Returns whether the first bytes of a file are enough to know that its header has a fault:
+    /// `BadVersion`, `BadHeaderSize`, `BadDataSize` or `BadBase`, whatever follows them. The answer
+    /// is no for fewer bytes than a prefix and a header take.
+    pub(crate) fn is_refused(front: &[u8]) -> bool
+        ensures { IsTrue result → BeginsNoImage front.now }
+    {
+        if front.len() < PREFIX_SIZE + HEADER_SIZE {
+            return false;
+        }
+        match Header::of(front) {
+            Ok(header) => header.words_fault().is_some(),
+            Err(_) => true,
+        }
     }
 
     /// Returns the address of the first data word that the header states.

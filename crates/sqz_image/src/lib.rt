@@ -37,7 +37,7 @@ pub use memory_sink::MemorySink;
 pub use memory_source::MemorySource;
 pub use object::Object;
 pub use read_source::ReadSource;
-pub use read_whole::read_all;
+pub use read_whole::{read_all, read_image_bytes};
 pub use readable::Readable;
 pub use reading::{UnreadFile, image_of_file, image_or_file, read_image};
 pub use sink_calls::SinkCalls;

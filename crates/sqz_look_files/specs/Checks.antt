@@ -1,7 +1,8 @@
 -- Whether files hold sound images, and the exits that say so.
 use Rattle.std.specs.Prelude.{◌≡◌, ◌≢◌, ◌⊎◌, ℕ, max, Bool, true, false, List, [], ◌∷◌, length, All, Option, None, Result, Ok, Err}
 use Rattle.sqz_image.specs.declared.fault.Fault.{Fault}
-use Rattle.sqz_image.specs.Devices.{SourceState, ReadsWhole, new_source}
+use Rattle.sqz_image.specs.Devices.{SourceState, new_source}
+use Rattle.sqz_image.specs.Fronts.{ReadsEnough}
 use Rattle.sqz_image.specs.Objects.{SavedImage}
 use Rattle.sqz_image.specs.Refusals.{Holds, IsUnreadable}
 use Rattle.sqz_trace.specs.declared.weak.Weak.{Weak}
@@ -14,12 +15,13 @@ use Rattle.sqz_look_files.specs.declared.failure.Failure.TheVariants.{OutOfMemor
 use Rattle.sqz_look_files.specs.declared.loading.Loaded.{Loaded}
 use Rattle.sqz_look_files.specs.declared.loading.Loaded.TheVariants.{Image, Unreadable}
 
--- some file, of type F, was read to its end and gave these bytes; `left` is the bytes that an open
--- file has left, if contracts see them
+-- some file, of type F, was read and gave these bytes: to its end, or its first ones if no file that
+-- begins with them holds an image; `left` is the bytes that an open file has left, if contracts see
+-- them
 pub record ReadsFile {F : Type 0} (left : F → Option (List ℕ)) (bytes : List ℕ) : Type 0 where
   pub file : F
   pub to : SourceState
-  pub read : ReadsWhole true (new_source (left file)) to bytes
+  pub read : ReadsEnough true (new_source (left file)) to bytes
 
 -- the file holds no image, for some fault
 abbrev pub HoldsNone : List ℕ → Type 0
@@ -30,7 +32,7 @@ abbrev pub IsHeldBy : List ℕ → Loaded → Type 0
 IsHeldBy bytes (Image image) = Holds bytes image
 IsHeldBy bytes (Unreadable unreadable) = HoldsNone bytes
 
--- some file was read to its end, and holds this
+-- some file was read, and holds this
 pub record IsLoaded {F : Type 0} (left : F → Option (List ℕ)) (loaded : Loaded) : Type 0 where
   pub bytes : List ℕ
   pub read : ReadsFile left bytes
@@ -53,7 +55,7 @@ pub record IsClean (weak : Weak) (strict : Bool) (bytes : List ℕ) : Type 0 whe
   pub sound : IsSound weak bytes
   pub no_warning : strict ≡ true → IsStrictly weak bytes false
 
--- some file was read to its end, and a fact of its bytes is true
+-- some file was read, and a fact of its bytes is true
 pub record ReadsSome {F : Type 0} (left : F → Option (List ℕ)) (P : List ℕ → Type 0) : Type 0 where
   pub bytes : List ℕ
   pub read : ReadsFile left bytes

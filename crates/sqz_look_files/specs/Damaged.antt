@@ -25,7 +25,7 @@ abbrev pub IsHeldPast : List ℕ → LoadedPast → Type 0
 IsHeldPast bytes (past.Image recovered) = IsRecovered bytes recovered
 IsHeldPast bytes (past.Unreadable unreadable) = HoldsNone bytes ⊎ IsDamaged bytes
 
--- some file was read to its end, and holds this past what cannot be read
+-- some file was read, and holds this past what cannot be read
 pub record IsLoadedPast {F : Type 0} (left : F → Option (List ℕ)) (loaded : LoadedPast) : Type 0 where
   pub bytes : List ℕ
   pub read : ReadsFile left bytes

@@ -5,7 +5,7 @@ ghost use Rattle.sqz_image.specs.Unread.{IsUnread};
 ghost use Rattle.sqz_look_files.specs.Checks.{IsHeldBy, IsLoaded, ReadsFile};
 ghost use Rattle.sqz_look_files.specs.Damaged.{IsHeldPast, IsLoadedPast};
 
-use sqz_image::{Fault, Image, ReadSource, UnreadFile, image_or_file, read_all};
+use sqz_image::{Fault, Image, ReadSource, UnreadFile, image_or_file, read_image_bytes};
 use sqz_look_check::{ReadFailure, Unreadable};
 use sqz_mend::{RecoverError, Recovered, recover};
 use std::alloc::{AllocError, Global};
@@ -68,7 +68,8 @@ pub(crate) fn load_past_damage<T: Files>(
     Ok(recovered_of(alloc, bytes)?)
 }
 
-/// Returns the bytes of the file with this path.
+/// Returns the bytes of the file with this path, or only the first ones if these show that it holds
+/// no image.
 pub(crate) fn bytes_of<T: Files>(rt: &T, alloc: Global, path: &str) -> Result<Vec<u8>, LoadError>
     ensures { IfOk result (λ bytes. ReadsFile T.File.remaining bytes.items) }
 {
@@ -80,7 +81,7 @@ pub(crate) fn bytes_of<T: Files>(rt: &T, alloc: Global, path: &str) -> Result<Ve
         return Err(LoadError::NotRead(ReadFailure::Directory));
     }
     let mut source = ReadSource::new(file);
-    match read_all(alloc, &mut source) {
+    match read_image_bytes(alloc, &mut source) {
         Ok(bytes) => Ok(bytes),
         Err(Fault::OutOfMemory) => Err(LoadError::OutOfMemory),
         Err(_) => Err(LoadError::NotRead(ReadFailure::Other)),

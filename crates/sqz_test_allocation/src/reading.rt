@@ -6,7 +6,7 @@ ghost use Rattle.sqz_image.specs.Objects.{object_count};
 use super::again::again;
 use super::dead_cycle::{assert_six_objects, image_in, new_sink};
 use super::rows::DEAD_CYCLE;
-use sqz_image::{Fault, Heap, Image, MemorySink, ReadSource, Sink, read_all};
+use sqz_image::{Fault, Heap, Image, MemorySink, ReadSource, Sink, read_all, read_image_bytes};
 use sqz_object::Words;
 use std::process::Abort;
 use std::test::Fail;
@@ -27,6 +27,15 @@ fn file_read<R: Print + AllocGlobal>(rt: &R) -> Result<Vec<u8>, Fail> {
         rt,
         "read_all",
         read_all(rt.alloc(), &mut ReadSource::new(DEAD_CYCLE.file))
+    )
+}
+
+/// The bytes of the file, as they are read for its image.
+fn image_bytes_read<R: Print + AllocGlobal>(rt: &R) -> Result<Vec<u8>, Fail> {
+    again!(
+        rt,
+        "read_image_bytes",
+        read_image_bytes(rt.alloc(), &mut ReadSource::new(DEAD_CYCLE.file))
     )
 }
 
@@ -68,6 +77,7 @@ fn assert_takes<R: Abort>(rt: &R, sink: &mut MemorySink, file: &[u8]) {
 fn reading_serves_again(rt: HostRuntime) -> Result<(), Fail> {
     let file = file_read(&rt)?;
     assert_eq!(rt; file.as_slice(), DEAD_CYCLE.file);
+    assert_eq!(rt; image_bytes_read(&rt)?.as_slice(), DEAD_CYCLE.file);
     assert_image(&rt, &image_in(&rt, &file)?);
     assert_takes(&rt, &mut new_sink(&rt)?, &file);
     Ok(())

@@ -1,6 +1,8 @@
 //! Devices that pass calls on: what goes through them, and what does not after they failed.
 
-use sqz_image::{Fault, MemorySource, ReadSource, Sink, Source, WriteSink, read_all, write_all};
+use sqz_image::{
+    Fault, MemorySource, ReadSource, Sink, Source, WriteSink, read_all, read_image_bytes, write_all,
+};
 use sqz_test_fixtures::accepted::DEAD_ARRAY;
 use sqz_test_fixtures::file_of;
 use std::io::{Cursor, ErrorKind, Read, Write};
@@ -24,6 +26,25 @@ fn reads_a_file_in_pieces_of_any_size(rt: HostRuntime) -> Result<(), Fail> {
     for piece in [1, 7, 88] {
         assert_reads(&rt, &file, piece)?;
     }
+    Ok(())
+}
+
+#[test]
+fn reads_an_image_to_its_end(rt: HostRuntime) -> Result<(), Fail> {
+    let file = file_of(rt.alloc(), &DEAD_ARRAY)?;
+    let mut source = MemorySource::new(file.clone()?, 7, None);
+    let found = read_image_bytes(rt.alloc(), &mut source)?;
+    assert_eq!(rt; found.as_slice(), file.as_slice());
+    Ok(())
+}
+
+#[test]
+fn reads_a_prefix_and_a_header_of_what_holds_no_image(rt: HostRuntime) -> Result<(), Fail> {
+    // the read after these bytes would fail
+    let mut source = MemorySource::new(vec![in rt.alloc(); 1u8; 4096]?, 288, Some(2));
+    let found = read_image_bytes(rt.alloc(), &mut source)?;
+    assert_eq!(rt; found.len(), 576);
+    assert!(rt; !source.failed());
     Ok(())
 }
 

@@ -1,8 +1,9 @@
-use Rattle.std.proofs.Common.{◌≡◌, ◌+◌, ◌-◌, ◌^◌, arith}
+use Rattle.std.proofs.Common.{◌≡◌, ◌+◌, ◌-◌, ◌^◌, ◌++◌, take, refl, sym, subst, inr, arith}
+use Rattle.sqz_image.specs.Fronts.{BeginsNoImage, ReadsFront}
 use Rattle.std.proofs.lemmas.Grind.{common_steps}
 use Rattle.std.proofs.lemmas.Result.{err_from_is_err_and}
-use Rattle.sqz_image.proofs.ReadingLoop.{ReadStops-failed, ReadStops-memory, ReadStops-limit}
-use Rattle.sqz_image.proofs.read_whole.read_all.Goals as goal
+use Rattle.sqz_image.proofs.ReadingLoop.{ReadStops-failed, ReadStops-memory, ReadStops-limit, ReadsFront-read}
+use Rattle.sqz_image.proofs.read_whole.read.Goals as goal
 
 pub returns-in_err-append-clause-stopped : goal.returns-in_err-append-clause-stopped
 returns-in_err-append-clause-stopped g c =
@@ -22,3 +23,11 @@ returns-in_default-clause-stopped g c =
 
 pub loop-preserved : goal.loop-preserved
 loop-preserved g c = grind (arith, common_steps)
+
+pub returns-in-loop-clause-asked : goal.returns-in-loop-clause-asked
+returns-in-loop-clause-asked g c =
+    let appended : c.append.new.file.items ≡ c.loop.file.items ++ take c.in-Ok.count c.read.new.into = c.in_ok-append.ensures.whole in
+    let none : BeginsNoImage c.append.new.file.items = subst BeginsNoImage c.deref.ensures.value (c.if-is_refused.ensures refl) in
+    rw c.in-Image.is (inr (subst (ReadsFront _ _) (sym appended)
+    (ReadsFront-read _ _ _ _ _ _ _ c.loop.invariant.has_read c.in-Ok.count c.in-Ok.ensures.read
+    (omega (arith, c.if-count-eq0.false)) (omega arith) (subst BeginsNoImage appended none))))

@@ -1,6 +1,6 @@
 use Rattle.std.proofs.Common.{◌≡◌, ◌-◌, length}
 use Rattle.sqz_image.proofs.ReadingLoop.{HasRead}
-use Rattle.sqz_image.proofs.read_whole.read_all.Given as goal
+use Rattle.sqz_image.proofs.read_whole.read.Given as goal
 
 abbrev pub invariant-loop : goal.invariant-loop
 invariant-loop g l =

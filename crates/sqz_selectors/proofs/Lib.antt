@@ -1,0 +1,3 @@
+mod PickLemmas
+mod MentionLemmas
+mod UnimplementedLemmas

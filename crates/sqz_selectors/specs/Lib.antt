@@ -1,0 +1,4 @@
+pub mod Picks
+pub mod Mentions
+pub mod Unimplemented
+pub mod Spelled
