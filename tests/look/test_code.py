@@ -5,14 +5,22 @@ import re
 
 from tests.harness.json_rows import rows_of
 from tests.harness.outcomes import Outcome
+from tests.harness.look_checks import LookTest
 from tests.harness.saved_image import SavedImageTest
 from tests.harness.sqzlook import look
 from tests.harness.worked_images import DeadArrayTest
+from tests.making.builder import Ref
+from tests.making.garbage import SOUND, littered
+from tests.making.method_images import METHOD_NAME, TRAILERS, MethodImage
 from tests.reference.bytecodes import instructions, method_parts
-from tests.reference.objects import is_method
+from tests.reference.fields import SpecialField
+from tests.reference.file_format import HEADER_WORDS, PREFIX, words_of
+from tests.reference.objects import ZERO, Format, format_of, is_method
 
 # The number of methods whose instructions are compared.
 METHODS = 200
+# The bytes that a damaged disk loses at once.
+SECTOR = 512
 
 
 class CodeTest(SavedImageTest):
@@ -145,15 +153,100 @@ class CodeTest(SavedImageTest):
         found = [(it["slot"], it["kind"], it["value"]) for it in special["slots"]]
         self.assertEqual(found, slots)
 
+    def answers_about(self, *options):
+        """The answers of all commands about an image, without addresses."""
+
+        def rows(command, *words):
+            outcome = self.look(command, "--json", *options, *words)
+            self.assertEqual(outcome.status, 0)
+            return [row for row in rows_of(outcome.stdout) if "skipped" not in row]
+
+        def methods(rows):
+            return sorted(it["method"] for it in rows)
+
+        (method,) = rows("code", "Point>>+")
+        return {
+            "code": [(it["operation"], it["bytes"]) for it in method["instructions"]],
+            "class": [(it["category"], it["selector"]) for it in rows("code", "Point")[1:]],
+            "implementors": methods(rows("implementors", "startUp")),
+            "senders": methods(rows("senders", "at:put:")),
+            "unsent": methods(rows("code", "--unsent")),
+            "unimplemented": [
+                (it["selector"], methods(it["senders"])) for it in rows("code", "--unimplemented")
+            ],
+            "stacks": sorted(methods(it["contexts"]) for it in rows("stacks")),
+            "find": sorted(it["text"] for it in rows("find", "/Users/|/Volumes/|@")),
+        }
+
+    def damaged(self):
+        """The file of the image, with a sector of zeros where its longest sound begins."""
+        words = self.image.words
+        sound = max(
+            (it for it in self.image.objects if format_of(words[it.base]) == Format.WORDS),
+            key=lambda it: it.end - it.first,
+        )
+        file, at = self.image.file(b""), 4 * (HEADER_WORDS + sound.first)
+        return file[:at] + bytes(SECTOR) + file[at + SECTOR :]
+
     def test_other_forms_of_the_file(self):
-        """The answers are the same in the other byte order and after a prefix."""
-        self.write("other.image", self.image.in_other_order().file(bytes(512)))
-        for words in (("stacks",), ("code", "--unimplemented"), ("implementors", "startUp")):
-            command, *rest = words
-            with self.subTest(command):
-                found = self.look(command, "--json", "other.image", *rest)
-                wanted = self.look(command, "--json", "in.image", *rest)
-                self.assertEqual(found, wanted)
+        """The answers are the same in the other byte order and after a prefix, with garbage, and
+        past damage."""
+        forms = {
+            "other.image": self.image.in_other_order().file(PREFIX),
+            "garbage.image": littered(self.image, self.generator, SOUND, 500, False).file(),
+            "damaged.image": self.damaged(),
+        }
+        wanted = self.answers_about("in.image")
+        for name, file in forms.items():
+            self.write(name, file)
+            options = ("--past-damage",) if name == "damaged.image" else ()
+            found = self.answers_about(*options, name)
+            for question, answer in wanted.items():
+                with self.subTest(f"{question} of {name}"):
+                    self.assertEqual(found[question], answer)
+
+
+class SelectorsTest(LookTest):
+    """What counts as a selector, on small images with one method of one's choice."""
+
+    def methods(self, image, command, *words):
+        """The methods that a command prints about an image."""
+        self.write("it.image", image.file())
+        outcome = look(command, "--json", "it.image", *words, folder=self.folder)
+        return [row["method"] for row in rows_of(self.printed_by(outcome))]
+
+    def assert_sent(self, image, selector, is_sent):
+        """Checks whether the method sends a selector or has it as a literal."""
+        self.assertEqual(self.methods(image, "senders", selector), [METHOD_NAME] * is_sent)
+
+    def test_literals(self):
+        for add, is_sent in ((MethodImage.add_symbol, True), (MethodImage.add_string, False)):
+            with self.subTest(is_sent=is_sent):
+                image = MethodImage()
+                text = "x:y:" if is_sent else b"x:y:"
+                image.set_method([add(image, text)])
+                self.assert_sent(image, "x:y:", is_sent)
+
+    def test_special_selector(self):
+        for code, is_sent in ((0xB0, True), (0xB1, False)):  # send + and -
+            with self.subTest(is_sent=is_sent):
+                image = MethodImage()
+                symbols = [it for name in "+-" for it in (image.add_symbol(name), ZERO)]
+                special = image.fields_of(image.special)
+                special[SpecialField.SPECIAL_SELECTORS] = image.add_array(*symbols)
+                image.set_method(code=bytes([code, 0x7C]) + TRAILERS[0])
+                self.assert_sent(image, "+", is_sent)
+
+    def test_unsent(self):
+        # the method mentions the very selector of another one, or a symbol like it
+        for is_same in (True, False):
+            with self.subTest(is_same=is_same):
+                image = MethodImage()
+                selector = [*words_of(b"x:y:", "little")]
+                same = next(at for at, it in enumerate(image.items) if it.fields == selector)
+                image.set_method([Ref(same) if is_same else image.add_symbol("x:y:")])
+                unsent = self.methods(image, "code", "--unsent")
+                self.assertEqual("Point>>x:y:" in unsent, not is_same)
 
 
 class CodeArgumentsTest(DeadArrayTest):

@@ -9,7 +9,9 @@ class SpecialField(enum.IntEnum):
     NIL = 0
     FALSE = 1
     TRUE = 2
+    SCHEDULER = 3
     SMALLTALK = 8
+    SPECIAL_SELECTORS = 23
     COMPACT_CLASSES = 28
 
 

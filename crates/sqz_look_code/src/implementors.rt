@@ -1,11 +1,11 @@
 //! The methods with a selector.
 
 use crate::live_methods::live_methods;
-use crate::method_row::{MethodRows, add_row, print_rows};
-use crate::selectors::Selectors;
+use crate::method_row::print_methods;
+use crate::selectors::selectors_with;
 use sqz_image::Sink;
 use sqz_look_view::{Inspector, Out, PrintError};
-use std::collections::BTreeMap;
+use sqz_selectors::implementors_of;
 
 /// Prints the live methods with a selector.
 pub fn print_implementors<C: Sink>(
@@ -13,14 +13,8 @@ pub fn print_implementors<C: Sink>(
     selector: &str,
     out: &mut Out<'_, C>,
 ) -> Result<(), PrintError> {
-    let mut selectors = Selectors::new(inspector.alloc);
-    let wanted = Vec::from_slice(inspector.alloc, selector.as_bytes())?;
-    let wanted = selectors.number_of_bytes(wanted)?;
-    let mut rows: MethodRows = BTreeMap::new(inspector.alloc);
-    for name in &live_methods(inspector)? {
-        if selectors.number_of(inspector, name.selector)? == Some(wanted) {
-            add_row(inspector, *name, &mut rows)?;
-        }
-    }
-    print_rows(&rows, out)
+    let methods = live_methods(inspector)?;
+    let selectors = selectors_with(inspector, &methods, selector)?;
+    let found = implementors_of(inspector.alloc, &methods, &selectors)?;
+    print_methods(inspector, &found, out)
 }

@@ -1,7 +1,8 @@
 //! A method as a row.
 
-ghost use Rattle.std.specs.Prelude.{◌<◌};
+ghost use Rattle.std.specs.Prelude.{◌<◌, All};
 ghost use Rattle.sqz_image.specs.Objects.{object_count};
+ghost use Rattle.sqz_names.specs.Names.{IsMethodName};
 
 use serde::Serialize;
 use sqz_image::Sink;
@@ -44,30 +45,20 @@ impl fmt::Display for MethodRow {
     }
 }
 
-/// Methods by name, and on a tie by address.
-pub(crate) type MethodRows = BTreeMap<(String, u32), MethodRow>;
-
-/// Adds a method to rows.
-pub(crate) fn add_row(
+/// Prints methods by name, on a tie by address, and how many there are.
+pub(crate) fn print_methods<C: Sink>(
     inspector: &Inspector<'_>,
-    name: MethodName,
-    rows: &mut MethodRows,
-) -> Result<(), AllocError>
-    requires method { name.method < object_count inspector.now.live.graph.heap.now }
-    requires class { name.class < object_count inspector.now.live.graph.heap.now }
-    requires selector { name.selector < object_count inspector.now.live.graph.heap.now }
-{
-    let row = MethodRow::of(inspector, name)?;
-    let key = (row.method.clone()?, row.address.0);
-    rows.insert(key, row)?;
-    Ok(())
-}
-
-/// Prints methods by name, and how many there are.
-pub(crate) fn print_rows<C: Sink>(
-    rows: &MethodRows,
+    methods: &[MethodName],
     out: &mut Out<'_, C>,
-) -> Result<(), PrintError> {
+) -> Result<(), PrintError>
+    requires { All (IsMethodName inspector.now.live.graph.heap.now
+        inspector.now.live.graph.weak) methods.now }
+{
+    let mut rows = BTreeMap::new(inspector.alloc);
+    for name in methods {
+        let row = MethodRow::of(inspector, *name)?;
+        rows.insert((row.method.clone()?, row.address.0), row)?;
+    }
     let shown = out.shown(rows.len());
     out.text(&"       bytes  address   method")?;
     for row in rows.values().take(shown) {

@@ -1,85 +1,37 @@
-//! Selectors by their characters.
+//! The selectors that a word stands for.
 
-ghost use Rattle.std.specs.Prelude.{◌<◌, IfSome};
+ghost use Rattle.std.specs.Prelude.{◌<◌};
 ghost use Rattle.sqz_image.specs.Objects.{object_count};
 
-use crate::special_selectors::special_selector;
-use sqz_code::Operation;
-use sqz_histogram::first_bytes;
-use sqz_image::Slot;
 use sqz_look_view::Inspector;
+use sqz_names::MethodName;
 use sqz_object::ObjectIndex;
-use sqz_trace::target;
-use std::alloc::{AllocError, Global};
-use std::collections::BTreeMap;
+use sqz_selectors::{marked_selectors, spelled};
+use sqz_trace::Marks;
+use std::alloc::AllocError;
 
-/// Numbers for selectors: two byte objects have the same number if they have the same bytes.
-#[derive(Drop)]
-pub(crate) struct Selectors {
-    alloc: Global,
-    by_object: BTreeMap<ObjectIndex, usize>,
-    by_bytes: BTreeMap<Vec<u8>, usize>,
-}
-
-impl Selectors {
-    /// Returns no numbers.
-    pub(crate) fn new(alloc: Global) -> Self {
-        Selectors {
-            alloc,
-            by_object: BTreeMap::new(alloc),
-            by_bytes: BTreeMap::new(alloc),
-        }
-    }
-
-    /// Returns the number of a byte object. None for another object.
-    pub(crate) fn number_of(
-        &mut self,
-        inspector: &Inspector<'_>,
-        selector: ObjectIndex,
-    ) -> Result<Option<usize>, AllocError>
-        requires { selector < object_count inspector.now.live.graph.heap.now }
-    {
-        if let Some(number) = self.by_object.get(&selector) {
-            return Ok(Some(*number));
-        }
-        let heap = inspector.live.graph.heap;
-        let object = heap.object(selector);
-        let Some(bytes) = first_bytes(self.alloc, heap.order(), &object, usize::MAX)? else {
-            return Ok(None);
-        };
-        let number = self.number_of_bytes(bytes)?;
-        self.by_object.insert(selector, number)?;
-        Ok(Some(number))
-    }
-
-    /// Returns the number of the selector with these bytes.
-    pub(crate) fn number_of_bytes(&mut self, bytes: Vec<u8>) -> Result<usize, AllocError> {
-        if let Some(number) = self.by_bytes.get(&bytes) {
-            return Ok(*number);
-        }
-        let number = self.by_bytes.len();
-        self.by_bytes.insert(bytes, number)?;
-        Ok(number)
-    }
-}
-
-/// Returns the selector that an instruction of a method sends. None if it sends none, or one that
-/// is no object.
-pub(crate) fn sent_selector(
+/// Returns the marks of the selectors with these characters: symbols, and what method dictionaries
+/// have as selectors. A string is none.
+pub(crate) fn selectors_with(
     inspector: &Inspector<'_>,
-    method: ObjectIndex,
-    operation: Operation,
-) -> Option<ObjectIndex>
-    requires { method < object_count inspector.now.live.graph.heap.now }
-    ensures { IfSome result (λ selector.
-        selector < object_count inspector.now.live.graph.heap.now) }
-{
-    match operation {
-        Operation::Send { literal, .. } | Operation::SendSuper { literal, .. } => {
-            let slot = Slot::Field(u32::from(literal) + 1);
-            target(inspector.live.graph.heap, method, slot)
+    methods: &[MethodName],
+    text: &str,
+) -> Result<Marks, AllocError> {
+    let (alloc, heap) = (inspector.alloc, inspector.live.graph.heap);
+    let known = marked_selectors(alloc, heap, methods)?;
+    let mut selectors = Vec::new(alloc);
+    for object in &spelled(alloc, heap, text)? {
+        if known.has(*object) || is_symbol(inspector, *object)? {
+            selectors.push(*object)?;
         }
-        Operation::SendSpecial(index) => special_selector(inspector, index),
-        _ => None,
     }
+    Marks::listed(alloc, heap, &selectors)
+}
+
+/// Returns whether the class of an object is that of symbols.
+fn is_symbol(inspector: &Inspector<'_>, object: ObjectIndex) -> Result<bool, AllocError>
+    requires { object < object_count inspector.now.live.graph.heap.now }
+{
+    let class = inspector.names.name_of_class_of(object)?;
+    Ok(matches!(class.as_str(), "Symbol" | "ByteSymbol"))
 }

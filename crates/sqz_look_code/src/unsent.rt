@@ -2,102 +2,31 @@
 
 ghost use Rattle.std.specs.Prelude.{◌<◌};
 ghost use Rattle.sqz_image.specs.Objects.{object_count};
+ghost use Rattle.sqz_names.specs.Names.{IsMethodName};
 
 use crate::live_methods::{distinct_methods, live_methods};
-use crate::method_row::{MethodRow, MethodRows, add_row, print_rows};
-use crate::selectors::{Selectors, sent_selector};
+use crate::method_row::{MethodRow, print_methods};
 use serde::Serialize;
 use sqz_image::Sink;
-use sqz_look_view::{Counted, Inspector, Out, PrintError, object_at};
-use sqz_methods::{code_of, method_literals};
-use sqz_names::MethodName;
-use sqz_object::{ObjectIndex, Value, value_of};
-use std::alloc::{AllocError, Global};
+use sqz_look_view::{Counted, Inspector, Out, PrintError};
+use sqz_object::ObjectIndex;
+use sqz_selectors::{Unimplemented, mark_mentioned, marked_selectors, unimplemented_of, unsent_of};
+use std::alloc::AllocError;
 use std::collections::BTreeMap;
 use std::fmt;
 
 /// The maximum number of senders of a selector in the text form.
 const MOST_SENDERS: usize = 3;
 
-/// Numbers of selectors.
-#[derive(Drop)]
-struct NumberSet {
-    has: Vec<bool>,
-}
-
-impl NumberSet {
-    /// Returns no numbers.
-    fn new(alloc: Global) -> Self {
-        NumberSet {
-            has: Vec::new(alloc),
-        }
-    }
-
-    /// Adds a number; none is added if there is none.
-    fn insert(&mut self, number: Option<usize>) -> Result<(), AllocError> {
-        let Some(number) = number else {
-            return Ok(());
-        };
-        for _ in self.has.len()..number.saturating_add(1) {
-            self.has.push(false)?;
-        }
-        if let Some(place) = self.has.get_mut(number) {
-            *place = true;
-        }
-        Ok(())
-    }
-
-    /// Returns whether a number is there.
-    fn contains(&self, number: usize) -> bool {
-        self.has.get(number).copied() == Some(true)
-    }
-}
-
 /// Prints the live methods whose selectors no live method sends or has as a literal.
 pub fn print_unsent<C: Sink>(
     inspector: &Inspector<'_>,
     out: &mut Out<'_, C>,
 ) -> Result<(), PrintError> {
-    let mut selectors = Selectors::new(inspector.alloc);
-    let mut named = NumberSet::new(inspector.alloc);
-    for name in &distinct_methods(inspector)? {
-        add_named(inspector, &mut selectors, name.method, &mut named)?;
-    }
-    let mut rows: MethodRows = BTreeMap::new(inspector.alloc);
-    for name in &live_methods(inspector)? {
-        if let Some(number) = selectors.number_of(inspector, name.selector)?
-            && !named.contains(number)
-        {
-            add_row(inspector, *name, &mut rows)?;
-        }
-    }
-    print_rows(&rows, out)
-}
-
-/// Adds the selectors that a method sends or has as literals.
-fn add_named(
-    inspector: &Inspector<'_>,
-    selectors: &mut Selectors,
-    method: ObjectIndex,
-    named: &mut NumberSet,
-) -> Result<(), AllocError>
-    requires { method < object_count inspector.now.live.graph.heap.now }
-{
-    let heap = inspector.live.graph.heap;
-    for word in method_literals(heap, method).iter() {
-        if let Value::Pointer(address) = value_of(word)
-            && let Some(literal) = object_at(heap, address)
-        {
-            named.insert(selectors.number_of(inspector, literal)?)?;
-        }
-    }
-    let code = code_of(inspector.alloc, heap, method)?;
-    for instruction in &code.instructions {
-        if let Some(selector) = sent_selector(inspector, method, instruction.operation) {
-            named.insert(selectors.number_of(inspector, selector)?)?;
-        }
-    }
-    Ok(())
+    let alloc = inspector.alloc;
+    let mentioned = mark_mentioned(alloc, inspector.live.graph, &distinct_methods(inspector)?)?;
+    let unsent = unsent_of(alloc, &live_methods(inspector)?, &mentioned)?;
+    print_methods(inspector, &unsent, out)
 }
 
 /// A selector that is sent and not implemented.
@@ -123,75 +52,45 @@ impl fmt::Display for UnimplementedView {
     }
 }
 
+/// Selectors by their characters, and on a tie by index.
+type Views = BTreeMap<(String, ObjectIndex), UnimplementedView>;
+
 /// Prints the selectors that live methods send and no live method has, by name, with their senders.
 pub fn print_unimplemented<C: Sink>(
     inspector: &Inspector<'_>,
     out: &mut Out<'_, C>,
 ) -> Result<(), PrintError> {
-    let mut selectors = Selectors::new(inspector.alloc);
-    let mut implemented = NumberSet::new(inspector.alloc);
-    for name in &live_methods(inspector)? {
-        implemented.insert(selectors.number_of(inspector, name.selector)?)?;
+    let (alloc, graph) = (inspector.alloc, inspector.live.graph);
+    let implemented = marked_selectors(alloc, graph.heap, &live_methods(inspector)?)?;
+    let found = unimplemented_of(alloc, graph, &distinct_methods(inspector)?, &implemented)?;
+    let mut views: Views = BTreeMap::new(alloc);
+    for one in &found {
+        add_sender(inspector, *one, &mut views)?;
     }
-    let mut found = BTreeMap::new(inspector.alloc);
-    for name in &distinct_methods(inspector)? {
-        add_unimplemented(inspector, &mut selectors, &implemented, *name, &mut found)?;
-    }
-    let shown = out.shown(found.len());
-    for view in found.values().take(shown) {
+    let shown = out.shown(views.len());
+    for view in views.values().take(shown) {
         out.emit(view)?;
     }
-    out.rest(found.len(), "selector")
+    out.rest(views.len(), "selector")
 }
 
-/// Adds the selectors that a method sends and no method has.
-fn add_unimplemented(
-    inspector: &Inspector<'_>,
-    selectors: &mut Selectors,
-    implemented: &NumberSet,
-    name: MethodName,
-    found: &mut BTreeMap<(String, usize), UnimplementedView>,
-) -> Result<(), AllocError>
-    requires method { name.method < object_count inspector.now.live.graph.heap.now }
-    requires class { name.class < object_count inspector.now.live.graph.heap.now }
-    requires selector { name.selector < object_count inspector.now.live.graph.heap.now }
-{
-    let code = code_of(inspector.alloc, inspector.live.graph.heap, name.method)?;
-    let mut added = Vec::new(inspector.alloc);
-    for instruction in &code.instructions {
-        let Some(selector) = sent_selector(inspector, name.method, instruction.operation) else {
-            continue;
-        };
-        let Some(number) = selectors.number_of(inspector, selector)? else {
-            continue;
-        };
-        if implemented.contains(number) || added.contains(&number) {
-            continue;
-        }
-        added.push(number)?;
-        add_sender(inspector, selector, number, name, found)?;
-    }
-    Ok(())
-}
-
-/// Adds a sender of a selector with a number.
+/// Adds a sender of a selector, unless it was the last one that was added.
 fn add_sender(
     inspector: &Inspector<'_>,
-    selector: ObjectIndex,
-    number: usize,
-    name: MethodName,
-    found: &mut BTreeMap<(String, usize), UnimplementedView>,
+    one: Unimplemented,
+    views: &mut Views,
 ) -> Result<(), AllocError>
-    requires sent { selector < object_count inspector.now.live.graph.heap.now }
-    requires method { name.method < object_count inspector.now.live.graph.heap.now }
-    requires class { name.class < object_count inspector.now.live.graph.heap.now }
-    requires selector { name.selector < object_count inspector.now.live.graph.heap.now }
+    requires inside { one.selector < object_count inspector.now.live.graph.heap.now }
+    requires sender { IsMethodName inspector.now.live.graph.heap.now
+        inspector.now.live.graph.weak one.sender }
 {
-    let row = MethodRow::of(inspector, name)?;
-    let text = inspector.names.text(selector)?;
-    let key = (text.clone()?, number);
-    if let Some(view) = found.get_mut(&key) {
-        view.senders.push(row)?;
+    let row = MethodRow::of(inspector, one.sender)?;
+    let text = inspector.names.text(one.selector)?;
+    let key = (text.clone()?, one.selector);
+    if let Some(view) = views.get_mut(&key) {
+        if !is_last(&view.senders, &row) {
+            view.senders.push(row)?;
+        }
         return Ok(());
     }
     let mut senders = Vec::new(inspector.alloc);
@@ -200,6 +99,14 @@ fn add_sender(
         selector: text,
         senders,
     };
-    found.insert(key, view)?;
+    views.insert(key, view)?;
     Ok(())
+}
+
+/// Returns whether a method is the last of these.
+fn is_last(senders: &[MethodRow], sender: &MethodRow) -> bool {
+    match senders.last() {
+        Some(last) => last.address.0 == sender.address.0,
+        None => false,
+    }
 }

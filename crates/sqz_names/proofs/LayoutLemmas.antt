@@ -63,3 +63,11 @@ HasText-first memory object text = by_layout (layout (chunk_words memory object)
       bytes = front_all (bytes_in memory.order unused (fields (chunk_words memory object))) text (same_Some _ _ found);
     }
     by_layout Method is found = absurd (none-some text found)
+
+-- and the other way round
+pub first_bytes-HasText : (memory : Memory) (object : ℕ) (text : List ℕ)
+    → HasText memory text object → first_bytes memory.order (length text + 1) (chunk_words memory object) ≡ Some text
+first_bytes-HasText memory object text has =
+    ap (λ (laid : Layout). first_bytes_by memory.order (length text + 1) laid (fields (chunk_words memory object))) has.is_text
+    ∙ ap (λ (bytes : List ℕ). Some (take (length text + 1) bytes)) has.bytes
+    ∙ ap (λ (bytes : List ℕ). Some bytes) (take_all (length text + 1) text (omega arith))

@@ -26,14 +26,15 @@ pub(crate) fn is_method(heap: &Heap, object: ObjectIndex) -> bool
 }
 
 /// Returns whether an object is a byte object with these bytes.
-pub(crate) fn spells(
+pub fn spells(
     alloc: Global,
     heap: &Heap,
     object: ObjectIndex,
     text: &str,
 ) -> Result<bool, AllocError>
     requires { object < object_count heap.now }
-    ensures { IfOk result (λ is. IsTrue is → HasText heap.now text.now object) }
+    ensures sound { IfOk result (λ is. IsTrue is → HasText heap.now text.now object) }
+    ensures complete { IfOk result (λ is. HasText heap.now text.now object → IsTrue is) }
 {
     let text = text.as_bytes();
     // one byte more tells a longer object apart

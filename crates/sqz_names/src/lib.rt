@@ -23,6 +23,7 @@ mod targets;
 mod variable_name;
 mod variables;
 
+pub use bytes::spells;
 pub use class_names::{name_of_class, name_of_class_of};
 pub use escape::escaped;
 pub use known::Known;

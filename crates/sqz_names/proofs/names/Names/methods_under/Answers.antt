@@ -32,7 +32,7 @@ loop-method-preserved c =
     elim c.if-is_new.branch [
       | then-is_new+in_ok-spells+then-branch w ↦
           rw (w.equal-is, w.insert.ensures.adds)
-          (is_marked-more (HasText memory c.args.selector.now) _ _ so_far.spelled (w.in_ok-spells.ensures w.if-branch.true))
+          (is_marked-more (HasText memory c.args.selector.now) _ _ so_far.spelled (w.in_ok-spells.ensures.sound w.if-branch.true))
       | else-is_new w ↦ rw w.equal-is so_far.spelled
     ]
     in
