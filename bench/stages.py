@@ -27,11 +27,10 @@ from tests.reference.file_format import bytes_of, words_of
 PROGRAM = program_path("sqz_dev_stage_times")
 
 
-def timed(program, workers, image, out):
-    """The names of the stages, and the milliseconds of each in three runs."""
-    words = [program, "--workers", str(workers), image, out]
-    text = subprocess.run(words, capture_output=True, text=True, check=True).stdout
-    names, *runs = (line.split() for line in text.splitlines())
+def timed(words, image, out):
+    """What a command that times stages printed: their names, and the milliseconds of each run."""
+    ended = subprocess.run([*words, image, out], capture_output=True, text=True, check=True)
+    names, *runs = (line.split() for line in ended.stdout.splitlines())
     return names, [[float(word) for word in run] for run in runs]
 
 
@@ -58,7 +57,7 @@ def measure(programs, image, out, workers, count):
     for turn in range(count):
         copies += [copied(image, out) for _ in range(3)]
         for program in programs if turn % 2 == 0 else reversed(programs):
-            stages, three = timed(program, workers, image, out)
+            stages, three = timed([program, "--workers", str(workers)], image, out)
             if names not in (None, stages):
                 sys.exit(f"{program} times other stages: {' '.join(stages)}")
             names = stages

@@ -1,0 +1,1 @@
+"""The tables of docs/FIGURES.md. `bench/evaluate` prints them."""
