@@ -6,7 +6,7 @@ import re
 
 from tests.harness.json_rows import rows_of
 from tests.harness.look_checks import LookTest
-from tests.harness.programs import SQZCOMPACT, run
+from tests.harness.programs import SQZCOMPACT, SQZLOOK, Limits, run
 from tests.harness.saved_image import SavedImageTest
 from tests.harness.sqzlook import CLEAR, look
 from tests.harness.worked_images import bytes_at, worked_paths
@@ -20,6 +20,10 @@ HEADER = 4 * HEADER_WORDS
 SECTOR = 512
 # Random damages of small images.
 DAMAGES = 400
+# The numbers of words of data of which nearly nothing can be read. A process may take `REST` bytes
+# of memory, and `EACH_WORD` bytes for each of these words.
+SMALL, LARGE = 1 << 22, 1 << 24
+REST, EACH_WORD = 64 << 20, 32
 # The maximum number of words that `mend --nil` lists.
 MOST_WORDS = 20
 
@@ -116,6 +120,38 @@ class SmallDamageTest(LookTest):
         self.assertEqual(it.gaps, [(1, len(data) - 1)])
 
 
+class HostileDamageTest(LookTest):
+    """Data of which nearly nothing can be read, at one size and at four times the size."""
+
+    def assert_linear(self, gaps_of, words, *commands):
+        """Checks the memory of commands about `SMALL` and about `LARGE` of these words, and what
+        they say about the gaps that `gaps_of` has."""
+        for count in (SMALL, LARGE):
+            data = words * (count // len(words))
+            header = array.array("I", [VERSION, HEADER, 4 * count, 0x1000, 0x1000] + [0] * 11)
+            self.write("hostile.image", bytes_of(header, "little") + data.tobytes())
+            limits = Limits(memory=REST + EACH_WORD * count)
+            for command in commands:
+                with self.subTest(command=command, count=count):
+                    with open(self.folder / "printed", "wb") as printed:
+                        outcome = self.run_here(
+                            SQZLOOK, *command, "hostile.image", stdout=printed, limits=limits
+                        )
+                    self.assertEqual((outcome.status, outcome.stderr), gaps_of(count))
+
+    def test_gap_at_every_other_word(self):
+        line = "sqzlook: hostile.image: skipped {} bytes at word 1 (byte 68)\n"
+
+        def skipped(count):
+            return 0, line.format(4 * count - 4).encode()
+
+        self.assert_linear(skipped, array.array("I", [6, 0]), ("mend",))
+
+    def test_no_chunk(self):
+        line = b"sqzlook: hostile.image: fault 7: object has size 0 (word 0, byte 64)\n"
+        self.assert_linear(lambda _: (1, line), array.array("I", [0]), ("mend",))
+
+
 class SavedDamageTest(SavedImageTest):
     """An image that Squeak saved, of which some words or bytes were changed."""
 
@@ -148,6 +184,7 @@ class SavedDamageTest(SavedImageTest):
         cut = HEADER + 4 * self.image.objects[later].first + 4
         return {
             "too_large": self.with_base(short, lambda word: word | 63 << 2),
+            "too_small": self.with_base(short, lambda word: word & ~(63 << 2) | 2 << 2),
             "wrong_type": self.with_base(short, lambda word: word & ~3),
             "zeroed": self.zeroed(self.file, at),
             "zeroed_twice": self.zeroed(self.zeroed(self.file, at), other),

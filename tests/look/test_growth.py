@@ -129,6 +129,12 @@ class GrowthTest(ProgramTest):
     def test_one_method(self):
         self.check_growth("one_method")
 
+    def test_shared_stack(self):
+        self.check_growth("shared_stack")
+
+    def test_stack_in_a_cycle(self):
+        self.check_growth("stack_in_a_cycle")
+
 
 @functools.cache
 def tiny(name):

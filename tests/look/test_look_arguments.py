@@ -39,7 +39,8 @@ class LookArgumentsTest(DeadArrayTest):
     def test_rejects_words_that_are_no_text(self):
         for words in ((b"info\xff", "in"), ("info", b"in\xff"), ("show", "in", b"\xff")):
             with self.subTest(words=words):
-                self.assert_explained(self.look(*words))
+                line = b"sqzlook: error: an argument is not valid text\n"
+                self.assert_ends(self.look(*words), Outcome(2, stderr=line))
 
     def test_takes_options_before_and_after_the_image(self):
         outcomes = {

@@ -5,8 +5,8 @@ literals. Each has size `n` or a small multiple of it."""
 import typing
 
 from tests.making.named_image import BYTECODES, NamedImage
-from tests.reference.fields import ClassField
-from tests.reference.objects import ZERO, Format
+from tests.reference.fields import ClassField, SpecialField
+from tests.reference.objects import CONTEXT_INDEXES, ZERO, Format
 
 # The bytes of a selector or a literal for each class or method that has it.
 BYTES_EACH = 64
@@ -50,6 +50,29 @@ class HostileImage(NamedImage):
         return self.add(
             Format.METHOD, "CompiledMethod", len(literals) << 10 | 1, *literals, BYTECODES
         )
+
+    def add_context(self, sender):
+        """Adds a context that returns to another one."""
+        fields = sender, *[ZERO] * 5
+        return self.add(Format.FIXED_AND_INDEXED, None, *fields, compact=CONTEXT_INDEXES[1])
+
+    def add_stack(self, count, sender=ZERO):
+        """Adds contexts, the last of which returns to another one. Returns them, the innermost
+        last."""
+        its = [self.add_context(sender)]
+        while len(its) < count:
+            its.append(self.add_context(its[-1]))
+        return its
+
+    def add_scheduler(self, *contexts):
+        """Adds a process for each of these contexts, the first of which is active."""
+        self.add_class("Process", "Object", ("nextLink", "suspendedContext"), 4)
+        its = [self.add_object("Process", ZERO, it, ZERO, ZERO) for it in contexts]
+        scheduler = self.add_object("Point", self.add_array(), its[0])
+        association = self.add_object("Association", self.add_symbol("Processor"), scheduler)
+        self.fields_of(self.special)[SpecialField.SCHEDULER] = association
+        self.keep(*its)
+        return its
 
     def address_of(self, ref):
         return f"{self.addresses()[ref.number]:08x}"
@@ -203,6 +226,22 @@ def one_method(n):
     return it.hostile("K1", "K1>>go", literals)
 
 
+def shared_stack(n):
+    """Processes that share a stack, each of which begins at another context."""
+    it = HostileImage()
+    its = it.add_scheduler(*reversed(it.add_stack(n)))
+    return it.hostile("Process", its[0], its[-1])
+
+
+def stack_in_a_cycle(n):
+    """Processes whose stacks end in one cycle of contexts."""
+    it = HostileImage()
+    cycle = it.add_stack(n)
+    it.fields_of(cycle[0])[0] = cycle[-1]
+    its = it.add_scheduler(cycle[-1], *[it.add_context(cycle[at]) for at in range(n)])
+    return it.hostile("Process", its[0], its[-1])
+
+
 HOSTILE = {
     made.__name__: made
     for made in (
@@ -219,5 +258,7 @@ HOSTILE = {
         shared_literals,
         nested_literals,
         one_method,
+        shared_stack,
+        stack_in_a_cycle,
     )
 }

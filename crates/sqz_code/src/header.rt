@@ -53,7 +53,7 @@ pub struct MethodHeader {
 }
 
 impl MethodHeader {
-    /// Returns what a header word says. None if the word is no SmallInteger.
+    /// Returns what a header word says. None if the word is not a SmallInteger.
     pub fn of(word: u32) -> Option<MethodHeader>
         ensures { result ≡ method_header word }
     {

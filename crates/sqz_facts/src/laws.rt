@@ -19,8 +19,7 @@ pub fn one_held()
         → IsHeld memory object slot one → IsHeld memory object slot other → one ≡ other }
 {}
 
-/// One thing at most lies at an address of a memory whose chunks are chunks, as those of every
-/// heap are.
+/// At most one thing lies at an address, if every chunk is well formed.
 pub fn one_site()
     ensures { (memory : Memory) (address : ℕ) (one other : Site)
         → AllByRecursion IsChunk memory.chunks

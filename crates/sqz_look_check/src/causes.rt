@@ -14,7 +14,7 @@ pub(crate) enum Cause {
     Read { reason: &'static str },
 }
 
-/// What a file is that is no supported image.
+/// What an unsupported file is.
 #[derive(Clone, Copy, Debug, PartialEq, Eq, Drop, Serialize)]
 #[serde(untagged)]
 pub(crate) enum FileKind {

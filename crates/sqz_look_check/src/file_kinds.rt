@@ -1,4 +1,4 @@
-//! What a file is that is no supported image.
+//! What an unsupported file is.
 
 use crate::causes::FileKind;
 use crate::versions::version_name;

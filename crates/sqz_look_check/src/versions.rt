@@ -1,4 +1,4 @@
-//! What a file is that is no image of a supported version.
+//! What an unsupported version is called.
 
 /// The versions of images that other virtual machines save, and what they are called.
 const VERSIONS: [(u32, &str); 10] = [

@@ -10,8 +10,10 @@ mod entry_point;
 mod lines;
 mod objects;
 mod quiet_pipe;
+mod words;
 
 pub use answering::answer_request;
 pub use entry_point::look;
 pub use lines::with_lines;
 pub use quiet_pipe::QuietPipe;
+pub use words::look_words;

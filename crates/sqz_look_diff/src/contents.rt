@@ -20,7 +20,7 @@ pub(crate) struct Contents<'a> {
 }
 
 impl<'a> Contents<'a> {
-    /// Returns the contents of an image, of which none are known.
+    /// Returns an image whose contents are unknown.
     pub(crate) fn new(alloc: Global) -> Self {
         Contents {
             methods: BTreeMap::new(alloc),

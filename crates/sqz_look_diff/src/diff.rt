@@ -24,9 +24,9 @@ use std::thread::Threads;
 
 /// Prints what changed from the old image to the new one: the number of live objects and their
 /// bytes, the classes whose instances differ in number or size, the variables that retain more or
-/// less or have other values, the classes whose definitions differ, and the methods that came, went
-/// or changed, and the objects without names that retain more; if there is no such change, the
-/// first objects that differ. Returns whether the images are alike.
+/// less or have other values, the classes whose definitions differ, the methods that were added,
+/// removed or changed, and the objects without names that retain more; if there is no such change,
+/// the first objects that differ. Returns whether the images are alike.
 pub fn print_diff<C: Sink>(
     rt: &(impl Threads + Sync),
     old: &Inspector<'_>,
@@ -140,7 +140,7 @@ fn print_definitions<C: Sink>(
     out.rest(count, "row")
 }
 
-/// Prints the methods that came, went or changed.
+/// Prints the methods that were added, removed or changed.
 fn print_methods<C: Sink>(
     alloc: Global,
     methods: &MethodChanges,

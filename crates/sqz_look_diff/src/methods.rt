@@ -1,4 +1,4 @@
-//! The methods that came, went or changed.
+//! The methods that were added, removed or changed.
 
 use crate::contents::Contents;
 use crate::method_names::{ImageNames, MethodKey, NameParts, OrderedNames};
@@ -25,7 +25,7 @@ struct NamedMethod {
     place: (ObjectIndex, ObjectIndex, ObjectIndex),
 }
 
-/// A method that came, went or changed.
+/// A method that was added, removed or changed.
 #[derive(Clone, Copy)]
 pub(crate) struct MethodChange {
     key: MethodKey,
@@ -39,7 +39,7 @@ pub(crate) struct MethodChange {
 #[derive(Drop)]
 pub(crate) struct MethodChanges {
     names: OrderedNames,
-    /// The methods that came, went or changed, by name.
+    /// The methods that were added, removed or changed, by name.
     pub(crate) changes: Vec<MethodChange>,
     /// The number of methods that one of the images has, or both.
     pub(crate) count: usize,
@@ -52,8 +52,8 @@ impl MethodChanges {
     }
 }
 
-/// Returns the methods that came, went or changed. Several with one name are compared by their
-/// order in the images.
+/// Returns the methods that were added, removed or changed. Several with one name are compared by
+/// their order in the images.
 pub(crate) fn method_changes(
     old: &Inspector<'_>,
     new: &Inspector<'_>,

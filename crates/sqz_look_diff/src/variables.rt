@@ -28,10 +28,10 @@ struct Holdings {
     values: Values,
 }
 
-/// The variables that came, went, retain more or less, or have another value.
+/// The variables that were added or removed, retain more or less, or have another value.
 #[derive(Drop)]
 pub(crate) struct VariableChanges {
-    /// Those that came, went, or retain more or less, largest change first.
+    /// Those that were added or removed, or retain more or less, largest change first.
     pub(crate) changes: Vec<Change<u64>>,
     /// Those that have another value, by name.
     pub(crate) values: Vec<ValueChange>,
@@ -60,7 +60,7 @@ impl VariableChanges {
     }
 }
 
-/// Returns the variables that came, went, retain more or less, or have another value.
+/// Returns the variables that were added or removed, retain more or less, or have another value.
 pub(crate) fn variable_changes(
     old: &Inspector<'_>,
     new: &Inspector<'_>,

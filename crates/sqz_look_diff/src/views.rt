@@ -192,7 +192,7 @@ impl fmt::Display for ValueView<'_> {
     }
 }
 
-/// A method that came, went or changed.
+/// A method that was added, removed or changed.
 #[derive(Drop, Serialize)]
 pub(crate) struct MethodView {
     kind: &'static str,

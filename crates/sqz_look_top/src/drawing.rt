@@ -75,7 +75,7 @@ fn print_head<C: Sink>(
     out.text(&format!(in alloc; "<rect class=\"page\" width=\"{WIDTH}\" height=\"{height}\"/>")?)?;
     out.text(&format!(in alloc;
         "<text x=\"4\" y=\"20\" font-size=\"13\">{bytes} bytes {kind}, {objects} objects. \
-         A box is as wide as the bytes that it retains.</text>"
+         The width of a box is proportional to the bytes it retains.</text>"
     )?)
 }
 

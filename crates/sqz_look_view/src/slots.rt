@@ -153,7 +153,7 @@ fn special_text(alloc: Global, index: u32) -> Result<String, AllocError> {
 }
 
 /// Returns the number of literals of a compiled method. None for another object, and if its header
-/// is no SmallInteger.
+/// is not a SmallInteger.
 fn literals_of(object: &Object<'_>) -> Option<u32> {
     if object.layout() != Layout::Method {
         return None;

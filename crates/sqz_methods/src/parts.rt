@@ -16,7 +16,7 @@ use std::alloc::{AllocError, Global};
 /// The parts of a compiled method.
 #[derive(Drop)]
 pub struct MethodParts {
-    /// What field 0 says. None if it is no SmallInteger, or if there is no field.
+    /// What field 0 says. None if it is not a SmallInteger, or if there is no field.
     pub header: Option<MethodHeader>,
     /// The number of literals, which are fields 1 to `literals`: as many as the header says, but no
     /// more than there are fields. 0 if there is no header.

@@ -127,7 +127,7 @@ fn bad_methods(rt: HostRuntime) -> Result<(), Fail> {
     assert_eq!(rt; none.parts.header.is_none(), true);
     assert_eq!(rt; none.parts.literals, 0);
     assert_eq!(rt; none.parts.bytecodes.len(), 0);
-    // a header that is no SmallInteger
+    // a header that is not a SmallInteger
     let odd = code(&rt, METHOD, &[TWO_LITERALS - 1, 0x7878_7801])?;
     assert_eq!(rt; odd.parts.header.is_none(), true);
     assert_eq!(rt; odd.parts.literals, 0);

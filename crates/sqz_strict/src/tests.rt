@@ -135,7 +135,7 @@ fn compact_index(rt: HostRuntime) -> Result<(), Fail> {
 #[test]
 fn nothing_stated(rt: HostRuntime) -> Result<(), Fail> {
     assert_fits(&rt, TWO_FIELDS, INT, &[])?; // one more than no number
-    assert_fits(&rt, TWO_FIELDS, 0x1000, &[]) // no SmallInteger
+    assert_fits(&rt, TWO_FIELDS, 0x1000, &[]) // not a SmallInteger
 }
 
 #[test]
