@@ -22,7 +22,7 @@ from tests.reference.objects import CONTEXT_INDEXES, Format
 # Selectors of methods of `Smalltalk` that take no arguments.
 SAVE, QUIT = b"snapshotPrimitive", b"quitPrimitive"
 # The fields on the way from the special objects array to the context of the active process.
-ACTIVE_CONTEXT = (3, AssociationField.VALUE, 1, 1)
+ACTIVE_CONTEXT = (SpecialField.SCHEDULER, AssociationField.VALUE, 1, 1)
 METHOD_INDEX, CONTEXT_INDEX = 1, CONTEXT_INDEXES[1]
 # Bytecodes: push the receiver, send the first literal, drop the answer, return the receiver.
 PUSH, SEND, DROP, RETURN = 0x70, 0xD0, 0x87, 0x78

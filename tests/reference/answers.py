@@ -155,7 +155,7 @@ class Answers:
 
     def list(self, group, by="retained"):
         """The live objects of a group."""
-        numbers, sizes = self.live_groups.get(group, []), self.reach.sizes
+        numbers = self.live_groups.get(group, [])
         rows = sorted(map(self.instance_row, numbers), key=lambda row: -row["bytes"])
         if by == "retained":
             rows.sort(key=lambda row: -row["retained"])
