@@ -51,6 +51,7 @@ PROMISES = {
     "`mend`": ["sqz_mend/Recovery"],
     "`mend --nil`": ["sqz_repair/Repairs"],
     "instructions of `code`": ["sqz_methods/Parts", "sqz_code/Instructions"],
+    "`senders`, `code --unsent`": ["sqz_selectors/Mentions", "sqz_selectors/Picks"],
     "labels": ["sqz_names/Labels"],
 }
 
