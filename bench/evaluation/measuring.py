@@ -39,7 +39,7 @@ def medians_of(runs):
 
 
 def in_turn(tasks, runs):
-    """Does each of the named tasks so many times, in turn, and returns the medians of what they
+    """Does each of the named tasks `runs` times, in turn, and returns the medians of what they
     measured. Each turn begins with another task, so that noise of the machine falls on all."""
     names = list(tasks)
     measured = {name: [] for name in names}

@@ -65,12 +65,12 @@ def check_saved(folder, program):
 
 
 def name_of(count):
-    """What the row of so many copies is called."""
+    """What the row of `count` copies is called."""
     return "real image" if count == 1 else f"{count} copies, {dead_copies(count)} of them garbage"
 
 
 def row_over(count, options, folder):
-    """Measures all programs and the machine over so many copies of the real image."""
+    """Measures all programs and the machine over `count` copies of the real image."""
     image, programs = folder / "image", compactors()
     apart(write_saving, options.image, (SAVE, QUIT), count, image)
     machine = machine_tasks(options.image, count, image, folder)

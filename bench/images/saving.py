@@ -117,12 +117,12 @@ def is_dead(number):
 
 
 def dead_copies(count):
-    """How many of so many copies are garbage."""
+    """How many of `count` copies are garbage."""
     return sum(map(is_dead, range(count)))
 
 
 def saving_file(file, selectors, count):
-    """The file of so many copies of the image in a file, which sends these selectors to `Smalltalk`
+    """The file of `count` copies of the image in a file, which sends these selectors to `Smalltalk`
     when it is started."""
     image = Image.read(file)[0]
     words = copies_of(image, count)
