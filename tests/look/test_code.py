@@ -238,6 +238,15 @@ class SelectorsTest(LookTest):
                 image.set_method(code=bytes([code, 0x7C]) + TRAILERS[0])
                 self.assert_sent(image, "+", is_sent)
 
+    def test_object_without_characters(self):
+        # the method sends an array, which is no selector, and then a symbol
+        image = MethodImage()
+        image.set_method([image.add_array(), image.add_symbol("go")], code=b"\xd0\xd1\x7c\x00")
+        self.write("it.image", image.file())
+        outcome = look("code", "--json", "--unimplemented", "it.image", folder=self.folder)
+        selectors = [row["selector"] for row in rows_of(self.printed_by(outcome))]
+        self.assertEqual(selectors, ["go"])
+
     def test_unsent(self):
         # the method mentions the very selector of another one, or a symbol like it
         for is_same in (True, False):

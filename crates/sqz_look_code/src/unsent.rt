@@ -9,7 +9,7 @@ use crate::method_row::{MethodRow, print_methods};
 use serde::Serialize;
 use sqz_image::Sink;
 use sqz_look_view::{Counted, Inspector, Out, PrintError};
-use sqz_object::ObjectIndex;
+use sqz_object::{Layout, ObjectIndex};
 use sqz_selectors::{Unimplemented, mark_mentioned, marked_selectors, unimplemented_of, unsent_of};
 use std::alloc::AllocError;
 use std::collections::BTreeMap;
@@ -74,7 +74,8 @@ pub fn print_unimplemented<C: Sink>(
     out.rest(views.len(), "selector")
 }
 
-/// Adds a sender of a selector, unless it was the last one that was added.
+/// Adds a sender of a selector, unless it was the last one that was added. An object without
+/// characters, which a damaged method may send, is no selector.
 fn add_sender(
     inspector: &Inspector<'_>,
     one: Unimplemented,
@@ -84,6 +85,10 @@ fn add_sender(
     requires sender { IsMethodName inspector.now.live.graph.heap.now
         inspector.now.live.graph.weak one.sender }
 {
+    let selector = inspector.live.graph.heap.object(one.selector);
+    if !matches!(selector.layout(), Layout::Bytes { .. }) {
+        return Ok(());
+    }
     let row = MethodRow::of(inspector, one.sender)?;
     let text = inspector.names.text(one.selector)?;
     let key = (text.clone()?, one.selector);
