@@ -10,10 +10,11 @@ from tests.harness.look_checks import Asking, LookTest
 from tests.harness.sqzlook import CLEAR, look, look_at_all
 from tests.harness.worked_images import IMAGES
 from tests.making.changed_images import COPIES, named_image, with_random_words
+from tests.making.named_image import NamedImage
 from tests.making.seed import SEED
 from tests.reference.fields import ClassField
 from tests.reference.image import Image
-from tests.reference.objects import ZERO
+from tests.reference.objects import ZERO, Format
 from tests.reference.sites import site_text
 
 FILE = "it.image"
@@ -239,6 +240,51 @@ class ArgumentsTest(LookTest):
         self.drop_class("Spare")
         self.write(FILE, self.image.file())
         self.assert_shown(address, "Spare")
+
+
+def integer(number):
+    """The word of a SmallInteger."""
+    return number << 1 & 0xFFFFFFFF | 1
+
+
+class CollectionsTest(LookTest):
+    """What a list says of collections, by the names of their instance variables."""
+
+    def previews(self, a_class, variables, *collections, kind=Format.FIXED):
+        """What a list says of these instances of a class with these variables: their fields."""
+        image = NamedImage()
+        image.add_class(a_class, "Object", variables, len(variables))
+        its = [image.add(kind, a_class, *fields) for fields in collections]
+        image.fields_of(image.special).append(image.add_array(*its))
+        self.write(FILE, image.file())
+        outcome = look("list", "--json", "--by", "size", FILE, a_class, folder=self.folder)
+        self.assert_quiet(outcome)
+        *rows, _ = sorted(rows_of(outcome.stdout), key=lambda it: it.get("address", "z"))
+        return [row["preview"] for row in rows]
+
+    def test_tally(self):
+        tallies = [(integer(it), ZERO) for it in (0, 1, 30, -1)]
+        found = self.previews("Bunch", ("tally", "array"), *tallies, ("Object", ZERO))
+        self.assertEqual(found, ["0 elements", "1 element", "30 elements", None, None])
+
+    def test_first_and_last_index(self):
+        ends = [(ZERO, integer(first), integer(last)) for first, last in ((3, 2), (1, 4), (5, 1))]
+        variables = ("array", "firstIndex", "lastIndex")
+        found = self.previews("Queue", variables, *ends, (ZERO, "Object", ZERO))
+        self.assertEqual(found, ["0 elements", "4 elements", None, None])
+
+    def test_tally_beside_indexed_fields(self):
+        its = [(word, ZERO, ZERO, ZERO, ZERO) for word in (integer(2), "Object")]
+        found = self.previews("Table", ("tally", "array"), *its, kind=Format.FIXED_AND_INDEXED)
+        self.assertEqual(found, ["2 elements", "3 elements"])
+
+    def test_no_collections(self):
+        ends = (integer(3), integer(9))
+        self.assertEqual(self.previews("Line", ("firstIndex", "lastIndex"), ends), [None])
+        self.assertEqual(self.previews("Count", ("tally",), (integer(7),)), [None])
+        its = [(integer(7), ZERO)]
+        found = self.previews("Row", ("tally",), *its, kind=Format.FIXED_AND_INDEXED)
+        self.assertEqual(found, ["1 element"])
 
 
 class SitesTest(LookTest):

@@ -61,7 +61,7 @@ def method_of(image, number):
     }
 
 
-def element_count(names, number):
+def indexed_fields(names, number):
     """The number of the indexed fields of an object, or None if its format has none."""
     image, kind = names.image, format_of(names.image.header_of(number))
     count = len(fields_of(image, number))
@@ -72,6 +72,37 @@ def element_count(names, number):
     a_class = names.class_of(number)
     fixed = None if a_class is None else image.fixed_fields(a_class)
     return None if fixed is None or not 0 <= fixed <= count else count - fixed
+
+
+def stated_count(names, number):
+    """The number of elements that a collection states in instance variables, or None."""
+    a_class = names.class_of(number)
+    variables = None if a_class is None else names.variables_of(a_class)
+    if not variables or format_of(names.image.header_of(number)) > Format.WEAK:
+        return None
+    if "array" not in variables:
+        return None
+    fields = fields_of(names.image, number)
+
+    def integer(name):
+        place = variables.index(name)
+        word = fields[place] if place < len(fields) else 0
+        return signed(word) if word & 1 else None
+
+    if "tally" in variables:
+        count = integer("tally")
+    elif "firstIndex" in variables and "lastIndex" in variables:
+        ends = integer("firstIndex"), integer("lastIndex")
+        count = None if None in ends else ends[1] - ends[0] + 1
+    else:
+        count = None
+    return None if count is None or count < 0 else count
+
+
+def element_count(names, number):
+    """The number of elements of an object, or None if it has none."""
+    count = stated_count(names, number)
+    return indexed_fields(names, number) if count is None else count
 
 
 def preview(names, number):

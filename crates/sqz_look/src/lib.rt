@@ -5,6 +5,7 @@
 mod addresses;
 mod census;
 mod dump;
+mod elements;
 mod find;
 mod holders;
 mod labelled;

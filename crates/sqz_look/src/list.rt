@@ -1,8 +1,9 @@
 //! The instances of a class.
 
-ghost use Rattle.std.specs.Prelude.{◌<◌};
+ghost use Rattle.std.specs.Prelude.{◌<◌, IfSome};
 ghost use Rattle.sqz_image.specs.Objects.{object_count};
 
+use crate::elements::Counter;
 use crate::holders::Holders;
 use crate::preview::preview_of;
 use serde::Serialize;
@@ -28,11 +29,36 @@ struct InstanceView {
     variable: Option<String>,
 }
 
+/// What tells what the instances of a class are: the variables that hold objects, and what their
+/// elements are counted by.
+#[derive(Drop)]
+struct Describing {
+    holders: Holders,
+    counter: Counter,
+}
+
+impl Describing {
+    /// Returns what tells what the instances of a class are, given the first one.
+    fn of(inspector: &Inspector<'_>, first: Option<ObjectIndex>) -> Result<Self, AllocError>
+        requires { IfSome first (λ object.
+            object < object_count inspector.now.live.graph.heap.now) }
+    {
+        let counter = match first {
+            Some(object) => Counter::of(inspector, object)?,
+            None => Counter::Fields,
+        };
+        Ok(Describing {
+            holders: Holders::of(inspector)?,
+            counter,
+        })
+    }
+}
+
 impl InstanceView {
     /// Returns the row of an instance.
     fn of(
         inspector: &Inspector<'_>,
-        holders: &Holders,
+        describing: &Describing,
         object: ObjectIndex,
         bytes: u64,
         retained: Option<u64>,
@@ -43,33 +69,33 @@ impl InstanceView {
             address: inspector.address(object),
             bytes,
             retained,
-            preview: preview_of(inspector, object)?,
-            variable: holders.label_of(inspector, object)?,
+            preview: preview_of(inspector, describing.counter, object)?,
+            variable: describing.holders.label_of(inspector, object)?,
         })
     }
 
     /// Returns the row of a live instance.
     fn live(
         inspector: &Inspector<'_>,
-        holders: &Holders,
+        describing: &Describing,
         listed: Listed,
     ) -> Result<Self, AllocError>
         requires { listed.object < object_count inspector.now.live.graph.heap.now }
     {
         let retained = Some(listed.retained);
-        InstanceView::of(inspector, holders, listed.object, listed.bytes, retained)
+        InstanceView::of(inspector, describing, listed.object, listed.bytes, retained)
     }
 
     /// Returns the row of an instance that is not live.
     fn dead(
         inspector: &Inspector<'_>,
-        holders: &Holders,
+        describing: &Describing,
         member: Member,
     ) -> Result<Self, AllocError>
         requires { member.object < object_count inspector.now.live.graph.heap.now }
     {
         let bytes = inspector.bytes(member.object);
-        InstanceView::of(inspector, holders, member.object, bytes, None)
+        InstanceView::of(inspector, describing, member.object, bytes, None)
     }
 }
 
@@ -150,14 +176,18 @@ pub fn print_list<C: Sink>(
     out: &mut Out<'_, C>,
 ) -> Result<(), PrintError> {
     let mut listing = listing_of(inspector.alloc, &inspector.live, group)?;
+    let first = match listing.rows.first() {
+        Some(row) => Some(row.object),
+        None => None,
+    };
+    let describing = Describing::of(inspector, first)?;
     if order == ListOrder::Retained {
         sort_by_retained(&mut listing.rows)?;
     }
-    let holders = Holders::of(inspector)?;
     let rows = listing.rows.as_slice();
     out.text(&HEADING)?;
     for row in &rows[..out.shown(rows.len())] {
-        out.emit(&InstanceView::live(inspector, &holders, *row)?)?;
+        out.emit(&InstanceView::live(inspector, &describing, *row)?)?;
     }
     out.rest(rows.len(), "object")?;
     out.emit(&ListingView::live(&listing))
@@ -171,11 +201,15 @@ pub fn print_dead_list<C: Sink>(
     out: &mut Out<'_, C>,
 ) -> Result<(), PrintError> {
     let listing = dead_listing_of(inspector.alloc, &inspector.live, group)?;
-    let holders = Holders::of(inspector)?;
     let rows = listing.rows.as_slice();
+    let first = match rows.first() {
+        Some(row) => Some(row.object),
+        None => None,
+    };
+    let describing = Describing::of(inspector, first)?;
     out.text(&HEADING)?;
     for row in &rows[..out.shown(rows.len())] {
-        out.emit(&InstanceView::dead(inspector, &holders, *row)?)?;
+        out.emit(&InstanceView::dead(inspector, &describing, *row)?)?;
     }
     out.rest(rows.len(), "object")?;
     out.emit(&ListingView::dead(&listing))
