@@ -23,7 +23,7 @@ use Rattle.sqz_look_args.specs.declared.requests.Question.{Question}
 use Rattle.sqz_look_args.specs.declared.requests.Question.TheVariants.{Check, Mend, Each, Diff, About}
 use Rattle.sqz_look_args.specs.Mends.{is_mend}
 use Rattle.sqz_look_args.specs.CommandLine.{name_of}
-use Rattle.sqz_look_args.specs.Requests.{IsCheckOf, given, has_flag}
+use Rattle.sqz_look_args.specs.Requests.{IsCheckOf, IsDiff, given, has_flag}
 
 pub is_some-option_map : {X Y : Type 0} (f : X → Y) (o : Option X) → is_some (option_map f o) ≡ is_some o
 is_some-option_map f None = refl
@@ -86,12 +86,18 @@ name_of_entered (Some b) = refl
 pub subcommand_name_of-rows : (m : ArgMatches) → subcommand_name_of m ≡ option_map (λ p. p.0) (subcommand_rows_of m)
 subcommand_name_of-rows m = name_of_entered (out-ArgMatches m).subcommand
 
--- the word `check` stands for the subcommand of this name
-pub name_is_check : (m : ArgMatches) (rows : List Row) (word : Text) (name : Name)
-    → subcommand_rows_of m ≡ Some (codes "check", rows) → Some word ≡ subcommand_name_of m → Some name ≡ name_of word → name ≡ names.Check
-name_is_check m rows word name asked entered named =
-    let is : word ≡ codes "check" = same_Some _ _ (entered ∙ (subcommand_name_of-rows m ∙ ap (option_map (λ p. p.0)) asked)) in
-    same_Some _ _ (named ∙ ap name_of is)
+module _ (m : ArgMatches) (rows : List Row) (word : Text) (name : Name) (entered : Some word ≡ subcommand_name_of m)
+    (named : Some name ≡ name_of word) where
+  word_is : (asked : Text) → subcommand_rows_of m ≡ Some (asked, rows) → word ≡ asked
+  word_is asked is = same_Some _ _ (entered ∙ (subcommand_name_of-rows m ∙ ap (option_map (λ p. p.0)) is))
+
+  -- the word `check` stands for the subcommand of this name
+  pub name_is_check : subcommand_rows_of m ≡ Some (codes "check", rows) → name ≡ names.Check
+  name_is_check asked = same_Some _ _ (named ∙ ap name_of (word_is (codes "check") asked))
+
+  -- so does the word `diff`
+  pub name_is_diff : subcommand_rows_of m ≡ Some (codes "diff", rows) → name ≡ names.Diff
+  name_is_diff asked = same_Some _ _ (named ∙ ap name_of (word_is (codes "diff") asked))
 
 -- to check an image is not to mend it
 pub is_mend-check : (rows : List Row) (question : Question) → IsCheckOf rows question → is_mend question ≡ false
@@ -100,6 +106,14 @@ is_mend-check rows (Mend image nil) is = absurd is
 is_mend-check rows (Each images question) is = absurd is
 is_mend-check rows (Diff old new) is = absurd is
 is_mend-check rows (About image question) is = absurd is
+
+-- nor is it to mend an image to compare two
+pub is_mend-diff : (question : Question) → IsDiff question → is_mend question ≡ false
+is_mend-diff (Check images all strict) is = absurd is
+is_mend-diff (Mend image nil) is = absurd is
+is_mend-diff (Each images question) is = absurd is
+is_mend-diff (Diff old new) is = refl
+is_mend-diff (About image question) is = absurd is
 
 pub or-false : (b : Bool) → (b || false) ≡ b
 or-false true = refl

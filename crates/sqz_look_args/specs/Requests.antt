@@ -51,3 +51,22 @@ pub record AsksSoundness (rows : List Row) (request : Request) : Type 0 where
 pub record AsksCheck (words : List Text) (rows : List Row) : Type 0 where
   pub accepted : takes look_line words ≡ true
   pub subcommand : subcommand_of look_line words ≡ Some (codes "check", rows)
+
+-- the question is what changed between two images
+abbrev pub IsDiff : Question → Type 0
+IsDiff (Check images all strict) = ⊥
+IsDiff (Mend image nil) = ⊥
+IsDiff (Each images question) = ⊥
+IsDiff (Diff old new) = Unit {0}
+IsDiff (About image question) = ⊥
+
+-- the request asks what changed, as the values of `diff` say
+pub record AsksChanges (rows : List Row) (request : Request) : Type 0 where
+  pub question : IsDiff request.question
+  pub clear_weak : request.clear_weak ≡ has_flag (codes "clear-weak") rows
+  pub past_damage : looks_past request ≡ has_flag (codes "past-damage") rows
+
+-- the words are accepted, and their subcommand is `diff` with these values
+pub record AsksDiff (words : List Text) (rows : List Row) : Type 0 where
+  pub accepted : takes look_line words ≡ true
+  pub subcommand : subcommand_of look_line words ≡ Some (codes "diff", rows)

@@ -5,9 +5,8 @@ ghost use Rattle.clap.specs.Walk.{texts};
 ghost use Rattle.clap.specs.Words.{Row, found_of, rows_of, subcommand_rows_of};
 ghost use Rattle.sqz_look_args.specs.declared.bad_request.BadRequest.TheVariants.{OutOfMemory};
 ghost use Rattle.sqz_look_args.specs.Mends.{is_mend};
-ghost use Rattle.sqz_look_args.specs.Requests.{AsksSoundness, HasCommand, IsCheckOf};
-ghost use Rattle.sqz_look_args.specs.Requests.{looks_past};
-ghost use Rattle.sqz_look_args.specs.Requests.{given, has_flag};
+ghost use Rattle.sqz_look_args.specs.Requests.{AsksChanges, AsksSoundness, HasCommand};
+ghost use Rattle.sqz_look_args.specs.Requests.{IsCheckOf, IsDiff, given, has_flag, looks_past};
 
 use crate::bad_request::BadRequest;
 use crate::code_question::CodeQuestion;
@@ -134,6 +133,9 @@ impl<'a> Request<'a> {
         ensures check { (rows : List Row)
             → subcommand_rows_of matches.now ≡ Some (codes "check", rows)
             → MatchResult result (AsksSoundness rows) (λ bad. bad ≡ OutOfMemory) }
+        ensures diff { (rows : List Row)
+            → subcommand_rows_of matches.now ≡ Some (codes "diff", rows)
+            → IfOk result (AsksChanges rows) }
     {
         let (word, matches) = matches.subcommand().unwrap();
         let name = Name::of(word).unwrap();
@@ -187,6 +189,7 @@ fn question_of<'a>(
 ) -> Result<Question<'a>, BadRequest<'a>>
     ensures check { let rows = rows_of (found_of matches.now) in name ≡ Name.Check
         → MatchResult result (IsCheckOf rows) (λ bad. bad ≡ OutOfMemory) }
+    ensures diff { name ≡ Name.Diff → IfOk result IsDiff }
 {
     let question = match name {
         Name::Check => {

@@ -1,2 +1,3 @@
+pub mod Comparison
 pub mod Endings
 pub mod Lines

@@ -7,6 +7,7 @@ ghost use Rattle.sqz_look_files.specs.Verdicts.{AreChecked, EndsChecks};
 ghost use Rattle.sqz_look_files.specs.Failures.{IsAnswerExit, exit_of_outcome};
 ghost use Rattle.sqz_look_files.specs.Mending.{WritesMended};
 ghost use Rattle.sqz_look_files.specs.Warnings.{IsSilent};
+ghost use Rattle.sqz_look_cli.specs.Comparison.{EndsComparison, IfDiff, IsCompared};
 ghost use Rattle.sqz_look_cli.specs.Endings.{EndsAnswer, HasPassedOn, IfCheck, IfMend};
 ghost use Rattle.sqz_trace.specs.WeakSlots.{weak_of};
 ghost use Rattle.sqz_look_args.specs.Mends.{is_mend};
@@ -44,6 +45,9 @@ pub fn answer_request<T: Files + Threads + Sync, C: Sink, E: Sink>(
     ensures check { IfCheck request.now.question (λ strict files. result ≤ 1
         → AreChecked T.File.remaining (weak_of request.now.clear_weak) (looks_past request.now)
         strict files result) }
+    ensures compared { IfDiff request.now.question (result ≤ 1
+        → IsCompared T.File.remaining (weak_of request.now.clear_weak) (looks_past request.now)
+        result) }
     ensures mended { IfMend request.now.question (λ nil. result ≡ 0
         → WritesMended T.File.remaining (weak_of request.now.clear_weak) nil (C.state out.old)
         (C.state out.new)) }
@@ -76,6 +80,8 @@ fn outcome_of<T: Files + Threads + Sync, C: Sink, E: Sink>(
     ensures check { IfCheck request.now.question (λ strict files.
         EndsChecks T.File.remaining session.now.weak
         session.now.past_damage strict files result) }
+    ensures compared { IfDiff request.now.question (EndsComparison T.File.remaining
+        session.now.weak session.now.past_damage result) }
     ensures mended { IfMend request.now.question (λ nil. OnOk result
         (WritesMended T.File.remaining session.now.weak nil (C.state out.old) (C.state out.new))) }
     ensures silent { IfOk result (λ exit. exit ≡ 0
@@ -124,6 +130,8 @@ fn printed<T: Files + Threads + Sync, C: Sink, E: Sink>(
     ensures check { IfCheck question.now (λ strict files.
         EndsChecks T.File.remaining session.now.weak
         session.now.past_damage strict files result) }
+    ensures compared { IfDiff question.now (EndsComparison T.File.remaining session.now.weak
+        session.now.past_damage result) }
     ensures silent { IfOk result (λ exit. exit ≡ 0
         → IsSilent T.File.remaining session.now.weak
         session.now.past_damage err.old err.new) }

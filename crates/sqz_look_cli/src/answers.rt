@@ -3,6 +3,7 @@
 ghost use Rattle.std.specs.Prelude.{◌≡◌, ◌≤◌, IfOk, false};
 ghost use Rattle.sqz_look_files.specs.Verdicts.{EndsChecks};
 ghost use Rattle.sqz_look_args.specs.Mends.{is_mend};
+ghost use Rattle.sqz_look_cli.specs.Comparison.{EndsComparison, IfDiff};
 ghost use Rattle.sqz_look_cli.specs.Endings.{IfCheck};
 ghost use Rattle.sqz_look_files.specs.Failures.{IsAnswerExit};
 ghost use Rattle.sqz_look_files.specs.Warnings.{IsSilent};
@@ -39,6 +40,8 @@ pub(crate) fn answer<T: Files + Threads + Sync, C: Sink, E: Sink>(
     ensures check { IfCheck question.now (λ strict files.
         EndsChecks T.File.remaining session.now.weak
         session.now.past_damage strict files result) }
+    ensures compared { IfDiff question.now (EndsComparison T.File.remaining session.now.weak
+        session.now.past_damage result) }
     ensures silent { IfOk result (λ exit. exit ≡ 0
         → IsSilent T.File.remaining session.now.weak
         session.now.past_damage err.old err.new) }

@@ -5,8 +5,9 @@ ghost use Rattle.std.specs.Prelude.{false, true, length, map};
 ghost use Rattle.std.specs.Prelude.{IfErr, IfOk, codes, string_bytes};
 ghost use Rattle.clap.specs.Words.{Row, kind_of, subcommand_of, subcommand_rows_of, takes};
 ghost use Rattle.sqz_look_args.specs.CommandLine.{look_line};
-ghost use Rattle.sqz_look_args.specs.Requests.{AsksCheck, HasCommand, given, has_flag};
+ghost use Rattle.sqz_look_args.specs.Requests.{AsksCheck, AsksDiff, HasCommand, given, has_flag};
 ghost use Rattle.sqz_look_files.specs.Verdicts.{AreChecked};
+ghost use Rattle.sqz_look_cli.specs.Comparison.{IsCompared};
 ghost use Rattle.sqz_look_cli.specs.Endings.{HasPassedOn};
 ghost use Rattle.sqz_look_files.specs.Warnings.{IsSilent};
 ghost use Rattle.sqz_trace.specs.declared.weak.Weak.{Weak};
@@ -45,6 +46,9 @@ pub fn look<T: Files + Threads + Sync, C: Sink, E: Sink>(
         → AreChecked T.File.remaining (weak_of (has_flag (codes "clear-weak") rows))
         (has_flag (codes "past-damage") rows) (has_flag (codes "strict") rows)
         (length (given (codes "IMAGE") rows)) result }
+    ensures diff { (rows : List Row) → AsksDiff (map string_bytes words.now) rows → result ≤ 1
+        → IsCompared T.File.remaining (weak_of (has_flag (codes "clear-weak") rows))
+        (has_flag (codes "past-damage") rows) result }
     ensures whole { result ≡ 0 → HasPassedOn (C.state out.new) }
     ensures silent { result ≡ 0
         → (weak : Weak) × (past : Bool) × IsSilent T.File.remaining weak past err.old err.new }
@@ -117,6 +121,11 @@ fn answer_matches<T: Files + Threads + Sync, C: Sink, E: Sink>(
         → AreChecked T.File.remaining (weak_of (has_flag (codes "clear-weak") rows))
         (has_flag (codes "past-damage") rows) (has_flag (codes "strict") rows)
         (length (given (codes "IMAGE") rows)) result }
+    ensures diff { (rows : List Row)
+        → subcommand_rows_of asked.entry.matches.now ≡ Some (codes "diff", rows)
+        → result ≤ 1
+        → IsCompared T.File.remaining (weak_of (has_flag (codes "clear-weak") rows))
+        (has_flag (codes "past-damage") rows) result }
     ensures whole { result ≡ 0 → HasPassedOn (C.state out.new) }
     ensures silent { result ≡ 0
         → (weak : Weak) × (past : Bool) × IsSilent T.File.remaining weak past err.old err.new }
@@ -143,7 +152,7 @@ fn is_wrong(kind: ErrorKind) -> bool
 /// Prints why words that were parsed are no request, and returns the exit.
 fn explain_request<E: Sink>(alloc: Global, bad: BadRequest<'_>, err: &mut E) -> u8
     ensures exits { result ≤ 4 }
-    ensures failed { 0 < result }
+    ensures failed { 1 < result }
     ensures memory { bad.entry ≡ BadRequest.OutOfMemory → result ≡ 4 }
 {
     let message = match bad {

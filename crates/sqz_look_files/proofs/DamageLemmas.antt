@@ -1,5 +1,5 @@
--- Files of which nothing can be recovered.
--- Serves `recovered_of` and `mend`.
+-- What is recovered of files, or that nothing can be.
+-- Serves `recovered_of`, `read_past_damage` and `mend`.
 use Rattle.std.proofs.Common.{◌≡◌, ◌≢◌, ◌⊎◌, ◌∙◌, ℕ, zero, suc, List, [], ◌∷◌, Option, refl, sym, subst, inl, inr}
 use Rattle.sqz_image.specs.declared.fault.Fault.{Fault}
 use Rattle.sqz_image.specs.declared.fault.Fault.TheVariants.{OutOfMemory}
@@ -15,7 +15,7 @@ use Rattle.sqz_mend.specs.Recovery.{HoldsNoneMended, IsMendedFile, IsNotRecovere
 use Rattle.sqz_look_files.specs.declared.loading.Loaded.TheVariants as whole
 use Rattle.sqz_look_files.specs.declared.loading.LoadedPast.TheVariants as past
 use Rattle.sqz_look_files.specs.Checks.{HoldsNone, IsLoaded, ReadsFile, ReadsSome}
-use Rattle.sqz_look_files.specs.Damaged.{IsDamaged, IsLoadedPast}
+use Rattle.sqz_look_files.specs.Damaged.{HoldsPast, IsDamaged, IsLoadedPast}
 
 -- there is damage, or none
 IsNone-or : (damage : Damage) → IsNone damage ⊎ (IsNone damage → ⊥)
@@ -67,6 +67,14 @@ module _ {F : Type 0} (left : F → Option (List ℕ)) (recovered : Recovered) (
     bytes = loaded.bytes;
     read = loaded.read;
     held = subst (λ (b : List ℕ). Holds b recovered.image) (loaded.held.read_as.whole none) loaded.held.holds;
+  }
+
+  -- the image is what the file holds past what cannot be read
+  pub HoldsPast-recovered : ReadsSome left (λ bytes. HoldsPast bytes recovered.image)
+  HoldsPast-recovered = record {
+    bytes = loaded.bytes;
+    read = loaded.read;
+    fact = record { recovered = recovered; is_recovered = loaded.held; same = refl };
   }
 
   -- any other one is damaged

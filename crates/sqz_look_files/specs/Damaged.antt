@@ -1,7 +1,10 @@
 -- What is read of files past what cannot be read.
 use Rattle.std.specs.Prelude.{◌≡◌, ◌⊎◌, ℕ, Bool, true, false, List, Option}
 use Rattle.sqz_image.specs.declared.header.Header.{Header}
+use Rattle.sqz_image.specs.Objects.{SavedImage}
+use Rattle.sqz_image.specs.Refusals.{Holds}
 use Rattle.sqz_mend.specs.declared.damage.Damage.{Damage}
+use Rattle.sqz_mend.specs.declared.recovery.Recovered.{Recovered}
 use Rattle.sqz_mend.specs.Damaged.{HasSoundWords, IsDamageOf, IsNone}
 use Rattle.sqz_mend.specs.Recovery.{IsRecovered}
 use Rattle.sqz_look_files.specs.declared.loading.Loaded.TheVariants as loaded
@@ -42,3 +45,20 @@ IsReadAs left past old new (read.Image image) =
     (image.is_whole ≡ true → (new ≡ old) × IsLoaded left (loaded.Image image.image))
     × (image.is_whole ≡ false → ReadsDamaged left past)
 IsReadAs left past old new (read.Unreadable unreadable) = ReadsSome left HoldsNone ⊎ ReadsDamaged left past
+
+-- the image that a file with these bytes holds past what cannot be read
+pub record HoldsPast (bytes : List ℕ) (image : SavedImage) : Type 0 where
+  pub recovered : Recovered
+  pub is_recovered : IsRecovered bytes recovered
+  pub same : recovered.image ≡ image
+
+-- the image that is read of a file with these bytes: the one that it holds, or the one that it holds
+-- past what cannot be read, if that is asked for
+abbrev pub IsImageOf : Bool → List ℕ → SavedImage → Type 0
+IsImageOf false bytes image = Holds bytes image
+IsImageOf true bytes image = HoldsPast bytes image
+
+-- an image that was read is that of some file
+abbrev pub IsReadImage : {F : Type 0} → (F → Option (List ℕ)) → Bool → ReadFile → Type 0
+IsReadImage left past (read.Image image) = ReadsSome left (λ bytes. IsImageOf past bytes image.image)
+IsReadImage left past (read.Unreadable unreadable) = Unit {0}

@@ -1,7 +1,7 @@
 //! What questions are answered with.
 
 ghost use Rattle.std.specs.Prelude.{◌≡◌, IfErr, IfOk, true};
-ghost use Rattle.sqz_look_files.specs.Damaged.{IsReadAs};
+ghost use Rattle.sqz_look_files.specs.Damaged.{IsReadAs, IsReadImage};
 ghost use Rattle.sqz_look_files.specs.Failures.{IsReadFailure};
 
 use crate::failure::Failure;
@@ -78,6 +78,7 @@ impl<T: Files> Session<'_, T> {
     ) -> Result<ReadFile, Failure>
         ensures read { IfOk result (IsReadAs T.File.remaining self.now.past_damage
             err.old err.new) }
+        ensures image { IfOk result (IsReadImage T.File.remaining self.now.past_damage) }
         ensures failed { IfErr result IsReadFailure }
     {
         if self.past_damage {
@@ -103,6 +104,7 @@ impl<T: Files> Session<'_, T> {
         requires { self.now.past_damage ≡ true }
         ensures read { IfOk result (IsReadAs T.File.remaining self.now.past_damage
             err.old err.new) }
+        ensures image { IfOk result (IsReadImage T.File.remaining self.now.past_damage) }
         ensures failed { IfErr result IsReadFailure }
     {
         let recovered = match load_past_damage(self.rt, self.alloc, path)? {

@@ -1,5 +1,6 @@
 use Rattle.std.proofs.Common.{sym, ◌∙◌, inl}
 use Rattle.sqz_look_cli.proofs.EndingLemmas.{exit_of_outcome-range, checked_at_one, mended_at_zero, silent_at_zero, whole_at_zero}
+use Rattle.sqz_look_cli.proofs.ComparisonLemmas.{compared_at_one}
 use Rattle.sqz_look_files.proofs.WarningLemmas.{IsSilent-then}
 use Rattle.sqz_look_cli.proofs.answering.answer_request.Goals as goal
 
@@ -22,6 +23,11 @@ pub returns-clause-check : goal.returns-clause-check
 returns-clause-check g c =
     let checked = rw (c.clear_if-weak.ensures, c.looks_past_damage.ensures) at c.outcome_of-outcome.ensures.check in
     checked_at_one _ _ _ c.args.request.now.question c.outcome_of-outcome.result _ c.finish.ensures.exit checked
+
+pub returns-clause-compared : goal.returns-clause-compared
+returns-clause-compared g c =
+    let ends = rw (c.clear_if-weak.ensures, c.looks_past_damage.ensures) at c.outcome_of-outcome.ensures.compared in
+    compared_at_one _ _ _ c.args.request.now.question c.outcome_of-outcome.result _ c.finish.ensures.exit ends
 
 pub returns-clause-mended : goal.returns-clause-mended
 returns-clause-mended g c =

@@ -1,20 +1,33 @@
-use Rattle.std.proofs.Common.{ap, ◌∙◌}
-use Rattle.sqz_image.specs.Objects.{SavedImage}
-use Rattle.sqz_look_files.proofs.WarningLemmas.{IsSilent-damage, IsSilent-warned, IsSilent-then}
+use Rattle.std.proofs.lemmas.Result.{err_from_is_err_and}
+use Rattle.sqz_look_cli.proofs.ComparisonLemmas.{AreCompared-alike, AreCompared-other, IfNotThere-printing, IsSilent-compared}
 use Rattle.sqz_look_cli.proofs.comparison.compare.Goals as goal
+use Rattle.sqz_look_cli.proofs.comparison.compare.Goals.{then-is_alike, else-is_alike}
+
+pub returns-in_err-is_alike-clause-compared : goal.returns-in_err-is_alike-clause-compared
+returns-in_err-is_alike-clause-compared g c =
+    let made = c.from_residual-in_err-is_alike in
+    let p = err_from_is_err_and made.result made.ensures.1 in
+    rw (p.1, p.2) (record { compared = tt; not_there = IfNotThere-printing _ c.in_err-is_alike.field-0.0 })
+
+pub returns-clause-compared : goal.returns-clause-compared
+returns-clause-compared g c =
+    let old = c.in_ok-old_read in
+    let new = c.in_ok-new_read in
+    let says = c.in_ok-is_alike.ensures.alike in
+    elim c.if-is_alike.branch [
+      | then-is_alike w ↦
+          rw w.result-is (record {
+            compared = AreCompared-alike _ _ _ old.old_read new.new_read old.ensures.image new.ensures.image _ says w.if-is_alike.true;
+            not_there = tt;
+          })
+      | else-is_alike w ↦
+          rw w.result-is (record {
+            compared = AreCompared-other _ _ _ old.old_read new.new_read old.ensures.image new.ensures.image _ says w.if-is_alike.false;
+            not_there = tt;
+          })
+    ]
 
 pub returns-clause-silent : goal.returns-clause-silent
 returns-clause-silent g c =
-    let old = c.in_ok-old_subject in
-    let old_memory = old.old_subject.one_heap ∙ ap (λ (image : SavedImage). image.memory) old.ensures.image in
-    let new = c.in_ok-new_subject in
-    let new_memory = new.new_subject.one_heap ∙ ap (λ (image : SavedImage). image.memory) new.ensures.image in
-    IsSilent-then _ _ _ _ _ _
-    (IsSilent-then _ _ _ _ _ _
-    (IsSilent-damage _ _ _ c.in_ok-old_read.old_read _ _ c.in_ok-old_read.ensures)
-    (IsSilent-damage _ _ _ c.in_ok-new_read.new_read _ _ c.in_ok-new_read.ensures))
-    (IsSilent-then _ _ _ _ _ _
-    (IsSilent-warned _ _ _ c.in_ok-old_read.old_read _ _ old.old_subject.live.marks _ _ _ _ c.in_ok-old_read.ensures
-    old_memory old.ensures.weak old.old_subject.live.reachable c.warn.ensures)
-    (IsSilent-warned _ _ _ c.in_ok-new_read.new_read _ _ new.new_subject.live.marks _ _ _ _ c.in_ok-new_read.ensures
-    new_memory new.ensures.weak new.new_subject.live.reachable c.warn-2.ensures))
+    IsSilent-compared _ _ _ c.in_ok-old_read.old_read c.in_ok-new_read.new_read _ _ _ _ c.in_ok-old_read.ensures.read
+    c.in_ok-new_read.ensures.read c.in_ok-is_alike.ensures.silent

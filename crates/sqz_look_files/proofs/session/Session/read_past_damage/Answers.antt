@@ -1,4 +1,4 @@
-use Rattle.sqz_look_files.proofs.DamageLemmas.{IsLoaded-recovered, ReadsSome-recovered}
+use Rattle.sqz_look_files.proofs.DamageLemmas.{HoldsPast-recovered, IsLoaded-recovered, ReadsSome-recovered}
 use Rattle.sqz_look_files.proofs.session.Session.read_past_damage.Goals as goal
 use Rattle.sqz_look_files.proofs.session.Session.read_past_damage.Goals.{then-not-is_whole+in_ok-print_skipped, else-not-is_whole}
 
@@ -15,3 +15,8 @@ returns-clause-read g c =
       ),
       λ damaged. (c.requires, ReadsSome-recovered _ _ loaded (λ none. let yes = known.1 none in cc)),
     )
+
+pub returns-clause-image : goal.returns-clause-image
+returns-clause-image g c =
+    let loaded = rw c.in-Image.is at c.in_ok-recovered.ensures in
+    rw c.requires (HoldsPast-recovered _ _ loaded)
