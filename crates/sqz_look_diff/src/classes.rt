@@ -6,6 +6,7 @@ ghost use Rattle.sqz_histogram.specs.Groups.{IsInside};
 ghost use Rattle.sqz_look_diff.specs.ClassSizes.{AreClassSizes};
 
 use crate::numbers::Numbers;
+use crate::read_names::ReadNames;
 use crate::whole_names::WholeNames;
 use sqz_answers::{
     Change, NamedTotal, Size, changes_of, live_histogram, sizes_by_name, sort_by_difference,
@@ -23,10 +24,10 @@ pub(crate) fn class_changes(
     rt: &(impl Threads + Sync),
     old: &Inspector<'_>,
     new: &Inspector<'_>,
+    names: &mut ReadNames,
 ) -> Result<Vec<Change<Size>>, AllocError> {
-    let mut numbers = Numbers::new(old.alloc);
-    let old_sizes = sizes_of(rt, old, &mut numbers)?;
-    let new_sizes = sizes_of(rt, new, &mut numbers)?;
+    let old_sizes = sizes_of(rt, old, &mut names.texts.whole, &mut names.old.whole)?;
+    let new_sizes = sizes_of(rt, new, &mut names.texts.whole, &mut names.new.whole)?;
     let mut changes = changes_of(old.alloc, &old_sizes, &new_sizes)?;
     sort_by_difference(&mut changes)?;
     Ok(changes)
@@ -38,13 +39,14 @@ fn sizes_of(
     rt: &(impl Threads + Sync),
     inspector: &Inspector<'_>,
     numbers: &mut Numbers,
+    names: &mut WholeNames,
 ) -> Result<BTreeMap<String, Size>, AllocError>
     ensures { IfOk result (AreClassSizes inspector.now.live.graph.heap.now
         inspector.now.live.graph.weak inspector.now.live.marks) }
 {
     heap_bounds(inspector.live.graph.heap); // fewer than 2^30 objects and words
     let histogram = live_histogram(rt, inspector.alloc, &inspector.live)?;
-    let named = with_names(inspector, numbers, &histogram.totals)?;
+    let named = with_names(inspector, numbers, names, &histogram.totals)?;
     let sizes = sizes_by_name(inspector.alloc, &named)?;
     Ok(sizes)
 }
@@ -53,13 +55,13 @@ fn sizes_of(
 fn with_names(
     inspector: &Inspector<'_>,
     numbers: &mut Numbers,
+    names: &mut WholeNames,
     totals: &[GroupTotal],
 ) -> Result<Vec<NamedTotal>, AllocError>
     requires { All (λ total. IsInside (object_count inspector.now.live.graph.heap.now)
         total.group) totals.now }
     ensures { IfOk result (λ named. map (λ one. one.total) named.items ≡ totals.now) }
 {
-    let mut names = WholeNames::new(inspector.alloc);
     let mut named = Vec::new(inspector.alloc);
     for total in totals {
         let name = match total.group {

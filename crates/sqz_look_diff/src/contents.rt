@@ -5,6 +5,7 @@ ghost use Rattle.sqz_image.specs.Objects.{object_count};
 
 use crate::literal_numbers::{LiteralNumbers, object_in};
 use crate::numbers::Numbers;
+use sqz_image::Heap;
 use sqz_look_view::Inspector;
 use sqz_methods::{method_literals, method_parts};
 use sqz_object::ObjectIndex;
@@ -21,11 +22,11 @@ pub(crate) struct Contents<'a> {
 
 impl<'a> Contents<'a> {
     /// Returns an image whose contents are unknown.
-    pub(crate) fn new(alloc: Global) -> Self {
-        Contents {
+    pub(crate) fn new(alloc: Global, heap: &Heap) -> Result<Self, AllocError> {
+        Ok(Contents {
             methods: BTreeMap::new(alloc),
-            literals: LiteralNumbers::new(alloc),
-        }
+            literals: LiteralNumbers::new(alloc, heap)?,
+        })
     }
 
     /// Returns the number of a method: the same for methods with the same header and bytecodes and

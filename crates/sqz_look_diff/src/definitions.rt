@@ -5,6 +5,7 @@ ghost use Rattle.sqz_image.specs.Objects.{object_count};
 
 use crate::name_list::NameList;
 use crate::numbers::Numbers;
+use crate::read_names::ReadNames;
 use crate::whole_names::WholeNames;
 use sqz_answers::Change;
 use sqz_look_view::{Categories, Inspector, field_of, organizer_of};
@@ -38,7 +39,7 @@ type Definitions = BTreeMap<String, Vec<Definition>>;
 
 impl DefinitionChanges {
     /// Returns no changes.
-    fn none(alloc: Global) -> Self {
+    pub(crate) fn none(alloc: Global) -> Self {
         DefinitionChanges {
             superclasses: Vec::new(alloc),
             variables: Vec::new(alloc),
@@ -113,11 +114,11 @@ impl DefinitionChanges {
 pub(crate) fn definition_changes(
     old: &Inspector<'_>,
     new: &Inspector<'_>,
+    names: &mut ReadNames,
 ) -> Result<DefinitionChanges, AllocError> {
     let alloc = old.alloc;
-    let mut numbers = Numbers::new(alloc);
-    let old = definitions_in(old, &mut numbers)?;
-    let new = definitions_in(new, &mut numbers)?;
+    let old = definitions_in(old, &mut names.texts.whole, &mut names.old.whole)?;
+    let new = definitions_in(new, &mut names.texts.whole, &mut names.new.whole)?;
     let mut changes = DefinitionChanges::none(alloc);
     for (name, definitions) in old.iter() {
         match new.get(name.as_str()) {
@@ -137,9 +138,9 @@ pub(crate) fn definition_changes(
 fn definitions_in(
     inspector: &Inspector<'_>,
     numbers: &mut Numbers,
+    names: &mut WholeNames,
 ) -> Result<Definitions, AllocError> {
     let alloc = inspector.alloc;
-    let mut names = WholeNames::new(alloc);
     let organizer = organizer_of(inspector)?;
     let categories = Categories::of(inspector, organizer)?;
     let mut found = BTreeMap::new(alloc);
@@ -153,8 +154,8 @@ fn definitions_in(
             None => None,
         };
         let definition = Definition {
-            superclass: superclass_text(inspector, &mut names, numbers, class)?,
-            variables: variables_of(inspector, &mut names, numbers, class)?,
+            superclass: superclass_text(inspector, names, numbers, class)?,
+            variables: variables_of(inspector, names, numbers, class)?,
             category,
         };
         let same_name = found.entry(name)?.or_insert(Vec::new(alloc));

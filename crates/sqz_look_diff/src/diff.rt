@@ -38,7 +38,10 @@ pub fn print_diff<C: Sink>(
 {
     let alloc = old.alloc;
     let alikeness = compare(alloc, &old.live, &new.live)?;
-    let differences = Differences::between(rt, old, new)?;
+    let differences = match alikeness {
+        Alikeness::Alike => Differences::none(old, new)?,
+        Alikeness::Differ(_) => Differences::between(rt, old, new)?,
+    };
     out.emit(&TotalView::of(differences.old, differences.new))?;
     print_classes(alloc, &differences.classes, out)?;
     print_variables(alloc, &differences.variables, out)?;
@@ -149,7 +152,7 @@ fn print_methods<C: Sink>(
     out.text(&methods_line(alloc, methods)?)?;
     let changes = methods.changes.as_slice();
     for change in &changes[..out.shown(changes.len())] {
-        out.emit(&MethodView::of(methods.name(alloc, *change)?, *change))?;
+        out.emit(&MethodView::of(change))?;
     }
     out.rest(changes.len(), "row")
 }

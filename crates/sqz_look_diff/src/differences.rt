@@ -8,6 +8,7 @@ use crate::definitions::{DefinitionChanges, definition_changes};
 use crate::holders::holders_in;
 use crate::matched::Matched;
 use crate::methods::{MethodChanges, method_changes};
+use crate::read_names::ReadNames;
 use crate::variables::{VariableChanges, variable_changes};
 use sqz_answers::{Change, Size};
 use sqz_facts::marked_bytes;
@@ -32,6 +33,23 @@ pub(crate) struct Differences {
 }
 
 impl Differences {
+    /// Returns what differs between two images that are alike: nothing.
+    pub(crate) fn none(old: &Inspector<'_>, new: &Inspector<'_>) -> Result<Self, AllocError>
+        ensures { IfOk result (λ found. All (λ holder.
+            holder.object < object_count new.now.live.graph.heap.now) found.holders.items) }
+    {
+        let alloc = old.alloc;
+        Ok(Differences {
+            old: size_of(old),
+            new: size_of(new),
+            classes: Vec::new(alloc),
+            variables: VariableChanges::none(alloc),
+            definitions: DefinitionChanges::none(alloc),
+            methods: MethodChanges::none(old)?,
+            holders: Vec::new(alloc),
+        })
+    }
+
     /// Returns what differs between two images.
     pub(crate) fn between(
         rt: &(impl Threads + Sync),
@@ -41,14 +59,15 @@ impl Differences {
         ensures { IfOk result (λ found. All (λ holder.
             holder.object < object_count new.now.live.graph.heap.now) found.holders.items) }
     {
-        let matched = Matched::between(old, new)?;
+        let mut names = ReadNames::new(old.alloc);
+        let matched = Matched::between(old, new, &mut names)?;
         Ok(Differences {
             old: size_of(old),
             new: size_of(new),
-            classes: class_changes(rt, old, new)?,
-            variables: variable_changes(old, new, &matched)?,
-            definitions: definition_changes(old, new)?,
-            methods: method_changes(old, new)?,
+            classes: class_changes(rt, old, new, &mut names)?,
+            variables: variable_changes(old, new, &matched, &mut names)?,
+            definitions: definition_changes(old, new, &mut names)?,
+            methods: method_changes(old, new, &mut names)?,
             holders: holders_in(new, &matched)?,
         })
     }

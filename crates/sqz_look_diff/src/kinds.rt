@@ -16,12 +16,12 @@ use std::collections::BTreeMap;
 pub(crate) fn kinds_of(
     inspector: &Inspector<'_>,
     numbers: &mut Numbers,
+    names: &mut WholeNames,
 ) -> Result<Vec<usize>, AllocError>
     ensures { IfOk result (λ kinds.
         length kinds.items ≡ object_count inspector.now.live.graph.heap.now) }
 {
     let heap = inspector.live.graph.heap;
-    let mut names = WholeNames::new(inspector.alloc);
     let mut known = BTreeMap::new(inspector.alloc);
     let mut kinds = Vec::with_capacity(inspector.alloc, heap.len() as usize)?;
     for object in 0..heap.len() {
@@ -30,7 +30,7 @@ pub(crate) fn kinds_of(
         let kind = match found {
             Some(kind) => kind,
             None => {
-                let kind = kind_of(inspector, numbers, &mut names, object)?;
+                let kind = kind_of(inspector, numbers, names, object)?;
                 known.insert(key, kind)?;
                 kind
             }

@@ -5,6 +5,7 @@ ghost use Rattle.sqz_image.specs.Objects.{object_count};
 
 use crate::literals::Literal;
 use crate::numbers::{Numbers, push_number};
+use crate::object_numbers::ObjectNumbers;
 use sqz_image::Heap;
 use sqz_look_view::{Inspector, object_at};
 use sqz_object::{ObjectIndex, Value, Words, value_of};
@@ -19,7 +20,7 @@ use std::collections::BTreeMap;
 #[derive(Drop)]
 pub(crate) struct LiteralNumbers<'a> {
     /// The number of each object that has one.
-    known: BTreeMap<ObjectIndex, usize>,
+    known: ObjectNumbers,
     /// The arrays that were seen.
     arrays: BTreeMap<ObjectIndex, Array<'a>>,
     /// The arrays that were entered and have no number yet, in the order of a depth-first search.
@@ -62,13 +63,13 @@ enum Step {
 
 impl<'a> LiteralNumbers<'a> {
     /// Returns numbers that no object has.
-    pub(crate) fn new(alloc: Global) -> Self {
-        LiteralNumbers {
-            known: BTreeMap::new(alloc),
+    pub(crate) fn new(alloc: Global, heap: &Heap) -> Result<Self, AllocError> {
+        Ok(LiteralNumbers {
+            known: ObjectNumbers::none(alloc, heap)?,
             arrays: BTreeMap::new(alloc),
             open: Vec::new(alloc),
             places: BTreeMap::new(alloc),
-        }
+        })
     }
 
     /// Numbers an object and, if it is an array, all objects in it. It takes time n log n in the
@@ -105,8 +106,8 @@ impl<'a> LiteralNumbers<'a> {
         let Some(object) = object_in(heap, word) else {
             return push_word(description, word);
         };
-        if let Some(number) = self.known.get(&object) {
-            push_number(description, b'o', *number)
+        if let Some(number) = self.known.get(object) {
+            push_number(description, b'o', number)
         } else if let Some(array) = self.arrays.get(&object) {
             push_number(description, b'c', array.outline)
         } else {
@@ -124,7 +125,7 @@ impl<'a> LiteralNumbers<'a> {
     ) -> Result<(), AllocError>
         requires { object < object_count inspector.now.live.graph.heap.now }
     {
-        if self.known.contains_key(&object) || self.places.contains_key(&object) {
+        if self.known.get(object).is_some() || self.places.contains_key(&object) {
             return Ok(());
         }
         if self.arrays.contains_key(&object) {
@@ -135,7 +136,7 @@ impl<'a> LiteralNumbers<'a> {
         let mut description = literal.description(inspector.alloc)?;
         let Some(elements) = literal.elements() else {
             let number = numbers.number_of(description)?;
-            self.known.insert(object, number)?;
+            self.known.set(object, number);
             return Ok(());
         };
         description.extend_from_slice(&elements.len().to_le_bytes())?;
@@ -156,7 +157,7 @@ impl<'a> LiteralNumbers<'a> {
         let Some(array) = self.arrays.get(&object) else {
             return Ok(());
         };
-        if self.known.contains_key(&object) || self.places.contains_key(&object) {
+        if self.known.get(object).is_some() || self.places.contains_key(&object) {
             return Ok(());
         }
         let elements = array.elements.part(0, array.elements.len());
@@ -228,7 +229,7 @@ impl<'a> LiteralNumbers<'a> {
             join(inspector.alloc, numbers, &mut members)?;
         }
         for member in &members {
-            self.known.insert(member.object, member.number)?;
+            self.known.set(member.object, member.number);
             self.places.remove(&member.object);
         }
         Ok(())

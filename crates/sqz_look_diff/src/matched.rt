@@ -5,7 +5,7 @@ ghost use Rattle.sqz_look_diff.specs.Matched.{AreMatched};
 
 use crate::kinds::kinds_of;
 use crate::named_objects::named_pairs;
-use crate::numbers::Numbers;
+use crate::read_names::ReadNames;
 use sqz_alike::{Matching, Sides, partners_of};
 use sqz_dominators::{Dominators, SharedDominators, dominators_of, dominators_with};
 use sqz_look_view::Inspector;
@@ -24,14 +24,17 @@ pub(crate) struct Matched {
 
 impl Matched {
     /// Returns the partners of the objects of two images, and what the objects retain.
-    pub(crate) fn between(old: &Inspector<'_>, new: &Inspector<'_>) -> Result<Self, AllocError>
+    pub(crate) fn between(
+        old: &Inspector<'_>,
+        new: &Inspector<'_>,
+        names: &mut ReadNames,
+    ) -> Result<Self, AllocError>
         ensures { IfOk result (AreMatched old.now.live new.now.live) }
     {
         let alloc = old.alloc;
-        let mut numbers = Numbers::new(alloc);
-        let old_kinds = kinds_of(old, &mut numbers)?;
-        let new_kinds = kinds_of(new, &mut numbers)?;
-        let named = named_pairs(old, new, &mut numbers)?;
+        let old_kinds = kinds_of(old, &mut names.texts.whole, &mut names.old.whole)?;
+        let new_kinds = kinds_of(new, &mut names.texts.whole, &mut names.new.whole)?;
+        let named = named_pairs(old, new, names)?;
         let sides = Sides {
             old: &old.live,
             new: &new.live,

@@ -3,7 +3,8 @@
 ghost use Rattle.std.specs.Prelude.{◌<◌};
 ghost use Rattle.sqz_image.specs.Objects.{object_count};
 
-use crate::numbers::{Numbers, Order};
+use crate::numbers::Numbers;
+use crate::read_names::Texts;
 use crate::whole_names::WholeNames;
 use sqz_histogram::first_bytes;
 use sqz_look_view::Inspector;
@@ -13,106 +14,72 @@ use std::alloc::{AllocError, Global};
 use std::collections::BTreeMap;
 
 /// The maximum number of characters of a name that is printed.
-const MOST_CHARACTERS: usize = 80;
+pub(crate) const MOST_CHARACTERS: usize = 80;
 
-/// A name of a method: its class and its selector, as numbers or, once they are in order, as
-/// places; and its place among the methods of an image with this name.
+/// A name of a method: the numbers of its class and of its selector.
 #[derive(Clone, Copy, Debug, PartialEq, Eq, PartialOrd, Ord)]
 pub(crate) struct MethodKey {
     pub(crate) class: usize,
     pub(crate) selector: usize,
-    pub(crate) namesake: usize,
 }
 
 /// The parts of the names of methods: the name of the class followed by `>>`, and the whole
 /// selector.
 #[derive(Drop)]
 pub(crate) struct NameParts {
-    alloc: Global,
-    classes: Numbers,
-    selectors: Numbers,
+    pub(crate) classes: Numbers,
+    pub(crate) selectors: Numbers,
 }
 
 impl NameParts {
     /// Returns no parts.
     pub(crate) fn new(alloc: Global) -> Self {
         NameParts {
-            alloc,
             classes: Numbers::new(alloc),
             selectors: Numbers::new(alloc),
         }
     }
-
-    /// Returns the parts in order.
-    pub(crate) fn in_order(&self) -> Result<OrderedNames, AllocError> {
-        let most = MOST_CHARACTERS + 1;
-        Ok(OrderedNames {
-            classes: self.classes.in_order(self.alloc, most)?,
-            selectors: self.selectors.in_order(self.alloc, most)?,
-        })
-    }
 }
 
-/// The parts of the names of methods, in the order of their texts.
-#[derive(Drop)]
-pub(crate) struct OrderedNames {
-    classes: Order,
-    selectors: Order,
+/// Returns the text of a name, given its parts, followed by `..` instead of the rest if it has more
+/// than 80 characters.
+pub(crate) fn name_of(alloc: Global, class: &[u8], selector: &[u8]) -> Result<String, AllocError> {
+    let mut text = String::new(alloc);
+    for byte in class.iter().chain(selector).take(MOST_CHARACTERS) {
+        text.push(char::from(*byte))?;
+    }
+    if class.len().saturating_add(selector.len()) > MOST_CHARACTERS {
+        text.push_str("..")?;
+    }
+    Ok(text)
 }
 
-impl OrderedNames {
-    /// Returns a name with places for its numbers: names are in the order of their places.
-    pub(crate) fn placed(&self, key: MethodKey) -> MethodKey {
-        MethodKey {
-            class: self.classes.place(key.class).unwrap_or(key.class),
-            selector: self.selectors.place(key.selector).unwrap_or(key.selector),
-            namesake: key.namesake,
-        }
-    }
-
-    /// Returns the text of a name with places, followed by `..` instead of the rest if it has more
-    /// than 80 characters.
-    pub(crate) fn text(&self, alloc: Global, key: MethodKey) -> Result<String, AllocError> {
-        let class = self.classes.beginning(key.class).unwrap_or(&[]);
-        let selector = self.selectors.beginning(key.selector).unwrap_or(&[]);
-        let mut text = String::new(alloc);
-        for byte in class.iter().chain(selector).take(MOST_CHARACTERS) {
-            text.push(char::from(*byte))?;
-        }
-        if class.len().saturating_add(selector.len()) > MOST_CHARACTERS {
-            text.push_str("..")?;
-        }
-        Ok(text)
-    }
-}
-
-/// Numbers the names of the methods of an image. The name of each class and each selector are made
-/// once.
+/// The names in an image. The name of each class and each selector are made once.
 #[derive(Drop)]
 pub(crate) struct ImageNames {
-    /// The number of each class.
+    /// The names of classes and variables.
+    pub(crate) whole: WholeNames,
+    /// The number of each class as a part of the names of methods.
     classes: BTreeMap<ObjectIndex, usize>,
     /// The number of each selector.
     selectors: BTreeMap<ObjectIndex, usize>,
-    names: WholeNames,
 }
 
 impl ImageNames {
-    /// Returns the names of the methods of an image, none of which has a number.
+    /// Returns the names in an image, none of which was read.
     pub(crate) fn new(alloc: Global) -> Self {
         ImageNames {
+            whole: WholeNames::new(alloc),
             classes: BTreeMap::new(alloc),
             selectors: BTreeMap::new(alloc),
-            names: WholeNames::new(alloc),
         }
     }
 
-    /// Returns the name of a method with numbers, as that of the first method with this name.
+    /// Returns the name of a method.
     pub(crate) fn key(
         &mut self,
         inspector: &Inspector<'_>,
-        numbers: &mut Numbers,
-        parts: &mut NameParts,
+        texts: &mut Texts,
         name: &MethodName,
     ) -> Result<MethodKey, AllocError>
         requires class { name.now.class < object_count inspector.now.live.graph.heap.now }
@@ -120,9 +87,8 @@ impl ImageNames {
             < object_count inspector.now.live.graph.heap.now }
     {
         Ok(MethodKey {
-            class: self.class(inspector, numbers, parts, name.class)?,
-            selector: self.selector(inspector, parts, name.selector)?,
-            namesake: 0,
+            class: self.class(inspector, texts, name.class)?,
+            selector: self.selector(inspector, &mut texts.parts, name.selector)?,
         })
     }
 
@@ -130,8 +96,7 @@ impl ImageNames {
     fn class(
         &mut self,
         inspector: &Inspector<'_>,
-        numbers: &mut Numbers,
-        parts: &mut NameParts,
+        texts: &mut Texts,
         class: ObjectIndex,
     ) -> Result<usize, AllocError>
         requires { class < object_count inspector.now.live.graph.heap.now }
@@ -139,14 +104,14 @@ impl ImageNames {
         if let Some(number) = self.classes.get(&class) {
             return Ok(*number);
         }
-        let mut name = self.names.class(inspector, numbers, class)?;
+        let mut name = self.whole.class(inspector, &mut texts.whole, class)?;
         name.push_str(">>")?;
-        let number = parts.classes.number_of(name.into_bytes())?;
+        let number = texts.parts.classes.number_of(name.into_bytes())?;
         self.classes.insert(class, number)?;
         Ok(number)
     }
 
-    /// Returns the number of a selector.
+    /// Returns the number of a selector. An object without bytes has the empty text.
     fn selector(
         &mut self,
         inspector: &Inspector<'_>,
@@ -160,7 +125,10 @@ impl ImageNames {
         }
         let (alloc, heap) = (inspector.alloc, inspector.live.graph.heap);
         let bytes = first_bytes(alloc, heap.order(), &heap.object(selector), usize::MAX)?;
-        let text = escaped(alloc, &bytes.unwrap_or(Vec::new(alloc)))?;
+        let text = match bytes {
+            Some(bytes) => escaped(alloc, &bytes)?,
+            None => String::new(alloc),
+        };
         let number = parts.selectors.number_of(text.into_bytes())?;
         self.selectors.insert(selector, number)?;
         Ok(number)

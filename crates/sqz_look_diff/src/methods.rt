@@ -1,11 +1,14 @@
 //! The methods that were added, removed or changed.
 
 use crate::contents::Contents;
-use crate::method_names::{ImageNames, MethodKey, NameParts, OrderedNames};
+use crate::method_names::{ImageNames, MethodKey};
+use crate::method_order::in_order;
 use crate::numbers::Numbers;
+use crate::read_names::{ReadNames, Texts};
 use sqz_look_view::Inspector;
 use sqz_object::ObjectIndex;
 use std::alloc::{AllocError, Global};
+use std::collections::BTreeMap;
 
 /// A method of a class under a selector.
 #[derive(Clone, Copy, Debug, PartialEq, Eq)]
@@ -25,10 +28,24 @@ struct NamedMethod {
     place: (ObjectIndex, ObjectIndex, ObjectIndex),
 }
 
+/// The methods of an image by name, several with one name in the order of the image.
+type Methods = BTreeMap<MethodKey, Vec<Method>>;
+
 /// A method that was added, removed or changed.
-#[derive(Clone, Copy)]
+#[derive(Drop)]
 pub(crate) struct MethodChange {
-    key: MethodKey,
+    /// Its class and its selector, cut after 80 characters.
+    pub(crate) name: String,
+    /// None if only the new image has it.
+    pub(crate) old: Option<Method>,
+    /// None if only the old image has it.
+    pub(crate) new: Option<Method>,
+}
+
+/// A method that was added, removed or changed, with its name as numbers.
+#[derive(Clone, Copy)]
+pub(crate) struct KeyedChange {
+    pub(crate) key: MethodKey,
     /// None if only the new image has it.
     pub(crate) old: Option<Method>,
     /// None if only the old image has it.
@@ -38,7 +55,6 @@ pub(crate) struct MethodChange {
 /// The methods that differ, and the number of all methods.
 #[derive(Drop)]
 pub(crate) struct MethodChanges {
-    names: OrderedNames,
     /// The methods that were added, removed or changed, by name.
     pub(crate) changes: Vec<MethodChange>,
     /// The number of methods that one of the images has, or both.
@@ -46,9 +62,20 @@ pub(crate) struct MethodChanges {
 }
 
 impl MethodChanges {
-    /// Returns the name of a method: its class and its selector, cut after 80 characters.
-    pub(crate) fn name(&self, alloc: Global, change: MethodChange) -> Result<String, AllocError> {
-        self.names.text(alloc, change.key)
+    /// Returns no changes of the methods of an image.
+    pub(crate) fn none(inspector: &Inspector<'_>) -> Result<Self, AllocError> {
+        let alloc = inspector.alloc;
+        let marks = &inspector.live.marks;
+        let mut count = 0usize;
+        for name in &inspector.names.methods_of_marked(marks)? {
+            if marks.has(name.method) {
+                count = count.saturating_add(1);
+            }
+        }
+        Ok(MethodChanges {
+            changes: Vec::new(alloc),
+            count,
+        })
     }
 }
 
@@ -57,78 +84,90 @@ impl MethodChanges {
 pub(crate) fn method_changes(
     old: &Inspector<'_>,
     new: &Inspector<'_>,
+    names: &mut ReadNames,
 ) -> Result<MethodChanges, AllocError> {
-    let mut numbers = Numbers::new(old.alloc);
-    let mut parts = NameParts::new(old.alloc);
-    let mut old_methods = methods_in(old, &mut numbers, &mut parts)?;
-    let mut new_methods = methods_in(new, &mut numbers, &mut parts)?;
-    let names = parts.in_order()?;
-    put_in_order(&names, &mut old_methods)?;
-    put_in_order(&names, &mut new_methods)?;
-    let mut changes = Vec::new(old.alloc);
-    let mut count = old_methods.len();
-    for it in &old_methods {
-        let (old, new) = (Some(it.method), method_named(&new_methods, it.key));
-        if new.map(|method| method.contents) != Some(it.method.contents) {
-            let key = it.key;
-            changes.push(MethodChange { key, old, new })?;
-        }
-    }
-    for it in &new_methods {
-        if method_named(&old_methods, it.key).is_none() {
-            let (key, new) = (it.key, Some(it.method));
-            changes.push(MethodChange {
-                key,
-                old: None,
-                new,
-            })?;
-            count = count.saturating_add(1);
-        }
-    }
-    changes.sort_unstable_by_key(|change: &MethodChange| -> MethodKey { change.key });
+    let mut contents = Numbers::new(old.alloc);
+    let old_methods = methods_in(old, &mut names.texts, &mut names.old, &mut contents)?;
+    let new_methods = methods_in(new, &mut names.texts, &mut names.new, &mut contents)?;
+    let compared = Compared::between(old.alloc, &old_methods, &new_methods)?;
     Ok(MethodChanges {
-        names,
-        changes,
-        count,
+        changes: in_order(old.alloc, &names.texts.parts, &compared.changes)?,
+        count: compared.count,
     })
 }
 
-/// Returns the method with a name among methods in the order of their names.
-fn method_named(methods: &[NamedMethod], key: MethodKey) -> Option<Method> {
-    let place = methods.partition_point(|it: &NamedMethod| it.key < key);
-    let found = methods.get(place)?;
-    (found.key == key).then_some(found.method)
+/// The methods of two images, compared.
+#[derive(Drop)]
+struct Compared {
+    changes: Vec<KeyedChange>,
+    /// The number of methods that one of the images has, or both.
+    count: usize,
 }
 
-/// Puts methods in the order of their names, and gives those with one name their places.
-fn put_in_order(names: &OrderedNames, methods: &mut Vec<NamedMethod>) -> Result<(), AllocError> {
-    for it in methods.iter_mut() {
-        it.key = names.placed(it.key);
-    }
-    methods.sort_by_key(|it: &NamedMethod| -> MethodKey { it.key })?;
-    let mut first = None;
-    let mut namesake = 0usize;
-    for it in methods.iter_mut() {
-        namesake = if first == Some(it.key) {
-            namesake.saturating_add(1)
-        } else {
-            0
+impl Compared {
+    /// Compares the methods of two images.
+    fn between(alloc: Global, old: &Methods, new: &Methods) -> Result<Self, AllocError> {
+        let mut compared = Compared {
+            changes: Vec::new(alloc),
+            count: 0,
         };
-        first = Some(it.key);
-        it.key.namesake = namesake;
+        for (key, methods) in old.iter() {
+            match new.get(key) {
+                Some(others) => compared.add(*key, methods, others)?,
+                None => compared.add(*key, methods, &[])?,
+            }
+        }
+        for (key, methods) in new.iter() {
+            if !old.contains_key(key) {
+                compared.add(*key, &[], methods)?;
+            }
+        }
+        Ok(compared)
     }
-    Ok(())
+
+    /// Compares the methods that two images have under one name, in their order.
+    fn add(&mut self, key: MethodKey, old: &[Method], new: &[Method]) -> Result<(), AllocError> {
+        let count = old.len().max(new.len());
+        self.count = self.count.saturating_add(count);
+        for place in 0..count {
+            let (old, new) = (old.get(place).copied(), new.get(place).copied());
+            if contents_of(old) != contents_of(new) {
+                self.changes.push(KeyedChange { key, old, new })?;
+            }
+        }
+        Ok(())
+    }
+}
+
+/// Returns the number of what a method is made of.
+fn contents_of(method: Option<Method>) -> Option<usize> {
+    method.map(|method| method.contents)
+}
+
+/// Returns the live methods of live classes by name.
+fn methods_in(
+    inspector: &Inspector<'_>,
+    texts: &mut Texts,
+    names: &mut ImageNames,
+    numbers: &mut Numbers,
+) -> Result<Methods, AllocError> {
+    let mut methods = BTreeMap::new(inspector.alloc);
+    for it in &named_methods(inspector, texts, names, numbers)? {
+        let same_name = methods.entry(it.key)?.or_insert(Vec::new(inspector.alloc));
+        same_name.push(it.method)?;
+    }
+    Ok(methods)
 }
 
 /// Returns the live methods of live classes, in the order of their classes.
-fn methods_in(
+fn named_methods(
     inspector: &Inspector<'_>,
+    texts: &mut Texts,
+    names: &mut ImageNames,
     numbers: &mut Numbers,
-    parts: &mut NameParts,
 ) -> Result<Vec<NamedMethod>, AllocError> {
     let marks = &inspector.live.marks;
-    let mut contents = Contents::new(inspector.alloc);
-    let mut keys = ImageNames::new(inspector.alloc);
+    let mut contents = Contents::new(inspector.alloc, inspector.live.graph.heap)?;
     let mut methods = Vec::new(inspector.alloc);
     for name in &inspector.names.methods_of_marked(marks)? {
         if !marks.has(name.method) {
@@ -138,7 +177,7 @@ fn methods_in(
             bytes: inspector.bytes(name.method),
             contents: contents.number_of_method(inspector, numbers, name.method)?,
         };
-        let key = keys.key(inspector, numbers, parts, name)?;
+        let key = names.key(inspector, texts, name)?;
         let place = (name.class, name.method, name.selector);
         methods.push(NamedMethod { key, method, place })?;
     }

@@ -1,13 +1,11 @@
 //! The objects of two images with equal names.
 
-use crate::method_names::{ImageNames, NameParts};
-use crate::numbers::Numbers;
-use crate::whole_names::WholeNames;
+use crate::method_names::ImageNames;
+use crate::read_names::{ReadNames, Texts};
 use sqz_alike::Pair;
 use sqz_look_view::Inspector;
 use sqz_object::ObjectIndex;
 use std::alloc::{AllocError, Global};
-use std::collections::BTreeMap;
 
 /// The name of an object, by the numbers of its texts.
 #[derive(Clone, Copy, Debug, PartialEq, Eq, PartialOrd, Ord)]
@@ -21,36 +19,34 @@ enum ObjectName {
     Method(usize, usize),
 }
 
+/// An object with its name.
+type Named = (ObjectName, ObjectIndex);
+
 /// The live objects of an image that have names.
 #[derive(Drop)]
 struct NamedObjects {
-    /// All of them, in the order in which they are matched.
-    listed: Vec<(ObjectName, ObjectIndex)>,
-    /// The object of each name. None if several have it.
-    only: BTreeMap<ObjectName, Option<ObjectIndex>>,
+    /// In the order in which they are matched.
+    listed: Vec<Named>,
+    /// In the order of their names.
+    by_name: Vec<Named>,
 }
 
 impl NamedObjects {
-    /// Returns no objects.
-    fn none(alloc: Global) -> Self {
-        NamedObjects {
-            listed: Vec::new(alloc),
-            only: BTreeMap::new(alloc),
-        }
-    }
-
-    /// Adds an object with a name.
-    fn add(&mut self, name: ObjectName, object: ObjectIndex) -> Result<(), AllocError> {
-        self.listed.push((name, object))?;
-        let has_name = self.only.contains_key(&name);
-        let only = if has_name { None } else { Some(object) };
-        self.only.insert(name, only)?;
-        Ok(())
+    /// Returns these objects.
+    fn of(alloc: Global, listed: Vec<Named>) -> Result<Self, AllocError> {
+        let mut by_name = Vec::from_slice(alloc, &listed)?;
+        by_name.sort_unstable_by_key(|it: &Named| -> ObjectName { it.0 });
+        Ok(NamedObjects { listed, by_name })
     }
 
     /// Returns the only object of a name. None if there is none, or several.
-    fn only(&self, name: &ObjectName) -> Option<ObjectIndex> {
-        self.only.get(name).copied().flatten()
+    fn only(&self, name: ObjectName) -> Option<ObjectIndex> {
+        let begin = self.by_name.partition_point(|it: &Named| it.0 < name);
+        let end = self.by_name.partition_point(|it: &Named| it.0 <= name);
+        match self.by_name.get(begin..end) {
+            Some([(_, object)]) => Some(*object),
+            _ => None,
+        }
     }
 }
 
@@ -60,15 +56,14 @@ impl NamedObjects {
 pub(crate) fn named_pairs(
     old: &Inspector<'_>,
     new: &Inspector<'_>,
-    numbers: &mut Numbers,
+    names: &mut ReadNames,
 ) -> Result<Vec<Pair>, AllocError> {
-    let mut parts = NameParts::new(old.alloc);
     let mut pairs = Vec::new(old.alloc);
-    let old = objects_of(old, numbers, &mut parts)?;
-    let new = objects_of(new, numbers, &mut parts)?;
+    let old = objects_of(old, &mut names.texts, &mut names.old)?;
+    let new = objects_of(new, &mut names.texts, &mut names.new)?;
     for (name, object) in &old.listed {
-        if old.only(name).is_some()
-            && let Some(partner) = new.only(name)
+        if old.only(*name).is_some()
+            && let Some(partner) = new.only(*name)
         {
             pairs.push(Pair {
                 old: *object,
@@ -82,35 +77,32 @@ pub(crate) fn named_pairs(
 /// Returns the live objects of an image that have names.
 fn objects_of(
     inspector: &Inspector<'_>,
-    numbers: &mut Numbers,
-    parts: &mut NameParts,
+    texts: &mut Texts,
+    names: &mut ImageNames,
 ) -> Result<NamedObjects, AllocError> {
-    let mut found = NamedObjects::none(inspector.alloc);
-    let mut names = WholeNames::new(inspector.alloc);
+    let mut found = Vec::new(inspector.alloc);
     let mut values = Vec::new(inspector.alloc);
-    add_classes(inspector, numbers, &mut names, &mut found)?;
-    add_variables(inspector, numbers, &mut names, &mut found, &mut values)?;
-    add_methods(inspector, numbers, parts, &mut found)?;
-    for (name, object) in &values {
-        found.add(*name, *object)?;
-    }
-    Ok(found)
+    add_classes(inspector, texts, names, &mut found)?;
+    add_variables(inspector, texts, names, &mut found, &mut values)?;
+    add_methods(inspector, texts, names, &mut found)?;
+    found.extend_from_slice(&values)?;
+    NamedObjects::of(inspector.alloc, found)
 }
 
 /// Adds the live classes, by address.
 fn add_classes(
     inspector: &Inspector<'_>,
-    numbers: &mut Numbers,
-    names: &mut WholeNames,
-    found: &mut NamedObjects,
+    texts: &mut Texts,
+    names: &mut ImageNames,
+    found: &mut Vec<Named>,
 ) -> Result<(), AllocError> {
     for class in 0..inspector.live.graph.heap.len() {
         if !inspector.names.is_class(class) || !inspector.live.marks.has(class) {
             continue;
         }
-        let name = names.class(inspector, numbers, class)?;
-        let number = numbers.number_of(name.into_bytes())?;
-        found.add(ObjectName::Class(number), class)?;
+        let name = names.whole.class(inspector, &mut texts.whole, class)?;
+        let number = texts.whole.number_of(name.into_bytes())?;
+        found.push((ObjectName::Class(number), class))?;
     }
     Ok(())
 }
@@ -118,10 +110,10 @@ fn add_classes(
 /// Adds the live associations of variables, by address, and appends their values.
 fn add_variables(
     inspector: &Inspector<'_>,
-    numbers: &mut Numbers,
-    names: &mut WholeNames,
-    found: &mut NamedObjects,
-    values: &mut Vec<(ObjectName, ObjectIndex)>,
+    texts: &mut Texts,
+    names: &mut ImageNames,
+    found: &mut Vec<Named>,
+    values: &mut Vec<Named>,
 ) -> Result<(), AllocError> {
     let mut last = None;
     for name in inspector.names.variables() {
@@ -131,10 +123,10 @@ fn add_variables(
         }
         last = Some(association);
         if let Some(variable) = inspector.names.variable(association)?
-            && let Some(label) = names.variable(inspector, numbers, *name)?
+            && let Some(label) = names.whole.variable(inspector, &mut texts.whole, *name)?
         {
-            let number = numbers.number_of(label.into_bytes())?;
-            found.add(ObjectName::Variable(number), association)?;
+            let number = texts.whole.number_of(label.into_bytes())?;
+            found.push((ObjectName::Variable(number), association))?;
             if let Some(value) = variable.value {
                 values.push((ObjectName::Value(number), value))?;
             }
@@ -146,16 +138,15 @@ fn add_variables(
 /// Adds the live methods of live classes.
 fn add_methods(
     inspector: &Inspector<'_>,
-    numbers: &mut Numbers,
-    parts: &mut NameParts,
-    found: &mut NamedObjects,
+    texts: &mut Texts,
+    names: &mut ImageNames,
+    found: &mut Vec<Named>,
 ) -> Result<(), AllocError> {
     let marks = &inspector.live.marks;
-    let mut keys = ImageNames::new(inspector.alloc);
     for name in &inspector.names.methods_of_marked(marks)? {
         if marks.has(name.method) {
-            let key = keys.key(inspector, numbers, parts, name)?;
-            found.add(ObjectName::Method(key.class, key.selector), name.method)?;
+            let key = names.key(inspector, texts, name)?;
+            found.push((ObjectName::Method(key.class, key.selector), name.method))?;
         }
     }
     Ok(())

@@ -24,42 +24,9 @@ impl Numbers {
         Ok(*self.numbers.entry(description)?.or_insert(next))
     }
 
-    /// Returns the order of the descriptions, and at most the first `most` bytes of each.
-    pub(crate) fn in_order(&self, alloc: Global, most: usize) -> Result<Order, AllocError> {
-        let mut places = vec![in alloc; 0usize; self.numbers.len()]?;
-        let mut beginnings = Vec::new(alloc);
-        for (place, (description, number)) in self.numbers.iter().enumerate() {
-            if let Some(at) = places.get_mut(*number) {
-                *at = place;
-            }
-            let (beginning, _) = description.split_at(description.len().min(most));
-            beginnings.push(Vec::from_slice(alloc, beginning)?)?;
-        }
-        Ok(Order { places, beginnings })
-    }
-}
-
-/// The order of descriptions that have numbers.
-#[derive(Drop)]
-pub(crate) struct Order {
-    /// For each number the place of its description among all.
-    places: Vec<usize>,
-    /// The first bytes of the descriptions, by their places.
-    beginnings: Vec<Vec<u8>>,
-}
-
-impl Order {
-    /// Returns the place of the description with a number. None if there is none.
-    pub(crate) fn place(&self, number: usize) -> Option<usize> {
-        self.places.get(number).copied()
-    }
-
-    /// Returns the first bytes of the description at a place. None if there is none.
-    pub(crate) fn beginning(&self, place: usize) -> Option<&[u8]> {
-        match self.beginnings.get(place) {
-            Some(beginning) => Some(beginning.as_slice()),
-            None => None,
-        }
+    /// Returns the descriptions in order, each with its number.
+    pub(crate) fn in_order(&self) -> &BTreeMap<Vec<u8>, usize> {
+        &self.numbers
     }
 }
 

@@ -5,6 +5,7 @@ ghost use Rattle.sqz_image.specs.Objects.{object_count};
 
 use crate::matched::Matched;
 use crate::numbers::Numbers;
+use crate::read_names::ReadNames;
 use crate::values::{ValueChange, Values, value_changes, value_text};
 use crate::whole_names::WholeNames;
 use sqz_answers::{Change, changes_of, sort_by_difference};
@@ -12,7 +13,7 @@ use sqz_dominators::Dominators;
 use sqz_look_view::Inspector;
 use sqz_names::{Known, Label};
 use sqz_object::ObjectIndex;
-use std::alloc::AllocError;
+use std::alloc::{AllocError, Global};
 use std::collections::{BTreeMap, BTreeSet};
 
 /// What the variables of an image hold.
@@ -43,6 +44,17 @@ pub(crate) struct VariableChanges {
 }
 
 impl VariableChanges {
+    /// Returns no changes.
+    pub(crate) fn none(alloc: Global) -> Self {
+        VariableChanges {
+            changes: Vec::new(alloc),
+            values: Vec::new(alloc),
+            old_set: BTreeSet::new(alloc),
+            new_set: BTreeSet::new(alloc),
+            new_bytes: BTreeMap::new(alloc),
+        }
+    }
+
     /// Returns whether the value of a variable was nil.
     pub(crate) fn was_nil(&self, name: &str) -> bool {
         !self.old_set.contains(name)
@@ -65,12 +77,13 @@ pub(crate) fn variable_changes(
     old: &Inspector<'_>,
     new: &Inspector<'_>,
     matched: &Matched,
+    names: &mut ReadNames,
 ) -> Result<VariableChanges, AllocError> {
     let alloc = old.alloc;
-    let mut numbers = Numbers::new(alloc);
-    let old = held_in(old, &mut numbers, &matched.old, &[])?;
-    let shares = matched.new.shares.as_slice();
-    let new = held_in(new, &mut numbers, &matched.new.dominators, shares)?;
+    let (numbers, of_old, of_new) = (&mut names.texts.whole, &mut names.old, &mut names.new);
+    let old = held_in(old, numbers, &mut of_old.whole, &matched.old, &[])?;
+    let (dominators, shares) = (&matched.new.dominators, matched.new.shares.as_slice());
+    let new = held_in(new, numbers, &mut of_new.whole, dominators, shares)?;
     let mut changes = changes_of(alloc, &old.bytes, &new.bytes)?;
     sort_by_difference(&mut changes)?;
     let values = value_changes(alloc, &old.values, &new.values)?;
@@ -88,10 +101,10 @@ pub(crate) fn variable_changes(
 fn held_in(
     inspector: &Inspector<'_>,
     numbers: &mut Numbers,
+    names: &mut WholeNames,
     dominators: &Dominators,
     shares: &[u64],
 ) -> Result<Holdings, AllocError> {
-    let mut names = WholeNames::new(inspector.alloc);
     let mut held = Holdings {
         bytes: BTreeMap::new(inspector.alloc),
         shares: BTreeMap::new(inspector.alloc),

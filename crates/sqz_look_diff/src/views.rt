@@ -194,34 +194,33 @@ impl fmt::Display for ValueView<'_> {
 
 /// A method that was added, removed or changed.
 #[derive(Drop, Serialize)]
-pub(crate) struct MethodView {
+pub(crate) struct MethodView<'a> {
     kind: &'static str,
-    name: String,
+    name: &'a str,
     old: Option<u64>,
     new: Option<u64>,
 }
 
-impl MethodView {
-    /// Returns the row of a method with this name.
-    pub(crate) fn of(name: String, change: MethodChange) -> Self {
+impl<'a> MethodView<'a> {
+    /// Returns the row of a method.
+    pub(crate) fn of(change: &'a MethodChange) -> Self {
         MethodView {
             kind: "method",
-            name,
+            name: change.name.as_str(),
             old: change.old.map(|method| method.bytes),
             new: change.new.map(|method| method.bytes),
         }
     }
 }
 
-impl fmt::Display for MethodView {
+impl fmt::Display for MethodView<'_> {
     fn fmt<W: fmt::Write>(&self, f: &mut fmt::Formatter<W>) -> fmt::Result {
         let verb = match (self.old, self.new) {
             (None, _) => "added",
             (_, None) => "removed",
             _ => "changed",
         };
-        let name = self.name.as_str();
-        write!(f, "  {verb:<7}  {name}")
+        write!(f, "  {verb:<7}  {}", self.name)
     }
 }
 
