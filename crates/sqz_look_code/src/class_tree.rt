@@ -52,49 +52,47 @@ impl fmt::Display for TreeRow<'_> {
     }
 }
 
-/// Numbers of things by object.
+/// How often each object was counted.
 #[derive(Drop)]
 struct Counts {
-    numbers: Vec<u32>,
+    /// The number of each object that was counted.
+    numbers: BTreeMap<ObjectIndex, u32>,
 }
 
 impl Counts {
-    /// Returns 0 for each of a number of objects.
-    fn none(alloc: Global, objects: u32) -> Result<Self, AllocError> {
-        Ok(Counts {
-            numbers: vec![in alloc; 0u32; objects as usize]?,
-        })
-    }
-
-    /// Counts one for an object.
-    fn add(&mut self, object: ObjectIndex) {
-        if let Some(number) = self.numbers.get_mut(object as usize) {
-            *number = number.saturating_add(1);
+    /// Returns 0 for each object.
+    fn none(alloc: Global) -> Self {
+        Counts {
+            numbers: BTreeMap::new(alloc),
         }
     }
 
-    /// Returns the number of an object.
+    /// Counts an object.
+    fn add(&mut self, object: ObjectIndex) -> Result<(), AllocError> {
+        let number = self.numbers.entry(object)?.or_insert(0u32);
+        *number = number.saturating_add(1);
+        Ok(())
+    }
+
+    /// Returns how often an object was counted.
     fn of(&self, object: ObjectIndex) -> u32 {
-        self.numbers
-            .get(object as usize)
-            .copied()
-            .unwrap_or_default()
+        self.numbers.get(&object).copied().unwrap_or_default()
     }
 }
 
 /// Returns the live classes that are no metaclasses, by name.
 fn classes_of(inspector: &Inspector<'_>) -> Result<Classes, AllocError> {
     let (alloc, graph) = (inspector.alloc, inspector.live.graph);
-    let mut methods = Counts::none(alloc, graph.heap.len())?;
+    let mut methods = Counts::none(alloc);
     for name in &live_methods(inspector)? {
-        methods.add(name.class);
+        methods.add(name.class)?;
     }
-    let mut instances = Counts::none(alloc, graph.heap.len())?;
+    let mut instances = Counts::none(alloc);
     for object in 0..graph.heap.len() {
         if inspector.live.marks.has(object)
             && let Some(class) = graph.class_of(object)
         {
-            instances.add(class);
+            instances.add(class)?;
         }
     }
     let mut classes = BTreeMap::new(alloc);

@@ -29,8 +29,7 @@ pub(crate) fn box_text(
     span: Span,
     whole: u64,
 ) -> Result<String, AllocError> {
-    let room = span.width.saturating_sub(MARGIN) / CHARACTER;
-    let room = usize::try_from(room).unwrap_or(0);
+    let room = (span.width.saturating_sub(MARGIN) / CHARACTER) as usize;
     let label = cut(alloc, fitting(row.label.as_str(), room), room)?;
     let size = size_in(alloc, row, whole, room)?;
     let left = span.left.saturating_add(MARGIN / 2);

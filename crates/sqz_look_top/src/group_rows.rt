@@ -5,12 +5,11 @@ ghost use Rattle.sqz_image.specs.Objects.{object_count};
 
 use crate::grouping::ObjectGroups;
 use crate::rows::Row;
-use crate::share::Share;
 use serde::Serialize;
 use sqz_answers::{GroupedObjects, GroupedRow};
 use sqz_look_view::{Counted, Inspector, write_amount};
 use sqz_object::ObjectIndex;
-use std::alloc::{AllocError, Global};
+use std::alloc::AllocError;
 use std::fmt;
 
 /// What is printed for objects whose class has no category.
@@ -70,17 +69,15 @@ impl LabelledGroups {
 }
 
 impl<'a> GroupRowView<'a> {
-    /// Returns a row, with the labels from the first row to it.
+    /// Returns a row, with the labels from the first row to it, and its share as text.
     pub(crate) fn of(
-        alloc: Global,
         found: GroupedRow,
         row: &'a Row,
         name: Option<&'a String>,
         path: &'a [&'a str],
-        whole: u64,
-    ) -> Result<Self, AllocError> {
-        let part = row.retained;
-        Ok(GroupRowView {
+        share: String,
+    ) -> Self {
+        GroupRowView {
             group: name.map(|name| name.as_str()),
             label: row.label.as_str(),
             groups: match found.what {
@@ -93,8 +90,8 @@ impl<'a> GroupRowView<'a> {
             retained: row.retained,
             objects: row.objects,
             path,
-            share: Share { part, whole }.to_string(alloc)?,
-        })
+            share,
+        }
     }
 }
 

@@ -8,6 +8,7 @@ use crate::folded::print_folded;
 use crate::group_rows::{GroupRowView, LabelledGroups};
 use crate::grouping::ObjectGroups;
 use crate::options::limits_of;
+use crate::share::Share;
 use crate::top::whole_of;
 use sqz_answers::{GroupedRow, grouped_rows};
 use sqz_dominators::dominators_of;
@@ -56,8 +57,9 @@ fn print_group_rows<C: Sink>(
     for ((found, row), name) in found.iter().zip(&labelled.rows).zip(&labelled.names) {
         path.truncate(row.depth);
         path.push(row.label.as_str())?;
-        let view = GroupRowView::of(inspector.alloc, *found, row, name.as_ref(), &path, whole)?;
-        out.emit(&view)?;
+        let part = row.retained;
+        let share = Share { part, whole }.to_string(inspector.alloc)?;
+        out.emit(&GroupRowView::of(*found, row, name.as_ref(), &path, share))?;
     }
     Ok(())
 }

@@ -11,7 +11,7 @@ use sqz_look_view::{Hex, Inspector};
 use sqz_names::Label;
 use sqz_object::ObjectIndex;
 use std::alloc::AllocError;
-use std::collections::BTreeMap;
+use std::collections::BTreeSet;
 
 /// A row with its label. One that stands for several smaller objects has no address and no class.
 #[derive(Drop)]
@@ -132,14 +132,16 @@ fn stands_for(row: Option<TopRow>, class: ObjectIndex) -> bool {
 /// Adds the addresses to the labels of rows below one row that read the same.
 fn make_distinct(inspector: &Inspector<'_>, rows: &mut [Row]) -> Result<(), AllocError> {
     let alloc = inspector.alloc;
-    let mut counts = BTreeMap::new(alloc);
+    let (mut seen, mut repeated) = (BTreeSet::new(alloc), BTreeSet::new(alloc));
     for row in rows.iter() {
-        let count = counts.entry(key_of(row)?)?.or_insert(0u32);
-        *count = count.saturating_add(1);
+        if !seen.insert(key_of(row)?)? {
+            repeated.insert(key_of(row)?)?;
+        }
     }
     for row in rows.iter_mut() {
-        let count = counts.get(&key_of(row)?).copied().unwrap_or(1);
-        if let (Some(address), true) = (row.address, count > 1) {
+        if let Some(address) = row.address
+            && repeated.contains(&key_of(row)?)
+        {
             row.label = format!(in alloc; "{} {address}", row.label)?;
         }
     }
