@@ -47,6 +47,7 @@ PROMISES = {
     "`top`": ["sqz_answers/TopRows"],
     "`top --by`": ["sqz_answers/GroupedRows"],
     "`diff`: alike": ["sqz_alike/Alike"],
+    "`diff`: the exit": ["sqz_look_cli/Comparison"],
     "`digest`": ["sqz_digest/Written"],
     "`mend`": ["sqz_mend/Recovery"],
     "`mend --nil`": ["sqz_repair/Repairs"],

@@ -9,12 +9,12 @@ import typing
 from bench import count_lines
 from bench.compare import positive
 from bench.evaluation.compaction import print_compaction
-from bench.evaluation.largest import print_largest
 from bench.evaluation.machine import print_machine
 from bench.evaluation.options import Options
 from bench.evaluation.questions import print_questions
 from bench.evaluation.real import print_real
 from bench.evaluation.stages import print_stages
+from bench.evaluation.testing import print_tests
 from tests.harness.squeak_image import find_image
 
 RUNS, SIZE = 9, 64
@@ -38,6 +38,12 @@ TABLES = {
     "lines": Table(
         "Lines, mutants and tests", "Blank lines and comments do not count.", print_lines
     ),
+    "tests": Table(
+        "Tests",
+        "What each module of `tests/` counts as passed and as skipped. `./check` runs them after "
+        "`rt ci`, which proves all crates, tries all mutants and runs the tests in Rattle.",
+        print_tests,
+    ),
     "stages": Table(
         "Time by stage",
         "Images of {mib} MiB. Each program makes three runs in one process. The number after a "
@@ -60,10 +66,10 @@ TABLES = {
     "questions": Table(
         "Questions",
         "A real image, and images of {mib} MiB. The object is the last one but nil to which the "
-        "special objects array points.",
+        "special objects array points. `diff` compares an image with itself. The first peak is the "
+        "highest of `show`, `why` and `refs`.",
         print_questions,
     ),
-    "largest": Table("The largest images", "Four workers.", print_largest),
 }
 # The width of the text over a table.
 WIDTH = 100

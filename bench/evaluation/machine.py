@@ -34,11 +34,6 @@ def bytes_of_memory(name):
     return KIB * int(value_in("/proc/meminfo", name).split()[0])
 
 
-def available_memory():
-    """The bytes of memory that are free or can be freed."""
-    return bytes_of_memory("MemAvailable")
-
-
 def commit():
     """The commit of this checkout, and whether its files are changed."""
     changed = ", changed" if printed_by("git", "status", "--porcelain") else ""

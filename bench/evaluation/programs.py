@@ -1,7 +1,6 @@
 """The programs that are compared, and what is missing on this machine."""
 
 import glob
-import shutil
 import typing
 
 from bench.stock_program import STOCK, build_stock, has_cargo
@@ -51,5 +50,3 @@ def missing_lines(image):
         yield "`squeak-vm` is not installed: the tables have no Squeak machine."
     if image is None:
         yield f"There is no real image: install `{PACKAGE}`, or set `{VARIABLE}` to a path."
-    if shutil.which("cc") is None:
-        yield "`cc` is not installed: there is no table of the largest images."

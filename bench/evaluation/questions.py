@@ -1,6 +1,7 @@
 """The table of questions: what `sqzlook` takes to answer about a real image and generated ones.
 
-They are about the last object but nil to which the special objects array points."""
+They are about the last object but nil to which the special objects array points. `diff` compares an
+image with itself."""
 
 import subprocess
 
@@ -37,10 +38,11 @@ def row_over(name, image, runs):
     address = object_of(image)
     tasks = {it: asking_task(it, image, address) for it in COMMANDS}
     tasks["top"] = asking_task("top", image)
-    *asked, top = in_turn(tasks, runs).values()
+    tasks["diff"] = asking_task("diff", image, image)
+    *asked, top, diff = in_turn(tasks, runs).values()
     most = max(asked, key=lambda it: it.peak)
-    seconds = map(seconds_of, (*asked, top))
-    return [name, *seconds, peak_of(most), peak_of(top), f"{top.peak / image.stat().st_size:.2f}"]
+    seconds = map(seconds_of, (*asked, top, diff))
+    return [name, *seconds, *map(peak_of, (most, top, diff))]
 
 
 def print_questions(options, _folder):
@@ -48,8 +50,8 @@ def print_questions(options, _folder):
     build("sqzlook")
     images = {"real image": options.image} if options.image else {}
     images.update({NAMES[part]: options.generated(part) for part in PARTS})
-    titles = [f"`{it}`" for it in (*COMMANDS, "top")]
+    titles = [f"`{it}`" for it in (*COMMANDS, "top", "diff")]
     print_table(
-        ["Seconds", *titles, "Peak in MiB", "of `top`", "of `top`, times IN"],
+        ["Seconds", *titles, "Peak in MiB", "of `top`", "of `diff`"],
         [row_over(name, image, options.runs) for name, image in images.items()],
     )

@@ -1,0 +1,24 @@
+"""The table of the tests: how many cases of each module of `tests/` pass."""
+
+import re
+import subprocess
+import sys
+
+from bench.evaluation.markdown import print_table
+from tests.harness.programs import ROOT
+
+# What `python3 -m tests` prints last of a module.
+MODULE = re.compile(r"^(test_\w+): (\d+) passed, 0 failed, (\d+) skipped, in \d+ seconds$", re.M)
+
+
+def print_tests(_options, _folder):
+    """Runs all modules but those by hand, and prints a row for each. Ends the script if a case
+    fails."""
+    words = [sys.executable, "-m", "tests"]
+    ended = subprocess.run(words, cwd=ROOT, stdout=subprocess.PIPE, text=True)
+    if ended.returncode != 0:
+        sys.exit(f"{ended.stdout}a test failed")
+    modules = MODULE.findall(ended.stdout)
+    sums = [str(sum(int(row[column]) for row in modules)) for column in (1, 2)]
+    rows = [[f"`{name}`", passed, skipped] for name, passed, skipped in modules]
+    print_table(["Module", "Passed", "Skipped"], [*rows, ["all", *sums]])
