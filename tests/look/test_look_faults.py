@@ -3,8 +3,8 @@
 `sqzlook` prints its answer whole or not at all, or if a write failed, a prefix. `check` prints the
 row of each image before it reads the next one. A run does without the memory that a thread's start
 requested. If other code made the request, the run ends with the fault, with one exception:
-`collect` reserves room for the words of the command line, and goes on without it. So does, once, the
-library that compiles regular expressions.
+`collect` reserves room for the words of the command line, and goes on without it. So does, once,
+the library that compiles regular expressions.
 """
 
 import collections

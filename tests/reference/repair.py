@@ -1,5 +1,5 @@
-"""Replaces the pointers of live objects that lead nowhere by nil, and frees live objects that cannot
-be traced."""
+"""Replaces the pointers of live objects that lead nowhere by nil, and frees live objects that
+cannot be traced."""
 
 from tests.reference.damage import header_of, mend_file
 from tests.reference.faults import Defects
