@@ -12,7 +12,7 @@ ghost use Rattle.sqz_answers.specs.GroupCounts.{count_at, has_more};
 
 use crate::group_keys::key_of;
 use sqz_facts::group_of;
-use sqz_histogram::Group;
+use sqz_histogram::{Group, ObjectClasses};
 use sqz_image::laws::heap_bounds;
 use sqz_object::ObjectIndex;
 use sqz_trace::ObjectGraph;
@@ -75,9 +75,10 @@ fn tallies_of(
 {
     heap_bounds(graph.heap); // fewer than 2^30 objects
     let count = graph.heap.len();
+    let classes = ObjectClasses::of(alloc, graph)?;
     let mut tallies = BTreeMap::new(alloc);
     for object in objects {
-        let key = key_of(count, group_of(graph, *object));
+        let key = key_of(count, group_of(&classes, *object));
         let before = tallies.get(&key).copied().unwrap_or(0);
         tallies.insert(key, before + 1)?;
     }

@@ -7,7 +7,7 @@ ghost use Rattle.sqz_histogram.specs.Keys.{key_of, key_count};
 ghost use Rattle.sqz_answers.specs.Together.{AreGroupKeys};
 
 use sqz_facts::group_of;
-use sqz_histogram::Group;
+use sqz_histogram::{Group, ObjectClasses};
 use sqz_image::laws::heap_bounds;
 use sqz_trace::ObjectGraph;
 use std::alloc::{AllocError, Global};
@@ -25,9 +25,10 @@ pub fn class_keys(alloc: Global, graph: ObjectGraph<'_>) -> Result<Vec<u32>, All
 {
     heap_bounds(graph.heap); // fewer than 2^30 objects
     let count = graph.heap.len();
+    let classes = ObjectClasses::of(alloc, graph)?;
     let mut keys = Vec::with_capacity(alloc, count as usize)?;
     for object in 0..count {
-        keys.push(key_of(count, group_of(graph, object)))?;
+        keys.push(key_of(count, group_of(&classes, object)))?;
     }
     Ok(keys)
 }

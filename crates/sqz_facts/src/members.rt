@@ -5,7 +5,7 @@ ghost use Rattle.sqz_image.specs.Objects.{object_count};
 ghost use Rattle.sqz_facts.specs.Members.{AreMembers};
 
 use crate::groups::group_of;
-use sqz_histogram::Group;
+use sqz_histogram::{Group, ObjectClasses};
 use sqz_object::ObjectIndex;
 use sqz_trace::{Marks, ObjectGraph};
 use std::alloc::{AllocError, Global};
@@ -32,9 +32,10 @@ pub fn members_of(
     ensures { IfOk result (λ members. AreMembers graph.entry.heap.now graph.entry.weak
         marks.now group members.items) }
 {
+    let classes = ObjectClasses::of(alloc, graph)?;
     let mut members = Vec::new(alloc);
     for object in 0..graph.heap.len() {
-        if marks.has(object) && group_of(graph, object) == group {
+        if marks.has(object) && group_of(&classes, object) == group {
             let words = graph.heap.chunk_length(object);
             members.push(Member { object, words })?;
         }

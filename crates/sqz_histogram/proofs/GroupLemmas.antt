@@ -1,8 +1,9 @@
 -- Groups, their keys, and the objects that they have.
--- Serves `HistogramLemmas`, `SumLemmas` and `TallyLemmas`; `CensusLemmas` of `sqz_census`.
+-- Serves `ObjectClasses::class_of`, `HistogramLemmas`, `SumLemmas` and `TallyLemmas`; `CensusLemmas` of
+-- `sqz_census`.
 use Rattle.std.proofs.Common.{◌≡◌, ℕ, zero, suc, ◌+◌, ◌-◌, ◌<◌, ◌≤◌, Bool, true, false, List, [], ◌∷◌}
 use Rattle.std.proofs.Common.{filter, length, get_or, Option, Some, None, refl, sym, ap, subst, ◌∙◌, arith, inl, inr}
-use Rattle.std.specs.Prelude.{option_and_then}
+use Rattle.std.specs.Prelude.{IfSome, option_and_then}
 use Rattle.std.proofs.lemmas.Bool.{cases_lt, cases_Bool, lt-ltb, le-ltb, eq-eqb, ne_eqb, eqb-true}
 use Rattle.sqz_object.specs.declared.chunk.Kind.{Kind}
 use Rattle.sqz_object.specs.declared.chunk.Kind.TheVariants.{Three, Two, Free, Short}
@@ -53,6 +54,12 @@ module _ (memory : Memory) (weak : Weak) where
   -- the class of an object is one
   pub class_of-lt : (chunk : List ℕ) (class : ℕ) → class_of memory weak chunk ≡ Some class → class < object_count memory
   class_of-lt chunk class e = class_by-lt chunk (chunk_kind chunk) class e
+
+  -- the same of what a look-up gave
+  pub class_of-inside : (chunk : List ℕ) (found : Option ℕ) → found ≡ class_of memory weak chunk
+      → IfSome found (λ class. class < object_count memory)
+  class_of-inside chunk None is = tt
+  class_of-inside chunk (Some class) is = class_of-lt chunk class (sym is)
 
 -- ---- groups and keys
 

@@ -1,5 +1,5 @@
 -- Which objects are classes, and which of them have a name of their own.
--- Serves `names::classes_in` and `labels::Names::class_label`.
+-- Serves `classes::classes_in` and `labels::Names::class_label`.
 use Rattle.std.proofs.Common.{◌≡◌, ℕ, zero, suc, Bool, true, false, List, Option, Some, None, set, length}
 use Rattle.std.proofs.Common.{refl, sym, ap, subst, ◌∙◌, inl, inr, true≢false}
 use Rattle.std.proofs.Math.Logic.{∥∥₁_map}

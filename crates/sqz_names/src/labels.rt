@@ -7,9 +7,10 @@ ghost use Rattle.sqz_names.specs.Labels.{IsInside, IsLabel};
 
 use crate::bytes::is_bytes;
 use crate::class_names::class_name_of;
+use crate::classes::has_own_name;
 use crate::known::Known;
 use crate::label::Label;
-use crate::names::{Names, has_own_name};
+use crate::names::Names;
 use crate::targets::field_target;
 use sqz_histogram::known_class_name;
 use sqz_object::ObjectIndex;

@@ -5,6 +5,7 @@
 
 mod bytes;
 mod class_names;
+mod classes;
 mod escape;
 pub mod fields;
 pub mod formats;

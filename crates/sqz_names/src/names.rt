@@ -4,19 +4,16 @@ ghost use Rattle.std.specs.Prelude.{◌≡◌, ◌<◌, length, All, IfOk, IsTru
 ghost use Rattle.std.proofs.Props.{props};
 ghost use Rattle.sqz_image.specs.Objects.{object_count};
 ghost use Rattle.sqz_trace.specs.Graph.{is_marked};
-ghost use Rattle.sqz_names.specs.Structures.{has_own_name, AreClasses, IsClass};
+ghost use Rattle.sqz_names.specs.Structures.{AreClasses, IsClass};
 ghost use Rattle.sqz_names.specs.Names.{AreOfClasses, IsMethodName, IsVariableName};
 
-use crate::bytes::is_bytes;
 use crate::class_names::{name_of_class, name_of_class_of};
-use crate::fields::{INSTANCE, NAME};
+use crate::classes::classes_in;
 use crate::method_name::MethodName;
 use crate::methods::MethodsFound;
 use crate::object_set::ObjectSet;
-use crate::targets::field_target;
 use crate::variable_name::VariableName;
 use crate::variables::VariablesFound;
-use sqz_image::Heap;
 use sqz_object::ObjectIndex;
 use sqz_trace::{Live, Marks, ObjectGraph};
 use std::alloc::{AllocError, Global};
@@ -114,39 +111,5 @@ impl<'a> Names<'a> {
         requires { class < object_count self.now.graph.heap.now }
     {
         name_of_class(self.alloc, self.graph, class)
-    }
-}
-
-/// Returns the classes of an image.
-fn classes_in(alloc: Global, live: &Live<'_>) -> Result<ObjectSet, AllocError>
-    ensures sized { IfOk result (λ classes. length classes ≡ object_count live.now.graph.heap.now) }
-    ensures classes { IfOk result (λ classes.
-        AreClasses live.now.graph.heap.now live.now.graph.weak classes) }
-{
-    let graph = live.graph;
-    let mut classes = ObjectSet::empty(alloc, graph.heap)?;
-    for object in 0..graph.heap.len() {
-        let Some(class) = graph.class_of(object) else {
-            continue;
-        };
-        if live.marks.has(object) {
-            classes.insert(class);
-        }
-        let is_instance = field_target(graph.heap, class, INSTANCE) == Some(object);
-        if is_instance && has_own_name(graph.heap, object) {
-            classes.insert(object);
-        }
-    }
-    Ok(classes)
-}
-
-/// Returns whether an object has a name of its own: whether its name field points to a byte object.
-pub(crate) fn has_own_name(heap: &Heap, object: ObjectIndex) -> bool
-    requires { object < object_count heap.now }
-    ensures { result ≡ has_own_name heap.now object }
-{
-    match field_target(heap, object, NAME) {
-        Some(name) => is_bytes(heap, name),
-        None => false,
     }
 }

@@ -11,7 +11,8 @@ use Rattle.sqz_answers.proofs.group_counts.tallies_of.Goals as goal
 
 pub key_of-key-requires-clause-inside : goal.key_of-key-requires-clause-inside
 key_of-key-requires-clause-inside c =
-    rw (c.len-count.ensures.objects, c.group_of.ensures)
+    let its_group = rw c.in_ok-classes.ensures at c.group_of.ensures in
+    rw (c.len-count.ensures.objects, its_group)
     (group_of-inside c.args.graph.heap.now c.args.graph.weak (chunk_words c.args.graph.heap.now _))
 
 pub loop-object-preserved : goal.loop-object-preserved
@@ -23,9 +24,10 @@ loop-object-preserved c =
     let old = c.loop-object.tallies in
     let key = c.key_of-key.result in
     let before = c.unwrap_or-before.result in
+    let its_group = rw c.in_ok-classes.ensures at c.group_of.ensures in
     let is_key : key ≡ key_at memory weak (get_or objects i 0) =
     c.key_of-key.ensures ∙ ap (λ (count : ℕ). key_of count c.group_of.result) c.len-count.ensures.objects
-    ∙ ap (key_of (object_count memory)) c.group_of.ensures in
+    ∙ ap (key_of (object_count memory)) its_group in
     let is_before : before ≡ unwrap_or (tree.get nat_cmp old key) 0 =
     c.unwrap_or-before.ensures ∙ ap (λ (number : Option ℕ). unwrap_or number 0) (c.copied.ensures ∙ c.get.ensures.value) in
     let total = sum-raised old c.insert.new.self key before c.in_ok-insert.ensures.was_ordered is_before c.in_ok-insert.ensures.entries in

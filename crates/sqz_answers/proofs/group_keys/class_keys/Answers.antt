@@ -10,7 +10,8 @@ use Rattle.sqz_answers.proofs.group_keys.class_keys.Goals as goal
 
 pub key_of-requires-clause-inside : goal.key_of-requires-clause-inside
 key_of-requires-clause-inside c =
-    rw (c.len-count.ensures.objects, c.group_of.ensures)
+    let its_group = rw c.in_ok-classes.ensures at c.group_of.ensures in
+    rw (c.len-count.ensures.objects, its_group)
     (group_of-inside c.args.graph.heap.now c.args.graph.weak (chunk_words c.args.graph.heap.now c.loop-object.object))
 
 pub loop-object-preserved : goal.loop-object-preserved
@@ -22,8 +23,9 @@ loop-object-preserved c =
     let key = c.key_of.result in
     let group = group_of memory c.args.graph.weak (chunk_words memory c.loop-object.object) in
     let long = length_push keys key in
+    let its_group = rw c.in_ok-classes.ensures at c.group_of.ensures in
     let is : c.key_of.result ≡ key_of (object_count c.args.graph.heap.now) (group_of c.args.graph.heap.now c.args.graph.weak (chunk_words c.args.graph.heap.now c.loop-object.object)) =
-    rw (sym c.len-count.ensures.objects, sym c.group_of.ensures) c.key_of.ensures
+    rw (sym c.len-count.ensures.objects, sym its_group) c.key_of.ensures
     in
     let low = key_of-lt count group (group_of-inside memory c.args.graph.weak (chunk_words memory c.loop-object.object)) in
     rw c.in_ok-push.ensures.items

@@ -19,9 +19,10 @@ loop-object-preserved c =
     elim c.if-has.branch [
       | then-has+then-eq+in_ok-push w ↦
           let same : w.group_of.result ≡ c.args.group = search rules in
+          let its_group = rw c.in_ok-classes.ensures at w.group_of.ensures in
           rw (w.members-is, w.in_ok-push.ensures.items)
           (AreMembersBelow-more_yes memory weak marks group object members so_far
-          (record { inside = lt; marked = sym c.has.ensures ∙ w.if-has.true; of_group = sym w.group_of.ensures ∙ same })
+          (record { inside = lt; marked = sym c.has.ensures ∙ w.if-has.true; of_group = sym its_group ∙ same })
           _ w.chunk_length-words.ensures.length)
       | else-has w ↦
           rw w.members-is
@@ -30,7 +31,8 @@ loop-object-preserved c =
           elim w.else-has.branch [
             | else-has-via-then-has+else-eq v ↦
                 let differ : v.group_of.result ≡ c.args.group → ⊥ = search rules in
-                differ (v.group_of.ensures ∙ is.of_group)
+                let its_group = rw c.in_ok-classes.ensures at v.group_of.ensures in
+                differ (its_group ∙ is.of_group)
             | else-has-via-else-has v ↦ true≢false (sym is.marked ∙ sym c.has.ensures ∙ v.if-has.false)
           ]))
     ]
