@@ -7,10 +7,10 @@ ghost use Rattle.sqz_paths.specs.Paths.{IsUnreachable};
 ghost use Rattle.sqz_answers.specs.Why.{IsHoldingPath, why_steps};
 
 use crate::weakness::is_weak_slot;
-use sqz_dominators::{Dominators, dominators_of};
+use sqz_dominators::{Dominators, Search, dominators_from};
 use sqz_image::{Heap, Slot};
 use sqz_object::ObjectIndex;
-use sqz_paths::{Step, path_to};
+use sqz_paths::{Step, path_in};
 use sqz_trace::{ObjectGraph, Weak, reachable};
 use std::alloc::{AllocError, Global};
 
@@ -54,12 +54,13 @@ pub fn why_kept(
     ensures inside { IfOk result (λ found. IfSome found (λ path. All (λ step.
         step.object < object_count graph.entry.heap.now) path.steps.items)) }
 {
-    let Some(path) = path_to(alloc, graph, object)? else {
+    let search = Search::whole(alloc, graph)?;
+    let Some(path) = path_in(alloc, &search, object)? else {
         return Ok(None);
     };
     let heap = graph.heap;
     let special = heap.special();
-    let dominators = dominators_of(alloc, graph)?;
+    let dominators = dominators_from(alloc, search)?;
     let is_held = is_strongly_held(alloc, graph, object)?;
     Ok(Some(HoldingPath {
         live_bytes: dominators.retained(special).bytes,

@@ -33,7 +33,7 @@ pub struct Path {
 /// points to the next one; the class word comes before the fields.
 ///
 /// A breadth-first search finds all objects. It takes time linear in the words of the heap, and
-/// twelve bytes per object. Fails only if out of memory.
+/// twelve bytes per object and eight per edge. Fails only if out of memory.
 pub fn path_to(
     alloc: Global,
     graph: ObjectGraph<'_>,
@@ -45,8 +45,23 @@ pub fn path_to(
         (IsUnreachable graph.entry.heap.now graph.entry.weak object)) }
 {
     let search = Search::whole(alloc, graph)?;
+    path_in(alloc, &search, object)
+}
+
+/// Returns the path that a search has found to the object with this index, as `path_to` does.
+pub fn path_in(
+    alloc: Global,
+    search: &Search<'_>,
+    object: ObjectIndex,
+) -> Result<Option<Path>, AllocError>
+    requires { IsWhole search.now }
+    ensures path { IfOk result (λ found. IfSome found (λ path.
+        IsShortestPath search.now.graph.heap.now search.now.graph.weak object path.steps.items)) }
+    ensures none { IfOk result (λ found. IfNone found
+        (IsUnreachable search.now.graph.heap.now search.now.graph.weak object)) }
+{
     match search.place(object) {
-        Some(place) => Ok(Some(path_back(alloc, &search, place)?)),
+        Some(place) => Ok(Some(path_back(alloc, search, place)?)),
         None => Ok(None),
     }
 }
