@@ -42,15 +42,28 @@ pub fn print_diff<C: Sink>(
         Alikeness::Alike => Differences::none(old, new)?,
         Alikeness::Differ(_) => Differences::between(rt, old, new)?,
     };
+    print_differences(new, &differences, out)?;
+    print_alikeness(old, new, alikeness, differences.is_empty(), out)?;
+    Ok(alikeness == Alikeness::Alike)
+}
+
+/// Prints what differs, each kind under a heading.
+fn print_differences<C: Sink>(
+    new: &Inspector<'_>,
+    differences: &Differences,
+    out: &mut Out<'_, C>,
+) -> Result<(), PrintError>
+    requires { All (λ holder. holder.object < object_count new.now.live.graph.heap.now)
+        differences.now.holders.items }
+{
+    let alloc = new.alloc;
     out.emit(&TotalView::of(differences.old, differences.new))?;
     print_classes(alloc, &differences.classes, out)?;
     print_variables(alloc, &differences.variables, out)?;
     print_values(alloc, &differences.variables.values, out)?;
     print_definitions(alloc, &differences.definitions, out)?;
     print_methods(alloc, &differences.methods, out)?;
-    print_holders(new, &differences.holders, out)?;
-    print_alikeness(old, new, alikeness, differences.is_empty(), out)?;
-    Ok(alikeness == Alikeness::Alike)
+    print_holders(new, &differences.holders, out)
 }
 
 /// Prints that the images are alike; or the first objects that differ, if nothing by name does.

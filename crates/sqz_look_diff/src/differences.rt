@@ -32,6 +32,53 @@ pub(crate) struct Differences {
     pub(crate) holders: Vec<Holder>,
 }
 
+/// What differs in what objects retain.
+#[derive(Drop)]
+struct RetainedChanges {
+    variables: VariableChanges,
+    holders: Vec<Holder>,
+}
+
+impl RetainedChanges {
+    /// Returns what differs between two images in what objects retain.
+    fn between(
+        old: &Inspector<'_>,
+        new: &Inspector<'_>,
+        names: &mut ReadNames,
+    ) -> Result<Self, AllocError>
+        ensures { IfOk result (λ found. All (λ holder.
+            holder.object < object_count new.now.live.graph.heap.now) found.holders.items) }
+    {
+        let matched = Matched::between(old, new, names)?;
+        let variables = variable_changes(old, new, &matched, names)?;
+        let holders = holders_in(new, &matched)?;
+        Ok(RetainedChanges { variables, holders })
+    }
+}
+
+/// What differs in classes and methods.
+#[derive(Drop)]
+struct CodeChanges {
+    definitions: DefinitionChanges,
+    methods: MethodChanges,
+}
+
+impl CodeChanges {
+    /// Returns what differs between two images in classes and methods.
+    fn between(
+        old: &Inspector<'_>,
+        new: &Inspector<'_>,
+        names: &mut ReadNames,
+    ) -> Result<Self, AllocError> {
+        let definitions = definition_changes(old, new, names)?;
+        let methods = method_changes(old, new, names)?;
+        Ok(CodeChanges {
+            definitions,
+            methods,
+        })
+    }
+}
+
 impl Differences {
     /// Returns what differs between two images that are alike: nothing.
     pub(crate) fn none(old: &Inspector<'_>, new: &Inspector<'_>) -> Result<Self, AllocError>
@@ -60,15 +107,17 @@ impl Differences {
             holder.object < object_count new.now.live.graph.heap.now) found.holders.items) }
     {
         let mut names = ReadNames::new(old.alloc);
-        let matched = Matched::between(old, new, &mut names)?;
+        let retained = RetainedChanges::between(old, new, &mut names)?;
+        let code = CodeChanges::between(old, new, &mut names)?;
+        let classes = class_changes(rt, old, new, &mut names)?;
         Ok(Differences {
             old: size_of(old),
             new: size_of(new),
-            classes: class_changes(rt, old, new, &mut names)?,
-            variables: variable_changes(old, new, &matched, &mut names)?,
-            definitions: definition_changes(old, new, &mut names)?,
-            methods: method_changes(old, new, &mut names)?,
-            holders: holders_in(new, &matched)?,
+            classes,
+            variables: retained.variables,
+            definitions: code.definitions,
+            methods: code.methods,
+            holders: retained.holders,
         })
     }
 

@@ -1,12 +1,12 @@
 //! The partners of the objects of two images, and what the objects retain.
 
 ghost use Rattle.std.specs.Prelude.{IfOk};
-ghost use Rattle.sqz_look_diff.specs.Matched.{AreMatched};
+ghost use Rattle.sqz_look_diff.specs.Matched.{AreMatched, ArePartners, AreSharesOfNew};
 
 use crate::kinds::kinds_of;
 use crate::named_objects::named_pairs;
 use crate::read_names::ReadNames;
-use sqz_alike::{Matching, Sides, partners_of};
+use sqz_alike::{Matching, Pair, Sides, partners_of};
 use sqz_dominators::{Dominators, SharedDominators, dominators_of, dominators_with};
 use sqz_look_view::Inspector;
 use sqz_match::mark_new;
@@ -31,20 +31,37 @@ impl Matched {
     ) -> Result<Self, AllocError>
         ensures { IfOk result (AreMatched old.now.live new.now.live) }
     {
-        let alloc = old.alloc;
-        let old_kinds = kinds_of(old, &mut names.texts.whole, &mut names.old.whole)?;
-        let new_kinds = kinds_of(new, &mut names.texts.whole, &mut names.new.whole)?;
-        let named = named_pairs(old, new, names)?;
-        let sides = Sides {
-            old: &old.live,
-            new: &new.live,
-            old_kinds: &old_kinds,
-            new_kinds: &new_kinds,
-        };
-        let partners = partners_of(alloc, &sides, &named)?;
-        let marks = mark_new(alloc, &new.live, &partners.pairs)?;
-        let old = dominators_of(alloc, old.live.graph)?;
-        let new = dominators_with(alloc, new.live.graph, &marks)?;
+        let partners = partners_between(old, new, names)?;
+        let new = shares_of_new(new, &partners.pairs)?;
+        let old = dominators_of(old.alloc, old.live.graph)?;
         Ok(Matched { partners, old, new })
     }
+}
+
+/// Returns the partners of the objects of two images.
+fn partners_between(
+    old: &Inspector<'_>,
+    new: &Inspector<'_>,
+    names: &mut ReadNames,
+) -> Result<Matching, AllocError>
+    ensures { IfOk result (λ found. ArePartners old.now.live new.now.live found.pairs.items) }
+{
+    let old_kinds = kinds_of(old, &mut names.texts.whole, &mut names.old.whole)?;
+    let new_kinds = kinds_of(new, &mut names.texts.whole, &mut names.new.whole)?;
+    let named = named_pairs(old, new, names)?;
+    let sides = Sides {
+        old: &old.live,
+        new: &new.live,
+        old_kinds: &old_kinds,
+        new_kinds: &new_kinds,
+    };
+    partners_of(old.alloc, &sides, &named)
+}
+
+/// Returns the dominators of the new image, and what they retain of its objects without partners.
+fn shares_of_new(new: &Inspector<'_>, pairs: &[Pair]) -> Result<SharedDominators, AllocError>
+    ensures { IfOk result (AreSharesOfNew new.now.live pairs.now) }
+{
+    let marks = mark_new(new.alloc, &new.live, pairs)?;
+    dominators_with(new.alloc, new.live.graph, &marks)
 }

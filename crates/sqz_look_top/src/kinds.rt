@@ -29,6 +29,54 @@ const CATEGORIES: [(&str, Kind); 8] = [
     ("System-Compiler", Kind::Code),
 ];
 
+/// The names of classes, and the kinds of their instances.
+const CLASSES: [(&str, Kind); 44] = [
+    ("Association", Kind::Class),
+    ("ReadOnlyVariableBinding", Kind::Class),
+    ("Array", Kind::Collection),
+    ("Bag", Kind::Collection),
+    ("Dictionary", Kind::Collection),
+    ("IdentityDictionary", Kind::Collection),
+    ("IdentitySet", Kind::Collection),
+    ("Interval", Kind::Collection),
+    ("LinkedList", Kind::Collection),
+    ("MethodDictionary", Kind::Collection),
+    ("OrderedCollection", Kind::Collection),
+    ("Set", Kind::Collection),
+    ("SortedCollection", Kind::Collection),
+    ("SystemDictionary", Kind::Collection),
+    ("WeakArray", Kind::Collection),
+    ("WeakKeyDictionary", Kind::Collection),
+    ("WeakSet", Kind::Collection),
+    ("WeakValueDictionary", Kind::Collection),
+    ("ByteString", Kind::Text),
+    ("ByteSymbol", Kind::Text),
+    ("String", Kind::Text),
+    ("Symbol", Kind::Text),
+    ("Text", Kind::Text),
+    ("UTF8", Kind::Text),
+    ("UTF32", Kind::Text),
+    ("WideString", Kind::Text),
+    ("BlockClosure", Kind::Code),
+    ("BlockContext", Kind::Code),
+    ("CompiledMethod", Kind::Code),
+    ("MethodContext", Kind::Code),
+    ("Process", Kind::Code),
+    ("Bitmap", Kind::Media),
+    ("ByteArray", Kind::Media),
+    ("ColorForm", Kind::Media),
+    ("Cursor", Kind::Media),
+    ("CursorWithMask", Kind::Media),
+    ("DisplayScreen", Kind::Media),
+    ("FMSound", Kind::Media),
+    ("Form", Kind::Media),
+    ("LoopedSampledSound", Kind::Media),
+    ("SampledSound", Kind::Media),
+    ("SoundBuffer", Kind::Media),
+    ("StrikeFont", Kind::Media),
+    ("WordArray", Kind::Media),
+];
+
 /// What the objects of a row are.
 #[derive(Clone, Copy, Debug, PartialEq, Eq)]
 pub(crate) enum Kind {
@@ -103,49 +151,11 @@ impl Kind {
 
     /// Returns the kind of the instances of a class that is no metaclass.
     fn of_class(name: &str) -> Kind {
-        match name {
-            "Association" | "ReadOnlyVariableBinding" => Kind::Class,
-            "Array"
-            | "Bag"
-            | "Dictionary"
-            | "IdentityDictionary"
-            | "IdentitySet"
-            | "Interval"
-            | "LinkedList"
-            | "MethodDictionary"
-            | "OrderedCollection"
-            | "Set"
-            | "SortedCollection"
-            | "SystemDictionary"
-            | "WeakArray"
-            | "WeakKeyDictionary"
-            | "WeakSet"
-            | "WeakValueDictionary" => Kind::Collection,
-            "ByteString"
-            | "ByteSymbol"
-            | "String"
-            | "Symbol"
-            | "Text"
-            | "UTF8"
-            | "UTF32"
-            | "WideString" => Kind::Text,
-            "BlockClosure" | "BlockContext" | "CompiledMethod" | "MethodContext" | "Process" => {
-                Kind::Code
+        for (class, kind) in CLASSES {
+            if name == class {
+                return kind;
             }
-            "Bitmap"
-            | "ByteArray"
-            | "ColorForm"
-            | "Cursor"
-            | "CursorWithMask"
-            | "DisplayScreen"
-            | "FMSound"
-            | "Form"
-            | "LoopedSampledSound"
-            | "SampledSound"
-            | "SoundBuffer"
-            | "StrikeFont"
-            | "WordArray" => Kind::Media,
-            _ => Kind::Other,
         }
+        Kind::Other
     }
 }

@@ -1,4 +1,4 @@
-use Rattle.std.proofs.Common.{◌≡◌, ◌∙◌, ℕ, Some, sym}
+use Rattle.std.proofs.Common.{◌≡◌, ◌∙◌, sym}
 use Rattle.std.proofs.lemmas.List.{length-replicate, length-set}
 use Rattle.sqz_image.specs.Objects.{chunk_words, object_count}
 use Rattle.sqz_trace.specs.Strong.{class_of}
