@@ -1,5 +1,5 @@
 -- Steps along slots, the paths that they are, and how a search leads back to its first object.
--- Serves `path::path_to`, `path::path_back` and `slots_between::slot_between`.
+-- Serves `path::path_in`, `path::path_back` and `slots_between::slot_between`.
 use Rattle.std.proofs.Common.{◌≡◌, ℕ, zero, suc, ◌+◌, ◌<◌, eqb, List, [], ◌∷◌, Option, Some, None, true, false, true≢false, length}
 use Rattle.std.proofs.Common.{get_or, sym, ap, subst, ◌∙◌, arith}
 use Rattle.std.specs.Prelude.{slice_index, slice_index_or, All}

@@ -4,4 +4,4 @@
 mod path;
 mod slots_between;
 
-pub use path::{Path, Step, path_in, path_to};
+pub use path::{Path, Step, path_in};

@@ -8,7 +8,6 @@ use crate::slots_between::slot_between;
 use sqz_dominators::Search;
 use sqz_image::Slot;
 use sqz_object::ObjectIndex;
-use sqz_trace::ObjectGraph;
 use std::alloc::{AllocError, Global};
 
 /// A step of a path: from the object before, along one of its strong slots, to the object that the
@@ -32,23 +31,8 @@ pub struct Path {
 /// this index, or None if no path leads to it. A step goes along the first slot of its object that
 /// points to the next one; the class word comes before the fields.
 ///
-/// A breadth-first search finds all objects. It takes time linear in the words of the heap, and
-/// twelve bytes per object and eight per edge. Fails only if out of memory.
-pub fn path_to(
-    alloc: Global,
-    graph: ObjectGraph<'_>,
-    object: ObjectIndex,
-) -> Result<Option<Path>, AllocError>
-    ensures path { IfOk result (λ found. IfSome found (λ path.
-        IsShortestPath graph.entry.heap.now graph.entry.weak object path.steps.items)) }
-    ensures none { IfOk result (λ found. IfNone found
-        (IsUnreachable graph.entry.heap.now graph.entry.weak object)) }
-{
-    let search = Search::whole(alloc, graph)?;
-    path_in(alloc, &search, object)
-}
-
-/// Returns the path that a search has found to the object with this index, as `path_to` does.
+/// The path is read back from a search that has found all objects. Time is linear in the words of
+/// the objects on the path. Fails only if out of memory.
 pub fn path_in(
     alloc: Global,
     search: &Search<'_>,
