@@ -7,11 +7,11 @@ ghost use Rattle.sqz_trace.specs.Edges.{out_edges, edges_by_word, strong_slots, 
 use crate::classes::class_named;
 use crate::edge_slots::StrongSlots;
 use crate::fixed::{fixed_of, is_weak};
-use crate::slots::{class_address, named_by, traced_fields};
+use crate::slots::{named_among, traced_fields};
 use crate::strong_slots::strong_fields;
 use crate::weak::Weak;
 use sqz_image::{Heap, Object, Slot};
-use sqz_object::{ObjectIndex, Words};
+use sqz_object::ObjectIndex;
 use std::marker::Model;
 
 /// The outgoing edges of an object: its strong slots, and the objects that they point to. The
@@ -20,14 +20,12 @@ use std::marker::Model;
 pub struct OutEdges<'a> {
     heap: &'a Heap,
     object: Object<'a>,
-    /// The words after its base header.
-    after_header: Words<'a>,
     /// The number of its strong fields.
     strong: u32,
 }
 
 impl<'a> Model for OutEdges<'a> {
-    ghost use Rattle.std.specs.Prelude.{◌≡◌, ◌≤◌, length};
+    ghost use Rattle.std.specs.Prelude.{◌≤◌, length};
     ghost use Rattle.sqz_object.specs.Chunk.{fields};
     ghost use Rattle.sqz_trace.specs.Edges.{OutEdges};
 
@@ -40,8 +38,7 @@ impl<'a> Model for OutEdges<'a> {
           edges.strong;
     } };
 
-    ghost invariant = { λ edges.
-        (edges.after_header ≡ fields edges.object) × (edges.strong ≤ length edges.after_header) };
+    ghost invariant = { λ edges. edges.strong ≤ length (fields edges.object) };
 }
 
 impl<'a> OutEdges<'a> {
@@ -52,11 +49,9 @@ impl<'a> OutEdges<'a> {
     {
         let object = heap.object(index);
         let strong = strong_fields(heap, weak, &object);
-        let after_header = object.fields();
         OutEdges {
             heap,
             object,
-            after_header,
             strong,
         }
     }
@@ -73,11 +68,9 @@ impl<'a> OutEdges<'a> {
         } else {
             traced_fields(&object)
         };
-        let after_header = object.fields();
         OutEdges {
             heap,
             object,
-            after_header,
             strong,
         }
     }
@@ -102,12 +95,7 @@ impl<'a> OutEdges<'a> {
         ensures target { result ≡ edge_target self.now slot }
         ensures inside { IfSome result (λ found. found < object_count self.now.memory) }
     {
-        let word = match slot {
-            Slot::ClassWord => class_address(&self.object)?,
-            Slot::Field(index) if index < self.strong => self.after_header.at(index as usize),
-            Slot::Field(_) => return None,
-        };
-        named_by(self.heap, word)
+        named_among(self.heap, &self.object, self.strong, slot)
     }
 }
 

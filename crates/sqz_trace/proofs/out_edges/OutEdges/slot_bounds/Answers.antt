@@ -15,8 +15,7 @@ returns c =
       arith,
       sym slots,
       length-field_slots 0 c.self.inside.strong,
-      c.self.invariant.1,
-      ap length c.self.invariant.0,
+      c.self.invariant,
       ap length c.fields-fields.ensures.fields,
       c.fields-fields.ensures.few,
     )
