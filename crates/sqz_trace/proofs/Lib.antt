@@ -18,5 +18,6 @@ pub mod GreyingLemmas
 pub mod LawLemmas
 pub mod ShapeLemmas
 pub mod SoundLemmas
+pub mod SoundMarkingLemmas
 pub mod CopyLemmas
 pub mod CopiedEdgeLemmas

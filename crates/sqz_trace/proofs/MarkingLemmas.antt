@@ -145,7 +145,7 @@ pub record IsMarking (graph : Graph) (marks : List Bool) (worklist : List ℕ) :
 
 module _ (graph : Graph) (lt : graph.start < graph.count) where
   -- only the start is marked
-  abbrev first_marks : List Bool
+  abbrev pub first_marks : List Bool
   first_marks = set (replicate graph.count false) graph.start true
 
   start_marked : is_marked first_marks graph.start ≡ true
@@ -159,6 +159,11 @@ module _ (graph : Graph) (lt : graph.start < graph.count) where
         | inr before ↦ absurd (none_marked graph.count index before)
       ]
 
+  -- it is on the worklist
+  pub start_there : (index : ℕ) → is_marked first_marks index ≡ true → Contains (graph.start ∷ []) index
+  start_there index marked =
+      subst (Contains (graph.start ∷ [])) (start_only index marked) (Contains-push [] graph.start)
+
   -- at first only the start is marked, and on the worklist
   pub IsMarking-start : IsMarking graph first_marks (graph.start ∷ [])
   IsMarking-start =
@@ -170,8 +175,7 @@ module _ (graph : Graph) (lt : graph.start < graph.count) where
           | inl none ↦ absurd (omega (arith, none.1))
           | inr same ↦ subst (λ (i : ℕ). is_marked first_marks i ≡ true) same start_marked
         ];
-        closed = λ index marked.
-            inl (subst (Contains (graph.start ∷ [])) (start_only index marked) (Contains-push [] graph.start));
+        closed = λ index marked. inl (start_there index marked);
       }
 
 -- then an object is taken from the worklist, and its targets are marked

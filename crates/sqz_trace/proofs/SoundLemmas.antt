@@ -182,7 +182,25 @@ module _ {X Y : Type 0} (f : X → Option Y) (default : X) where
       rw (none 0 (omega arith)) (first_some-none marks xs (λ index lt. none (suc index) (omega arith)))
   first_some-none (false ∷ marks) (x ∷ xs) none = first_some-none marks xs (λ index lt. none (suc index) (omega arith))
 
+  -- and where there is none of each marked element
+  first_some-marked : (marks : List Bool) (xs : List X) → length marks ≡ length xs
+      → ((index : ℕ) → is_marked marks index ≡ true → f (slice_index_or xs index default) ≡ None)
+      → first_some (map f (marked marks xs)) ≡ None
+  first_some-marked [] [] same none = refl
+  first_some-marked [] (x ∷ xs) same none = absurd (omega arith)
+  first_some-marked (mark ∷ marks) [] same none = absurd (omega arith)
+  first_some-marked (true ∷ marks) (x ∷ xs) same none =
+      rw (none 0 refl) (first_some-marked marks xs (omega arith) (λ index marked. none (suc index) marked))
+  first_some-marked (false ∷ marks) (x ∷ xs) same none =
+      first_some-marked marks xs (omega arith) (λ index marked. none (suc index) marked)
+
 module _ (memory : Memory) (weak : Weak) (marks : List Bool) (sized : length marks ≡ object_count memory) where
+  -- where no marked object has a defect, there is no first one
+  pub first_defect-marked : ((index : ℕ) → is_marked marks index ≡ true → defect memory weak (object_at memory index) ≡ None)
+      → first_defect memory weak marks ≡ None
+  first_defect-marked none =
+      first_some-marked (defect memory weak) record { first = 0; chunk = [] } marks (objects memory) sized none
+
   -- where no marked object has a defect, a marked one has none
   pub defect-sound : first_defect memory weak marks ≡ None → (index : ℕ) → is_marked marks index ≡ true
       → defect memory weak (object_at memory index) ≡ None

@@ -74,16 +74,20 @@ field_slots-has first (suc count) (suc k) lt =
     let same : suc first + k ≡ first + suc k = omega arith in
     subst (λ (i : ℕ). Contains (field_slots first (suc count)) (Field i)) same (suc rest.0, omega (arith, rest.1), rest.2)
 
+-- the strong fields are among the strong slots
+pub strong_slots-field : (edges : OutEdges) (field : ℕ) → field < edges.strong → Contains (strong_slots edges) (Field field)
+strong_slots-field edges field lt =
+    let found = field_slots-has 0 edges.strong field lt in
+    let same : 0 + field ≡ field = omega arith in
+    let there = subst (λ (i : ℕ). Contains (field_slots 0 edges.strong) (Field i)) same found in
+    (suc there.0, omega (arith, there.1), there.2)
+
 -- a slot that points to an object is one of the strong slots
 pub strong_slots-has : (edges : OutEdges) (slot : Slot) (index : ℕ) → edge_target edges slot ≡ Some index
     → Contains (strong_slots edges) slot
 strong_slots-has edges ClassWord index names = (0, omega arith, refl)
 strong_slots-has edges (Field k) index names =
-    let inside = (named_among-cases edges.memory edges.words edges.strong k index names).0 in
-    let found = field_slots-has 0 edges.strong k inside in
-    let same : 0 + k ≡ k = omega arith in
-    let there = subst (λ (i : ℕ). Contains (field_slots 0 edges.strong) (Field i)) same found in
-    (suc there.0, omega (arith, there.1), there.2)
+    strong_slots-field edges k (named_among-cases edges.memory edges.words edges.strong k index names).0
 
 -- a loop over slots that ends has gone over all of them
 pub slots_at_end : (all begin : List Slot) → begin ≡ all → (yielded left : List Slot)

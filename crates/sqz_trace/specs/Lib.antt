@@ -11,6 +11,7 @@ pub mod Live
 pub mod Dead
 pub mod Defects
 pub mod Faults
+pub mod Soundness
 pub mod Ranges
 pub mod Shades
 pub mod Greying

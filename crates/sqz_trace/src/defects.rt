@@ -46,7 +46,7 @@ pub fn defect(heap: &Heap, weak: Weak, object: ObjectIndex) -> Option<Fault>
 }
 
 /// Returns whether the object's header has neither a class word nor a compact class index.
-fn lacks_class(object: &Object<'_>) -> bool
+pub(crate) fn lacks_class(object: &Object<'_>) -> bool
     ensures { result ≡ lacks_class object.now }
 {
     let header = object.header();
@@ -55,7 +55,7 @@ fn lacks_class(object: &Object<'_>) -> bool
 
 /// Returns whether the object is a method that states no number of traced fields, or more than it
 /// has.
-fn is_bad_method(object: &Object<'_>) -> bool
+pub(crate) fn is_bad_method(object: &Object<'_>) -> bool
     ensures { result ≡ is_bad_method object.now }
 {
     let fields = object.fields();
@@ -65,7 +65,7 @@ fn is_bad_method(object: &Object<'_>) -> bool
 
 /// Returns whether the object is a context that states no number of traced fields, or more than it
 /// has.
-fn is_bad_context(object: &Object<'_>) -> bool
+pub(crate) fn is_bad_context(object: &Object<'_>) -> bool
     ensures { result ≡ is_bad_context object.now }
 {
     let fields = object.fields();
@@ -93,7 +93,7 @@ fn states_too_many(stated: Option<u32>, count: u32) -> bool
 }
 
 /// Returns whether a word is neither a SmallInteger nor the address of an object.
-fn is_bad_word(heap: &Heap, word: u32) -> bool
+pub(crate) fn is_bad_word(heap: &Heap, word: u32) -> bool
     ensures { result ≡ is_bad_value heap.now (value_of word) }
 {
     match value_of(word) {

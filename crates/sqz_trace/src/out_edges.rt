@@ -3,11 +3,13 @@
 ghost use Rattle.std.specs.Prelude.{◌≡◌, ◌^◌, ◌<◌, ◌≤◌, length, IfSome};
 ghost use Rattle.sqz_image.specs.Objects.{object_count};
 ghost use Rattle.sqz_trace.specs.Edges.{out_edges, edges_by_word, strong_slots, edge_target, nil};
+ghost use Rattle.sqz_trace.specs.Soundness.{is_good_slot, is_well_formed};
 
 use crate::classes::class_named;
+use crate::defects::{is_bad_context, is_bad_method, is_bad_word, lacks_class};
 use crate::edge_slots::StrongSlots;
 use crate::fixed::{fixed_of, is_weak};
-use crate::slots::{named_among, traced_fields};
+use crate::slots::{named_among, traced_fields, word_among};
 use crate::strong_slots::strong_fields;
 use crate::weak::Weak;
 use sqz_image::{Heap, Object, Slot};
@@ -96,6 +98,25 @@ impl<'a> OutEdges<'a> {
         ensures inside { IfSome result (λ found. found < object_count self.now.memory) }
     {
         named_among(self.heap, &self.object, self.strong, slot)
+    }
+
+    /// Returns whether a strong slot holds a SmallInteger or the address of an object. True also for
+    /// a weak slot, and if the object has no such slot.
+    pub fn is_good(&self, slot: Slot) -> bool
+        ensures { result ≡ is_good_slot self.now slot }
+    {
+        match word_among(&self.object, self.strong, slot) {
+            Some(word) => !is_bad_word(self.heap, word),
+            None => true,
+        }
+    }
+
+    /// Returns whether the object has a class word or a compact class index, and is neither a bad
+    /// method nor a bad context.
+    pub fn is_well_formed(&self) -> bool
+        ensures { result ≡ is_well_formed self.now.words }
+    {
+        !lacks_class(&self.object) && !is_bad_method(&self.object) && !is_bad_context(&self.object)
     }
 }
 

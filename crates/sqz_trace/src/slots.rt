@@ -75,7 +75,7 @@ pub(crate) fn named_among(
 
 /// Returns the word that a slot holds, among the class word of an object and its first `count`
 /// fields. For the class word this is the address in it. None if there is no such slot.
-fn word_among(object: &Object<'_>, count: u32, slot: Slot) -> Option<u32>
+pub(crate) fn word_among(object: &Object<'_>, count: u32, slot: Slot) -> Option<u32>
     requires { count ≤ length (fields object.now) }
     ensures { result ≡ word_among count object.now slot }
 {

@@ -9,8 +9,8 @@ use Rattle.sqz_trace.proofs.marking.mark_target.Goals as goal
 use Rattle.sqz_trace.proofs.marking.mark_target.Goals.{else-not-has_mark-via-then-not-has_mark+else-not-contains}
 use Rattle.sqz_trace.proofs.marking.mark_target.Goals.{else-not-has_mark-via-else-not-has_mark}
 
-pub returns-in_ok-push : goal.returns-in_ok-push
-returns-in_ok-push g c =
+pub returns-in_ok-push-clause-marks : goal.returns-in_ok-push-clause-marks
+returns-in_ok-push-clause-marks g c =
     let named = sym c.in-Some.ensures.target in
     let size = length-map c.args.shades.now has_mark in
     let new : is_marked (marks_of c.args.shades.now) c.in-Some.found ≡ false =
@@ -20,8 +20,8 @@ returns-in_ok-push g c =
     (omega (arith, size, c.in-Some.ensures.inside, c.requires))
     new (named, sym c.contains.ensures ∙ c.if-not-contains.true) (λ index names. same_Some _ _ (sym named ∙ names.0)))
 
-pub returns-else-not-has_mark : goal.returns-else-not-has_mark
-returns-else-not-has_mark g c =
+pub returns-else-not-has_mark-clause-marks : goal.returns-else-not-has_mark-clause-marks
+returns-else-not-has_mark-clause-marks g c =
     let set = g.A.Avoided.set c.args.avoided.now in
     let shades = c.args.shades.now in
     let found = c.in-Some.found in
