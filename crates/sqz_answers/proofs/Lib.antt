@@ -1,3 +1,4 @@
+pub mod AloneLemmas
 pub mod FindingLemmas
 pub mod HistogramLemmas
 pub mod WhyLemmas

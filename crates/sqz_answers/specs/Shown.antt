@@ -1,5 +1,5 @@
 -- What an object is, and its slots.
-use Rattle.std.specs.Prelude.{◌≡◌, ◌+◌, ◌*◌, ℕ, zero, suc, List, length, Option, Some, None}
+use Rattle.std.specs.Prelude.{◌≡◌, ◌+◌, ◌*◌, ℕ, zero, suc, Bool, List, length, Option, Some, None}
 use Rattle.sqz_object.specs.declared.layout.Layout.{Layout}
 use Rattle.sqz_object.specs.declared.layout.Layout.TheVariants.{Bytes}
 use Rattle.sqz_object.specs.Value.{base_of}
@@ -12,8 +12,7 @@ use Rattle.sqz_trace.specs.declared.weak.Weak.{Weak}
 use Rattle.sqz_trace.specs.Slots.{slot_word}
 use Rattle.sqz_trace.specs.Strong.{class_of}
 use Rattle.sqz_facts.specs.declared.objects.ObjectFacts.{ObjectFacts}
-use Rattle.sqz_dominators.specs.Children.{retained_bytes}
-use Rattle.sqz_dominators.specs.Retained.{DominatorTree, AreDominators}
+use Rattle.sqz_answers.specs.CutOff.{IsRetainedAlone}
 
 -- the facts that the header of an object states
 abbrev pub facts_of : Memory → Weak → ℕ → ObjectFacts
@@ -28,11 +27,11 @@ facts_of memory weak object = record {
   fields = length (fields (chunk_words memory object));
 }
 
--- the bytes that a live object retains
-pub record IsRetained (memory : Memory) (weak : Weak) (object : ℕ) (retained : Option ℕ) : Type 0 where
-  pub tree : DominatorTree
-  pub dominators : AreDominators memory weak tree
-  pub is : retained ≡ Some (retained_bytes tree object)
+-- the bytes that a marked object retains
+pub record IsRetained (memory : Memory) (weak : Weak) (marks : List Bool) (object : ℕ) (retained : Option ℕ) : Type 0 where
+  pub bytes : ℕ
+  pub is : retained ≡ Some bytes
+  pub alone : IsRetainedAlone memory weak marks object bytes
 
 -- ---- the slots that are shown
 

@@ -5,7 +5,7 @@ ghost use Rattle.sqz_image.specs.Objects.{object_count};
 ghost use Rattle.sqz_trace.specs.Graph.{is_marked};
 ghost use Rattle.sqz_answers.specs.Shown.{IsRetained, facts_of};
 
-use sqz_dominators::dominators_of;
+use crate::cut_off::retained_alone;
 use sqz_facts::{ObjectFacts, object_facts};
 use sqz_object::ObjectIndex;
 use sqz_trace::Live;
@@ -35,11 +35,10 @@ pub fn shown_object(
         → IfOk result (λ shown. shown.retained ≡ None) }
     ensures live { is_marked live.now.marks object ≡ true
         → IfOk result (λ shown. IsRetained live.now.graph.heap.now live.now.graph.weak
-        object shown.retained) }
+        live.now.marks object shown.retained) }
 {
     let retained = if live.marks.has(object) {
-        let dominators = dominators_of(alloc, live.graph)?;
-        Some(dominators.retained(object).bytes)
+        Some(retained_alone(alloc, live, object)?)
     } else {
         None
     };
