@@ -1,8 +1,8 @@
 -- Marking that sees whether the objects that it reaches are sound.
 -- Serves `marking::mark_target`, `marking::mark_targets` and `marking::mark_without`.
-use Rattle.std.proofs.Common.{◌≡◌, ℕ, ◌<◌, ◌⊎◌, Bool, true, false, not, ◌&&◌, cond, List, [], ◌∷◌, ◌++◌, length}
+use Rattle.std.proofs.Common.{◌≡◌, ℕ, ◌⊎◌, Bool, true, false, not, ◌&&◌, cond, List, [], ◌∷◌, ◌++◌, length}
 use Rattle.std.proofs.Common.{Some, None, refl, sym, ap, subst, ◌∙◌, arith, inl, inr}
-use Rattle.std.specs.Prelude.{All, Contains, slice_index}
+use Rattle.std.specs.Prelude.{Contains, slice_index}
 use Rattle.std.specs.Bool.{OnTrue}
 use Rattle.std.proofs.lemmas.Bool.{cases_lt, le-ltb}
 use Rattle.std.proofs.lemmas.List.Elements.{All-contains, All-push, Contains-push_cases}
@@ -11,15 +11,15 @@ use Rattle.sqz_image.specs.declared.slot.Slot.{Slot}
 use Rattle.sqz_image.specs.declared.slot.Slot.TheVariants.{ClassWord, Field}
 use Rattle.sqz_image.specs.Objects.{Memory, object_at, object_count, chunk_words}
 use Rattle.sqz_trace.specs.declared.weak.Weak.{Weak}
-use Rattle.sqz_trace.specs.declared.weak.Weak.TheVariants.{Keep, Clear}
-use Rattle.sqz_trace.specs.Defects.{lacks_class, is_bad_method, is_bad_context, is_bad_word, defect, first_defect}
+use Rattle.sqz_trace.specs.declared.weak.Weak.TheVariants.{Keep}
+use Rattle.sqz_trace.specs.Defects.{lacks_class, is_bad_method, is_bad_context, is_bad_word, defect}
 use Rattle.sqz_trace.specs.Edges.{OutEdges, out_edges, strong_slots}
 use Rattle.sqz_trace.specs.Faults.{first_fault}
 use Rattle.sqz_trace.specs.Graph.{is_marked}
 use Rattle.sqz_trace.specs.Marking.{MarksTargets}
 use Rattle.sqz_trace.specs.Slots.{traced, slot_word}
 use Rattle.sqz_trace.specs.Soundness.{IsGood, is_good_slot, is_well_formed}
-use Rattle.sqz_trace.proofs.SoundLemmas.{IsSound, defect-none, first_defect-marked}
+use Rattle.sqz_trace.proofs.SoundLemmas.{defect-none, first_defect-marked}
 use Rattle.sqz_trace.proofs.TargetLemmas.{strong_slots-field}
 
 -- ---- tests
