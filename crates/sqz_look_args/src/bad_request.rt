@@ -7,7 +7,7 @@ use std::alloc::AllocError;
 use std::fmt;
 
 /// Why the words of a command line are no request.
-#[derive(Clone, Copy, Debug)]
+#[derive(Clone, Copy)]
 pub enum BadRequest<'a> {
     /// Memory ran out.
     OutOfMemory,

@@ -68,7 +68,7 @@ pub enum Question<'a> {
 }
 
 /// A question that is asked about each of some images.
-#[derive(Clone, Copy, Debug, PartialEq, Eq)]
+#[derive(Clone, Copy, PartialEq, Eq)]
 pub enum EachQuestion {
     Info,
     Census(Counting),
@@ -108,7 +108,7 @@ pub struct ObjectsAsked {
 }
 
 /// Which instances of a class are listed.
-#[derive(Clone, Copy, Debug, PartialEq, Eq)]
+#[derive(Clone, Copy, PartialEq, Eq)]
 pub enum Instances {
     /// The live ones, in an order.
     Live(ListOrder),
@@ -117,7 +117,7 @@ pub enum Instances {
 }
 
 /// A question about an object.
-#[derive(Clone, Copy, Debug, PartialEq, Eq)]
+#[derive(Clone, Copy, PartialEq, Eq)]
 pub enum ObjectQuestion {
     Show,
     Why { raw: bool },
@@ -191,56 +191,126 @@ fn question_of<'a>(
         → MatchResult result (IsCheckOf rows) (λ bad. bad ≡ OutOfMemory) }
     ensures diff { name ≡ Name.Diff → IfOk result IsDiff }
 {
-    let question = match name {
-        Name::Check => {
-            return Ok(Question::Check {
-                images: values_of(alloc, matches, "IMAGE")?,
-                all: flag_of(matches, "all"),
-                strict: flag_of(matches, "strict"),
-            });
-        }
-        Name::Mend => {
-            return Ok(Question::Mend {
-                image: value_of(matches, "IMAGE")?,
-                nil: flag_of(matches, "nil"),
-            });
-        }
-        Name::Diff => {
-            return Ok(Question::Diff {
-                old: value_of(matches, "OLD")?,
-                new: value_of(matches, "NEW")?,
-            });
-        }
-        Name::Info => return about_each(alloc, matches, EachQuestion::Info),
+    match name {
+        Name::Check => check(alloc, matches),
+        Name::Mend => mend(matches),
+        Name::Diff => difference(matches),
+        Name::Info => about_each(alloc, matches, EachQuestion::Info),
         Name::Census => {
-            let question = EachQuestion::Census(Counting::asked(matches));
-            return about_each(alloc, matches, question);
+            about_each(
+                alloc,
+                matches,
+                EachQuestion::Census(Counting::asked(matches)),
+            )
         }
-        Name::Digest => return about_each(alloc, matches, EachQuestion::Digest),
-        Name::List => NamedQuestion::List {
-            class: joined(alloc, &values_of(alloc, matches, "CLASS")?)?,
-            which: asked_instances(matches)?,
-        },
-        Name::Top => NamedQuestion::Top {
-            object: asked_root(alloc, matches)?,
-            options: top_options(matches)?,
-        },
-        Name::Show => about_objects(alloc, matches, apart, ObjectQuestion::Show)?,
-        Name::Refs => about_objects(alloc, matches, apart, ObjectQuestion::Refs)?,
-        Name::Why => {
-            // JSON has each step
-            let raw = flag_of(matches, "raw") || flag_of(matches, "json");
-            about_objects(alloc, matches, apart, ObjectQuestion::Why { raw })?
+        Name::Digest => about_each(alloc, matches, EachQuestion::Digest),
+        Name::List => about_image(matches, listing(alloc, matches)),
+        Name::Top => about_image(matches, tree(alloc, matches)),
+        Name::Show => {
+            about_image(
+                matches,
+                about_objects(alloc, matches, apart, ObjectQuestion::Show),
+            )
         }
-        Name::Code => NamedQuestion::Code(CodeQuestion::asked(alloc, matches)?),
-        Name::Senders => NamedQuestion::Senders(text_of(alloc, matches, "SELECTOR")?),
-        Name::Implementors => NamedQuestion::Implementors(text_of(alloc, matches, "SELECTOR")?),
-        Name::Stacks => NamedQuestion::Stacks,
-        Name::Find => NamedQuestion::Find(pattern_of(alloc, matches)?),
-        Name::Dump => NamedQuestion::Dump,
-    };
+        Name::Refs => {
+            about_image(
+                matches,
+                about_objects(alloc, matches, apart, ObjectQuestion::Refs),
+            )
+        }
+        Name::Why => about_image(matches, about_objects(alloc, matches, apart, why(matches))),
+        Name::Code => about_image(matches, code(alloc, matches)),
+        Name::Senders => about_image(matches, senders(alloc, matches)),
+        Name::Implementors => about_image(matches, implementors(alloc, matches)),
+        Name::Stacks => about_image(matches, Ok(NamedQuestion::Stacks)),
+        Name::Find => about_image(matches, strings(alloc, matches)),
+        Name::Dump => about_image(matches, Ok(NamedQuestion::Dump)),
+    }
+}
+
+/// Returns the question whether images are sound.
+fn check<'a>(alloc: Global, matches: &ArgMatches<'a>) -> Result<Question<'a>, BadRequest<'a>>
+    ensures { MatchResult result (IsCheckOf (rows_of (found_of matches.now)))
+        (λ bad. bad ≡ OutOfMemory) }
+{
+    Ok(Question::Check {
+        images: values_of(alloc, matches, "IMAGE")?,
+        all: flag_of(matches, "all"),
+        strict: flag_of(matches, "strict"),
+    })
+}
+
+/// Returns the request to mend an image.
+fn mend<'a>(matches: &ArgMatches<'a>) -> Result<Question<'a>, BadRequest<'a>> {
+    Ok(Question::Mend {
+        image: value_of(matches, "IMAGE")?,
+        nil: flag_of(matches, "nil"),
+    })
+}
+
+/// Returns the question what changed between two images.
+fn difference<'a>(matches: &ArgMatches<'a>) -> Result<Question<'a>, BadRequest<'a>>
+    ensures { IfOk result IsDiff }
+{
+    Ok(Question::Diff {
+        old: value_of(matches, "OLD")?,
+        new: value_of(matches, "NEW")?,
+    })
+}
+
+/// Returns a question about the image that the matches name, if the question is one.
+fn about_image<'a>(
+    matches: &ArgMatches<'a>,
+    question: Result<NamedQuestion, BadRequest<'a>>,
+) -> Result<Question<'a>, BadRequest<'a>> {
+    let question = question?;
     let image = value_of(matches, "IMAGE")?;
     Ok(Question::About { image, question })
+}
+
+/// Returns the question which instances a class has.
+fn listing<'a>(alloc: Global, matches: &ArgMatches<'a>) -> Result<NamedQuestion, BadRequest<'a>> {
+    Ok(NamedQuestion::List {
+        class: joined(alloc, &values_of(alloc, matches, "CLASS")?)?,
+        which: asked_instances(matches)?,
+    })
+}
+
+/// Returns the question what retains most.
+fn tree<'a>(alloc: Global, matches: &ArgMatches<'a>) -> Result<NamedQuestion, BadRequest<'a>> {
+    Ok(NamedQuestion::Top {
+        object: asked_root(alloc, matches)?,
+        options: top_options(matches)?,
+    })
+}
+
+/// Returns the question what keeps an object. JSON has each step of its path.
+fn why(matches: &ArgMatches<'_>) -> ObjectQuestion {
+    let raw = flag_of(matches, "raw") || flag_of(matches, "json");
+    ObjectQuestion::Why { raw }
+}
+
+/// Returns the question about code.
+fn code<'a>(alloc: Global, matches: &ArgMatches<'a>) -> Result<NamedQuestion, BadRequest<'a>> {
+    Ok(NamedQuestion::Code(CodeQuestion::asked(alloc, matches)?))
+}
+
+/// Returns the question which methods send a selector.
+fn senders<'a>(alloc: Global, matches: &ArgMatches<'a>) -> Result<NamedQuestion, BadRequest<'a>> {
+    Ok(NamedQuestion::Senders(text_of(alloc, matches, "SELECTOR")?))
+}
+
+/// Returns the question which methods have a selector.
+fn implementors<'a>(
+    alloc: Global,
+    matches: &ArgMatches<'a>,
+) -> Result<NamedQuestion, BadRequest<'a>> {
+    Ok(NamedQuestion::Implementors(text_of(alloc, matches, "SELECTOR")?))
+}
+
+/// Returns the question which strings match a regular expression.
+fn strings<'a>(alloc: Global, matches: &ArgMatches<'a>) -> Result<NamedQuestion, BadRequest<'a>> {
+    Ok(NamedQuestion::Find(pattern_of(alloc, matches)?))
 }
 
 /// Returns a question about each image that the matches name.
@@ -253,15 +323,21 @@ fn about_each<'a>(
     Ok(Question::Each { images, question })
 }
 
-/// Returns a question about the objects that the matches name: the words before `--` name one
-/// together, and each of the words that stand apart names one.
-fn about_objects(
+/// Returns a question about the objects that the matches name.
+fn about_objects<'a>(
     alloc: Global,
-    matches: &ArgMatches<'_>,
+    matches: &ArgMatches<'a>,
     apart: usize,
     question: ObjectQuestion,
-) -> Result<NamedQuestion, AllocError> {
+) -> Result<NamedQuestion, BadRequest<'a>> {
     let words = values_of(alloc, matches, "OBJECT")?;
+    let objects = objects_of(alloc, &words, apart)?;
+    Ok(NamedQuestion::About(ObjectsAsked { objects, question }))
+}
+
+/// Returns the objects that words name: those before `--` name one together, and each of the words
+/// that stand apart names one.
+fn objects_of(alloc: Global, words: &[&str], apart: usize) -> Result<Vec<String>, AllocError> {
     let (together, others) = words.split_at(words.len() - apart.min(words.len()));
     let mut objects = Vec::new(alloc);
     if !together.is_empty() {
@@ -270,7 +346,7 @@ fn about_objects(
     for word in others {
         objects.push(String::from_str(alloc, word)?)?;
     }
-    Ok(NamedQuestion::About(ObjectsAsked { objects, question }))
+    Ok(objects)
 }
 
 /// Returns which instances are asked for.
