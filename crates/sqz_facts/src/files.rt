@@ -13,7 +13,7 @@ use sqz_object::{Address, Order};
 use sqz_trace::Marks;
 
 /// What an image holds. All numbers of bytes include header words.
-#[derive(Clone, Copy, Debug, PartialEq, Eq)]
+#[derive(Clone, Copy)]
 pub struct FileFacts {
     /// The byte order.
     pub order: Order,

@@ -8,7 +8,7 @@ use sqz_image::Heap;
 use sqz_object::{Chunk, Kind, ObjectIndex, WordIndex, known_chunk};
 
 /// A chunk of a heap, and where it lies.
-#[derive(Clone, Copy, Debug, PartialEq, Eq)]
+#[derive(Clone, Copy)]
 pub(crate) struct PlacedChunk {
     /// The index of its first word among the data words.
     pub first: WordIndex,

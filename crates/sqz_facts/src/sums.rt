@@ -10,7 +10,7 @@ use sqz_object::{Kind, known_chunk};
 use sqz_trace::Marks;
 
 /// The words of the chunks of a heap, header words included, and the number of free chunks.
-#[derive(Clone, Copy, Debug, PartialEq, Eq)]
+#[derive(Clone, Copy)]
 pub(crate) struct ChunkSums {
     /// The words of the marked objects.
     pub live_words: u32,
