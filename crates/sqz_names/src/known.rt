@@ -6,7 +6,7 @@ ghost use Rattle.sqz_names.specs.Known.{known_class, known_field};
 use crate::fields::{FALSE, GLOBALS, NIL, TRUE};
 
 /// An object that every image has.
-#[derive(Clone, Copy, Debug, PartialEq, Eq)]
+#[derive(Clone, Copy, PartialEq, Eq)]
 pub enum Known {
     /// The only instance of `UndefinedObject`.
     Nil,

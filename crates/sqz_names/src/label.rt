@@ -4,7 +4,7 @@ use crate::known::Known;
 use sqz_object::ObjectIndex;
 
 /// What an object is to a Smalltalker.
-#[derive(Clone, Copy, Debug, PartialEq, Eq)]
+#[derive(Clone, Copy, PartialEq, Eq)]
 pub enum Label {
     /// The special objects array.
     SpecialObjects,

@@ -3,7 +3,7 @@
 use sqz_object::ObjectIndex;
 
 /// A method of a class under a selector.
-#[derive(Clone, Copy, Debug, PartialEq, Eq)]
+#[derive(Clone, Copy)]
 pub struct MethodName {
     /// The compiled method.
     pub method: ObjectIndex,

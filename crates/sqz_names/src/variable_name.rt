@@ -3,7 +3,7 @@
 use sqz_object::ObjectIndex;
 
 /// An association of a global variable, or of a class variable of `class`.
-#[derive(Clone, Copy, Debug, PartialEq, Eq)]
+#[derive(Clone, Copy)]
 pub struct VariableName {
     /// The association of the variable.
     pub association: ObjectIndex,
@@ -14,7 +14,7 @@ pub struct VariableName {
 }
 
 /// A global or a class variable: what holds its association, and its value.
-#[derive(Clone, Copy, Debug, PartialEq, Eq)]
+#[derive(Clone, Copy)]
 pub struct Variable {
     /// The dictionary that the association is in.
     pub dictionary: ObjectIndex,
