@@ -38,7 +38,7 @@ const HIGH_PRIMITIVE: BitField = BitField {
 };
 
 /// What the header of a compiled method says.
-#[derive(Clone, Copy, Debug, PartialEq, Eq)]
+#[derive(Clone, Copy)]
 pub struct MethodHeader {
     /// The number of arguments.
     pub arguments: u32,
