@@ -12,7 +12,7 @@ use sqz_trace::{Marks, ObjectGraph};
 use std::alloc::{AllocError, Global};
 
 /// A selector that a method sends, and that no method has.
-#[derive(Clone, Copy, Debug, PartialEq, Eq)]
+#[derive(Clone, Copy)]
 pub struct Unimplemented {
     pub selector: ObjectIndex,
     pub sender: MethodName,
