@@ -3,7 +3,7 @@
 use std::fmt;
 
 /// A number and the word for what is counted, which is printed with an `s` unless the number is 1.
-#[derive(Clone, Copy, Debug, PartialEq, Eq)]
+#[derive(Clone, Copy)]
 pub struct Counted<'a>(pub u64, pub &'a str);
 
 impl fmt::Display for Counted<'_> {

@@ -4,7 +4,7 @@ use serde::{Described, Serialize, Serializer};
 use std::fmt;
 
 /// An address, or any other word, that is printed as eight hexadecimal digits.
-#[derive(Clone, Copy, Debug, PartialEq, Eq)]
+#[derive(Clone, Copy)]
 pub struct Hex(pub u32);
 
 impl fmt::Display for Hex {

@@ -3,7 +3,7 @@
 use std::fmt;
 
 /// The number of rows that a text leaves out, and the word for one.
-#[derive(Clone, Copy, Debug, PartialEq, Eq)]
+#[derive(Clone, Copy)]
 pub struct More<'a>(pub usize, pub &'a str);
 
 impl fmt::Display for More<'_> {

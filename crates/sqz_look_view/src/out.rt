@@ -20,7 +20,7 @@ const MOST_ROWS: u32 = 20;
 const PIECE: usize = 65536;
 
 /// The form in which answers are printed.
-#[derive(Clone, Copy, Debug, PartialEq, Eq)]
+#[derive(Clone, Copy)]
 pub enum Format {
     /// Text for a person. Long lists are cut, unless `all`. If `human`, numbers of bytes are in KB
     /// and MB.
