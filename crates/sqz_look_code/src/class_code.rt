@@ -123,14 +123,18 @@ fn rows_of(inspector: &Inspector<'_>, class: ObjectIndex) -> Result<Rows, AllocE
     let categories = Categories::of(inspector, organizer)?;
     let mut rows = BTreeMap::new(inspector.alloc);
     for name in &live_methods(inspector)? {
-        if name.class != class {
-            continue;
+        if name.class == class {
+            add_row(&mut rows, row_of(inspector, &categories, organizer, *name)?)?;
         }
-        let row = row_of(inspector, &categories, organizer, *name)?;
-        let key = (row.category.clone()?, row.selector.clone()?, row.address.0);
-        rows.insert(key, row)?;
     }
     Ok(rows)
+}
+
+/// Adds a method to those of a class.
+fn add_row(rows: &mut Rows, row: CategorizedRow) -> Result<(), AllocError> {
+    let key = (row.category.clone()?, row.selector.clone()?, row.address.0);
+    rows.insert(key, row)?;
+    Ok(())
 }
 
 /// Returns the row of a method, given the organizer of its class and the categories that this one
@@ -221,7 +225,24 @@ pub fn print_class_code<C: Sink>(
     requires { class < object_count inspector.now.live.graph.heap.now }
 {
     let rows = rows_of(inspector, class)?;
-    out.emit(&ClassView::of(inspector, class, rows.len())?)?;
+    print_class(inspector, class, rows.len(), out)?;
+    print_rows(&rows, out)
+}
+
+/// Prints what a class with a number of methods is.
+fn print_class<C: Sink>(
+    inspector: &Inspector<'_>,
+    class: ObjectIndex,
+    methods: usize,
+    out: &mut Out<'_, C>,
+) -> Result<(), PrintError>
+    requires { class < object_count inspector.now.live.graph.heap.now }
+{
+    out.emit(&ClassView::of(inspector, class, methods)?)
+}
+
+/// Prints the methods of a class, those of a category under its name.
+fn print_rows<C: Sink>(rows: &Rows, out: &mut Out<'_, C>) -> Result<(), PrintError> {
     let shown = out.shown(rows.len());
     let mut last: Option<&CategorizedRow> = None;
     for row in rows.values().take(shown) {

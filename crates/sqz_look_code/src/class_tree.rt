@@ -1,5 +1,8 @@
 //! The tree of all classes.
 
+ghost use Rattle.std.specs.Prelude.{◌<◌};
+ghost use Rattle.sqz_image.specs.Objects.{object_count};
+
 use crate::live_methods::live_methods;
 use serde::Serialize;
 use sqz_image::Sink;
@@ -80,14 +83,20 @@ impl Counts {
     }
 }
 
-/// Returns the live classes that are no metaclasses, by name.
-fn classes_of(inspector: &Inspector<'_>) -> Result<Classes, AllocError> {
-    let (alloc, graph) = (inspector.alloc, inspector.live.graph);
-    let mut methods = Counts::none(alloc);
-    for name in &live_methods(inspector)? {
+/// Returns the number of live methods of each class.
+fn count_methods(inspector: &Inspector<'_>) -> Result<Counts, AllocError> {
+    let names = live_methods(inspector)?;
+    let mut methods = Counts::none(inspector.alloc);
+    for name in &names {
         methods.add(name.class)?;
     }
-    let mut instances = Counts::none(alloc);
+    Ok(methods)
+}
+
+/// Returns the number of live instances of each class.
+fn count_instances(inspector: &Inspector<'_>) -> Result<Counts, AllocError> {
+    let graph = inspector.live.graph;
+    let mut instances = Counts::none(inspector.alloc);
     for object in 0..graph.heap.len() {
         if inspector.live.marks.has(object)
             && let Some(class) = graph.class_of(object)
@@ -95,22 +104,46 @@ fn classes_of(inspector: &Inspector<'_>) -> Result<Classes, AllocError> {
             instances.add(class)?;
         }
     }
-    let mut classes = BTreeMap::new(alloc);
-    for object in 0..graph.heap.len() {
-        if !inspector.live.marks.has(object) || inspector.names.label_of(object)? != Label::Class {
-            continue;
+    Ok(instances)
+}
+
+/// Returns the live classes that are no metaclasses, by name.
+fn classes_of(inspector: &Inspector<'_>) -> Result<Classes, AllocError> {
+    let methods = count_methods(inspector)?;
+    let instances = count_instances(inspector)?;
+    let mut classes = BTreeMap::new(inspector.alloc);
+    for object in 0..inspector.live.graph.heap.len() {
+        if inspector.live.marks.has(object) {
+            let (methods, instances) = (methods.of(object), instances.of(object));
+            add_class(inspector, object, methods, instances, &mut classes)?;
         }
-        let row = ClassRow {
-            class: inspector.names.name_of_class(object)?,
-            address: inspector.address(object),
-            methods: methods.of(object),
-            instances: instances.of(object),
-            object,
-            superclass: field_of(inspector, object, SUPERCLASS),
-        };
-        classes.insert((row.class.clone()?, row.address.0), row)?;
     }
     Ok(classes)
+}
+
+/// Adds a live object to the classes if it is one and no metaclass.
+fn add_class(
+    inspector: &Inspector<'_>,
+    object: ObjectIndex,
+    methods: u32,
+    instances: u32,
+    classes: &mut Classes,
+) -> Result<(), AllocError>
+    requires { object < object_count inspector.now.live.graph.heap.now }
+{
+    if inspector.names.label_of(object)? != Label::Class {
+        return Ok(());
+    }
+    let row = ClassRow {
+        class: inspector.names.name_of_class(object)?,
+        address: inspector.address(object),
+        methods,
+        instances,
+        object,
+        superclass: field_of(inspector, object, SUPERCLASS),
+    };
+    classes.insert((row.class.clone()?, row.address.0), row)?;
+    Ok(())
 }
 
 /// The links of a tree: for each class, by its place, the first class below it and the next one
@@ -255,15 +288,39 @@ pub fn print_class_tree<C: Sink>(
     inspector: &Inspector<'_>,
     out: &mut Out<'_, C>,
 ) -> Result<(), PrintError> {
-    let alloc = inspector.alloc;
     let named = classes_of(inspector)?;
+    print_tree(inspector.alloc, &named, out)
+}
+
+/// Prints classes as a tree.
+fn print_tree<C: Sink>(
+    alloc: Global,
+    named: &Classes,
+    out: &mut Out<'_, C>,
+) -> Result<(), PrintError> {
+    let classes = in_order(alloc, named)?;
+    let links = Links::of(alloc, &classes)?;
+    let order = Order::of(alloc, &links)?;
+    print_rows(&classes, &order.listed, out)
+}
+
+/// Returns the classes in the order of their names.
+fn in_order(alloc: Global, named: &Classes) -> Result<Vec<&ClassRow>, AllocError> {
     let mut classes = Vec::new(alloc);
     for class in named.values() {
         classes.push(class)?;
     }
-    let order = Order::of(alloc, &Links::of(alloc, &classes)?)?;
+    Ok(classes)
+}
+
+/// Prints classes in this order.
+fn print_rows<C: Sink>(
+    classes: &[&ClassRow],
+    order: &[Listed],
+    out: &mut Out<'_, C>,
+) -> Result<(), PrintError> {
     out.text(&"  methods  instances  address   class")?;
-    for listed in order.listed.iter().take(out.shown(classes.len())) {
+    for listed in order.iter().take(out.shown(classes.len())) {
         if let Some(class) = classes.get(listed.place) {
             out.emit(&TreeRow {
                 class: class.class.as_str(),

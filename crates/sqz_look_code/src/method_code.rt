@@ -11,7 +11,7 @@ use sqz_image::Sink;
 use sqz_look_view::{Counted, Hex, Inspector, Out, PrintError, write_bytes};
 use sqz_methods::{MethodCode, code_of};
 use sqz_object::ObjectIndex;
-use std::alloc::AllocError;
+use std::alloc::{AllocError, Global};
 use std::fmt;
 
 /// What the header of a method says.
@@ -42,12 +42,7 @@ impl MethodCodeView {
         let alloc = inspector.alloc;
         let code = code_of(alloc, inspector.live.graph.heap, method)?;
         let operands = Operands::of(inspector, method)?;
-        let depths = block_depths(alloc, &code.instructions)?;
-        let mut instructions = Vec::new(alloc);
-        for (instruction, depth) in code.instructions.iter().zip(&depths) {
-            let view = InstructionView::of(alloc, &code.parts, &operands, instruction, *depth)?;
-            instructions.push(view)?;
-        }
+        let instructions = instruction_views(alloc, &code, &operands)?;
         Ok(MethodCodeView {
             address: inspector.address(method),
             label: inspector.names.label(method)?,
@@ -57,6 +52,21 @@ impl MethodCodeView {
             instructions,
         })
     }
+}
+
+/// Returns the instructions of a method.
+fn instruction_views(
+    alloc: Global,
+    code: &MethodCode,
+    operands: &Operands,
+) -> Result<Vec<InstructionView>, AllocError> {
+    let depths = block_depths(alloc, &code.instructions)?;
+    let mut views = Vec::new(alloc);
+    for (instruction, depth) in code.instructions.iter().zip(&depths) {
+        let view = InstructionView::of(alloc, &code.parts, operands, instruction, *depth)?;
+        views.push(view)?;
+    }
+    Ok(views)
 }
 
 /// Returns what the header of a method says.
@@ -70,21 +80,28 @@ fn header_of(code: &MethodCode) -> Option<HeaderView> {
     })
 }
 
+impl fmt::Display for HeaderView {
+    fn fmt<W: fmt::Write>(&self, f: &mut fmt::Formatter<W>) -> fmt::Result {
+        let arguments = Counted(u64::from(self.arguments), "argument");
+        let (temporaries, primitive) = (self.temporaries, self.primitive);
+        write!(f, "{arguments}, {temporaries} temporaries with them")?;
+        if primitive > 0 {
+            write!(f, ", primitive {primitive}")?;
+        }
+        if self.large_frame {
+            f.write_str(", large frame")?;
+        }
+        Ok(())
+    }
+}
+
 impl fmt::Display for MethodCodeView {
     fn fmt<W: fmt::Write>(&self, f: &mut fmt::Formatter<W>) -> fmt::Result {
         let (label, address) = (self.label.as_str(), self.address);
         write!(f, "{label} {address}, ")?;
         write_bytes(f, self.bytes)?;
         if let Some(header) = &self.header {
-            let arguments = Counted(u64::from(header.arguments), "argument");
-            let (temporaries, primitive) = (header.temporaries, header.primitive);
-            write!(f, "\n{arguments}, {temporaries} temporaries with them")?;
-            if primitive > 0 {
-                write!(f, ", primitive {primitive}")?;
-            }
-            if header.large_frame {
-                f.write_str(", large frame")?;
-            }
+            write!(f, "\n{header}")?;
         }
         for (index, literal) in self.literals.iter().enumerate() {
             let number = index.saturating_add(1);

@@ -45,6 +45,27 @@ impl fmt::Display for MethodRow {
     }
 }
 
+/// Methods by name, and on a tie by address.
+type Rows = BTreeMap<(String, u32), MethodRow>;
+
+/// Returns methods by name.
+fn rows_of(inspector: &Inspector<'_>, methods: &[MethodName]) -> Result<Rows, AllocError>
+    requires { All (IsMethodName inspector.now.live.graph.heap.now
+        inspector.now.live.graph.weak) methods.now }
+{
+    let mut rows = BTreeMap::new(inspector.alloc);
+    for name in methods {
+        add_row(&mut rows, MethodRow::of(inspector, *name)?)?;
+    }
+    Ok(rows)
+}
+
+/// Adds a method to others.
+fn add_row(rows: &mut Rows, row: MethodRow) -> Result<(), AllocError> {
+    rows.insert((row.method.clone()?, row.address.0), row)?;
+    Ok(())
+}
+
 /// Prints methods by name, on a tie by address, and how many there are.
 pub(crate) fn print_methods<C: Sink>(
     inspector: &Inspector<'_>,
@@ -54,11 +75,7 @@ pub(crate) fn print_methods<C: Sink>(
     requires { All (IsMethodName inspector.now.live.graph.heap.now
         inspector.now.live.graph.weak) methods.now }
 {
-    let mut rows = BTreeMap::new(inspector.alloc);
-    for name in methods {
-        let row = MethodRow::of(inspector, *name)?;
-        rows.insert((row.method.clone()?, row.address.0), row)?;
-    }
+    let rows = rows_of(inspector, methods)?;
     let shown = out.shown(rows.len());
     out.text(&"       bytes  address   method")?;
     for row in rows.values().take(shown) {

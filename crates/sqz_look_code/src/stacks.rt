@@ -1,6 +1,6 @@
 //! The processes of an image, and their stacks.
 
-ghost use Rattle.std.specs.Prelude.{◌≡◌, ◌<◌, length, IfSome};
+ghost use Rattle.std.specs.Prelude.{◌≡◌, ◌<◌, length, All, IfSome};
 ghost use Rattle.sqz_image.specs.Objects.{object_count};
 
 use crate::contexts::{ContextView, integer_in};
@@ -32,7 +32,7 @@ const PRIORITY: usize = 2;
 const LIST: u32 = 3;
 
 /// What a process does.
-#[derive(Clone, Copy, Debug, PartialEq, Eq, Drop, Serialize)]
+#[derive(Clone, Copy, Drop, Serialize)]
 #[serde(rename_all = "lowercase")]
 enum State {
     /// It runs.
@@ -142,10 +142,7 @@ impl ProcessView {
         let (state, waits_for) = state_of(inspector, scheduler, process)?;
         let first = context_in(heap, process, SUSPENDED_CONTEXT);
         let stack = stack_from(alloc, heap, first, listed)?;
-        let mut contexts = Vec::new(alloc);
-        for context in &stack.contexts {
-            contexts.push(ContextView::of(inspector, *context)?)?;
-        }
+        let contexts = context_views(inspector, &stack.contexts)?;
         let meets = match stack.meets {
             Some(context) => Some(inspector.address(context)),
             None => None,
@@ -162,6 +159,45 @@ impl ProcessView {
     }
 }
 
+/// Returns the rows of contexts.
+fn context_views(
+    inspector: &Inspector<'_>,
+    contexts: &[ObjectIndex],
+) -> Result<Vec<ContextView>, AllocError>
+    requires { All (λ context. context < object_count inspector.now.live.graph.heap.now)
+        contexts.now }
+{
+    let mut views = Vec::new(inspector.alloc);
+    for context in contexts {
+        views.push(ContextView::of(inspector, *context)?)?;
+    }
+    Ok(views)
+}
+
+impl ProcessView {
+    /// Writes what the process does, and what it waits for.
+    fn write_state<W: fmt::Write>(&self, f: &mut fmt::Formatter<W>) -> fmt::Result {
+        match (self.state, &self.waits_for) {
+            (State::Active, _) => f.write_str(", active"),
+            (State::Ready, _) => f.write_str(", ready"),
+            (State::Suspended, _) => f.write_str(", suspended"),
+            (State::Waiting, Some(list)) => write!(f, ", waits for {}", list.as_str()),
+            (State::Waiting, None) => f.write_str(", waits"),
+        }
+    }
+
+    /// Writes the contexts that are shown, and how many are not.
+    fn write_contexts<W: fmt::Write>(&self, f: &mut fmt::Formatter<W>) -> fmt::Result {
+        for context in self.contexts.iter().take(self.shown) {
+            write!(f, "\n{context}")?;
+        }
+        match self.contexts.len().saturating_sub(self.shown) {
+            0 => Ok(()),
+            more => write!(f, "\n  {}", More(more, "context")),
+        }
+    }
+}
+
 impl fmt::Display for ProcessView {
     fn fmt<W: fmt::Write>(&self, f: &mut fmt::Formatter<W>) -> fmt::Result {
         let process = self.process;
@@ -169,20 +205,8 @@ impl fmt::Display for ProcessView {
         if let Some(priority) = self.priority {
             write!(f, ", priority {priority}")?;
         }
-        match (self.state, &self.waits_for) {
-            (State::Active, _) => f.write_str(", active")?,
-            (State::Ready, _) => f.write_str(", ready")?,
-            (State::Suspended, _) => f.write_str(", suspended")?,
-            (State::Waiting, Some(list)) => write!(f, ", waits for {}", list.as_str())?,
-            (State::Waiting, None) => f.write_str(", waits")?,
-        }
-        for context in self.contexts.iter().take(self.shown) {
-            write!(f, "\n{context}")?;
-        }
-        match self.contexts.len().saturating_sub(self.shown) {
-            0 => {}
-            more => write!(f, "\n  {}", More(more, "context"))?,
-        }
+        self.write_state(f)?;
+        self.write_contexts(f)?;
         match self.meets {
             Some(address) => write!(f, "\n  then {address} again"),
             None => Ok(()),

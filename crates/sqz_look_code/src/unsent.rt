@@ -1,6 +1,6 @@
 //! Selectors that are implemented and not sent, or sent and not implemented.
 
-ghost use Rattle.std.specs.Prelude.{◌<◌};
+ghost use Rattle.std.specs.Prelude.{◌<◌, All, IfOk};
 ghost use Rattle.sqz_image.specs.Objects.{object_count};
 ghost use Rattle.sqz_names.specs.Names.{IsMethodName};
 
@@ -60,18 +60,36 @@ pub fn print_unimplemented<C: Sink>(
     inspector: &Inspector<'_>,
     out: &mut Out<'_, C>,
 ) -> Result<(), PrintError> {
-    let (alloc, graph) = (inspector.alloc, inspector.live.graph);
-    let implemented = marked_selectors(alloc, graph.heap, &live_methods(inspector)?)?;
-    let found = unimplemented_of(alloc, graph, &distinct_methods(inspector)?, &implemented)?;
-    let mut views: Views = BTreeMap::new(alloc);
-    for one in &found {
-        add_sender(inspector, *one, &mut views)?;
-    }
+    let views = views_of(inspector)?;
     let shown = out.shown(views.len());
     for view in views.values().take(shown) {
         out.emit(view)?;
     }
     out.rest(views.len(), "selector")
+}
+
+/// Returns the selectors that live methods send and no live method has, by name, with their senders.
+fn views_of(inspector: &Inspector<'_>) -> Result<Views, AllocError> {
+    let found = unimplemented(inspector)?;
+    let mut views: Views = BTreeMap::new(inspector.alloc);
+    for one in &found {
+        add_sender(inspector, *one, &mut views)?;
+    }
+    Ok(views)
+}
+
+/// Returns the selectors that live methods send and no live method has, in the order of the
+/// methods.
+fn unimplemented(inspector: &Inspector<'_>) -> Result<Vec<Unimplemented>, AllocError>
+    ensures inside { IfOk result (λ found.
+        All (λ it. it.selector < object_count inspector.now.live.graph.heap.now) found.items) }
+    ensures senders { IfOk result (λ found.
+        All (λ it. IsMethodName inspector.now.live.graph.heap.now
+        inspector.now.live.graph.weak it.sender) found.items) }
+{
+    let (alloc, graph) = (inspector.alloc, inspector.live.graph);
+    let implemented = marked_selectors(alloc, graph.heap, &live_methods(inspector)?)?;
+    unimplemented_of(alloc, graph, &distinct_methods(inspector)?, &implemented)
 }
 
 /// Adds a sender of a selector, unless it was the last one that was added. An object without
