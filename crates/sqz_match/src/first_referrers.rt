@@ -11,7 +11,7 @@ use std::alloc::{AllocError, Global};
 
 /// The first two references that live objects hold to an object: by index, and the class word of an
 /// object before its fields.
-#[derive(Clone, Copy, Debug, PartialEq, Eq)]
+#[derive(Clone, Copy)]
 pub struct FirstReferrers {
     /// None if there is no reference.
     pub first: Option<Referrer>,

@@ -3,7 +3,7 @@
 use sqz_object::ObjectIndex;
 
 /// An object that retains more than its partner in the old image, or that is new.
-#[derive(Clone, Copy, Debug, PartialEq, Eq)]
+#[derive(Clone, Copy)]
 pub struct Holder {
     /// The index of the object in the new image.
     pub object: ObjectIndex,
