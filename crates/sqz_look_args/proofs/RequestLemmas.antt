@@ -1,5 +1,5 @@
 -- What is read of the matches of a subcommand.
--- Serves the functions of `requests`.
+-- Serves the functions of `requests`, `questions` and `values`.
 use Rattle.std.proofs.Common.{◌≡◌, ◌∙◌, ◌||◌, Bool, true, false, List, [], Option, Some, None, codes, is_some, refl, sym, ap}
 use Rattle.std.specs.Prelude.{Box, bytes_eq, map, option_and_then, option_map, slice_get, unwrap_or}
 use Rattle.std.specs.Borrow.{Bor}

@@ -1,6 +1,6 @@
 //! What is asked about the code of an image.
 
-use crate::requests::{flag_of, joined, values_of};
+use crate::values::{flag_of, joined, values_of};
 use clap::ArgMatches;
 use std::alloc::{AllocError, Global};
 

@@ -1,6 +1,6 @@
 //! What a class histogram says.
 
-use crate::requests::flag_of;
+use crate::values::flag_of;
 use clap::ArgMatches;
 
 /// What a class histogram says.

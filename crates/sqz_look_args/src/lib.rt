@@ -10,9 +10,11 @@ mod grouping;
 pub mod laws;
 mod list_order;
 mod percent;
+mod questions;
 mod requests;
 mod subcommands;
 mod top_options;
+mod values;
 
 pub use bad_request::BadRequest;
 pub use code_question::CodeQuestion;

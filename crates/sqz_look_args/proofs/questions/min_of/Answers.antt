@@ -1,7 +1,7 @@
 use Rattle.std.proofs.Common.{codes}
 use Rattle.clap.specs.Words.{found_of}
 use Rattle.sqz_look_args.proofs.RequestLemmas.{first_value-read}
-use Rattle.sqz_look_args.proofs.requests.min_of.Goals as goal
+use Rattle.sqz_look_args.proofs.questions.min_of.Goals as goal
 
 pub unwrap-requires : goal.unwrap-requires
 unwrap-requires c =

@@ -4,7 +4,7 @@ use Rattle.std.specs.Option.{option_eq}
 use mathlib.Core.Bool.{beq}
 use Rattle.clap.specs.Words.{found_of}
 use Rattle.sqz_look_args.proofs.RequestLemmas.{flag_given}
-use Rattle.sqz_look_args.proofs.requests.flag_of.Goals as goal
+use Rattle.sqz_look_args.proofs.values.flag_of.Goals as goal
 
 -- true was read exactly if what was read is true, and nothing counts as false
 is_true-read : (read : Option Bool) → option_eq beq read (Some true) ≡ unwrap_or read false

@@ -3,7 +3,7 @@ use Rattle.std.proofs.lemmas.Result.{IfOk-weaker}
 use Rattle.clap.specs.Walk.{texts}
 use Rattle.clap.specs.Words.{found_of}
 use Rattle.sqz_look_args.proofs.RequestLemmas.{values_given}
-use Rattle.sqz_look_args.proofs.requests.values_of.Goals as goal
+use Rattle.sqz_look_args.proofs.values.values_of.Goals as goal
 
 pub returns-in-Some : goal.returns-in-Some
 returns-in-Some c =
