@@ -1,6 +1,6 @@
 //! The text in the boxes of a drawing.
 
-use crate::layout::{Span, pixels, top_of};
+use crate::layout::{Pixels, Span, top_of};
 use crate::rows::Row;
 use crate::share::Share;
 use crate::xml::XmlText;
@@ -45,8 +45,7 @@ fn line_of_text(alloc: Global, line: &str, left: u64, bottom: u64) -> Result<Str
     if line.is_empty() {
         return Ok(String::new(alloc));
     }
-    let left = pixels(alloc, left)?;
-    let line = XmlText(line);
+    let (left, line) = (Pixels(left), XmlText(line));
     format!(in alloc; "<text x=\"{left}\" y=\"{bottom}\">{line}</text>")
 }
 

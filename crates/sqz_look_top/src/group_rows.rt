@@ -53,18 +53,34 @@ impl LabelledGroups {
     ) -> Result<Self, AllocError>
         requires { root < object_count inspector.now.live.graph.heap.now }
     {
-        let mut rows = Vec::with_capacity(inspector.alloc, found.len())?;
-        let mut names = Vec::with_capacity(inspector.alloc, found.len())?;
+        let mut labelled = LabelledGroups {
+            rows: Vec::with_capacity(inspector.alloc, found.len())?,
+            names: Vec::with_capacity(inspector.alloc, found.len())?,
+        };
         for row in found {
-            let name = match row.what {
-                GroupedObjects::Group { key } => groups.name(inspector, key)?,
-                GroupedObjects::Root | GroupedObjects::Smaller { .. } => None,
-            };
-            let label = label_of(inspector, root, *row, name.as_ref())?;
-            rows.push(row_of(*row, label, name.as_ref())?)?;
-            names.push(name)?;
+            labelled.add(inspector, groups, root, *row)?;
         }
-        Ok(LabelledGroups { rows, names })
+        Ok(labelled)
+    }
+
+    /// Adds a row, given the object of the first row.
+    fn add(
+        &mut self,
+        inspector: &Inspector<'_>,
+        groups: &ObjectGroups,
+        root: ObjectIndex,
+        row: GroupedRow,
+    ) -> Result<(), AllocError>
+        requires { root < object_count inspector.now.live.graph.heap.now }
+    {
+        let name = match row.what {
+            GroupedObjects::Group { key } => groups.name(inspector, key)?,
+            GroupedObjects::Root | GroupedObjects::Smaller { .. } => None,
+        };
+        let label = label_of(inspector, root, row, name.as_ref())?;
+        self.rows.push(row_of(row, label, name.as_ref())?)?;
+        self.names.push(name)?;
+        Ok(())
     }
 }
 

@@ -14,11 +14,11 @@ pub(crate) const KINDS: [Kind; 7] = [
 ];
 
 /// The endings of the names of classes whose instances are classes: `Point class`, `Metaclass`.
-const METACLASSES: [&str; 2] = [" class", "Metaclass"];
+const METACLASSES: &[&str] = &[" class", "Metaclass"];
 
 /// The beginnings of the names of categories, and the kinds of the objects of their classes. The
 /// first one that fits decides.
-const CATEGORIES: [(&str, Kind); 8] = [
+const CATEGORIES: &[(&str, Kind)] = &[
     ("Kernel-Classes", Kind::Class),
     ("Kernel-Methods", Kind::Code),
     ("Collections-Strings", Kind::Text),
@@ -30,7 +30,7 @@ const CATEGORIES: [(&str, Kind); 8] = [
 ];
 
 /// The names of classes, and the kinds of their instances.
-const CLASSES: [(&str, Kind); 44] = [
+const CLASSES: &[(&str, Kind)] = &[
     ("Association", Kind::Class),
     ("ReadOnlyVariableBinding", Kind::Class),
     ("Array", Kind::Collection),
@@ -78,7 +78,7 @@ const CLASSES: [(&str, Kind); 44] = [
 ];
 
 /// What the objects of a row are.
-#[derive(Clone, Copy, Debug, PartialEq, Eq)]
+#[derive(Clone, Copy)]
 pub(crate) enum Kind {
     /// Classes, and the variables of classes and of the image.
     Class,
@@ -137,13 +137,13 @@ impl Kind {
     /// Returns the kind of the objects of a class or category.
     fn of_group(name: &str) -> Kind {
         for ending in METACLASSES {
-            if name.ends_with(ending) {
+            if name.ends_with(*ending) {
                 return Kind::Class;
             }
         }
         for (beginning, kind) in CATEGORIES {
-            if name.starts_with(beginning) {
-                return kind;
+            if name.starts_with(*beginning) {
+                return *kind;
             }
         }
         Kind::of_class(name)
@@ -152,8 +152,8 @@ impl Kind {
     /// Returns the kind of the instances of a class that is no metaclass.
     fn of_class(name: &str) -> Kind {
         for (class, kind) in CLASSES {
-            if name == class {
-                return kind;
+            if name == *class {
+                return *kind;
             }
         }
         Kind::Other

@@ -2,6 +2,7 @@
 
 use crate::rows::Row;
 use std::alloc::{AllocError, Global};
+use std::fmt;
 
 /// The width of a drawing in pixels.
 pub(crate) const WIDTH: u64 = 900;
@@ -19,7 +20,7 @@ pub(crate) const HEAD_HEIGHT: u64 = 56;
 const MOST_DRAWN: u64 = 500;
 
 /// Where a box is, across: in hundredths of a pixel from the left.
-#[derive(Clone, Copy, Debug, PartialEq, Eq)]
+#[derive(Clone, Copy)]
 pub(crate) struct Span {
     pub(crate) left: u64,
     pub(crate) width: u64,
@@ -64,9 +65,15 @@ pub(crate) fn height_of(rows: &[Row]) -> u64 {
     height
 }
 
-/// Returns hundredths of a pixel as pixels.
-pub(crate) fn pixels(alloc: Global, hundredths: u64) -> Result<String, AllocError> {
-    format!(in alloc; "{}.{:02}", hundredths / 100, hundredths % 100)
+/// Hundredths of a pixel, printed as pixels.
+#[derive(Clone, Copy)]
+pub(crate) struct Pixels(pub(crate) u64);
+
+impl fmt::Display for Pixels {
+    fn fmt<W: fmt::Write>(&self, f: &mut fmt::Formatter<W>) -> fmt::Result {
+        let hundredths = self.0;
+        write!(f, "{}.{:02}", hundredths / 100, hundredths % 100)
+    }
 }
 
 /// Returns how far from the left a number of bytes is, in hundredths of a pixel.

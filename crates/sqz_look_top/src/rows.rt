@@ -10,7 +10,7 @@ use sqz_answers::{GroupCount, TopObjects, TopRow, TopRows};
 use sqz_look_view::{Hex, Inspector};
 use sqz_names::Label;
 use sqz_object::ObjectIndex;
-use std::alloc::AllocError;
+use std::alloc::{AllocError, Global};
 use std::collections::BTreeSet;
 
 /// A row with its label. One that stands for several smaller objects has no address and no class.
@@ -131,19 +131,40 @@ fn stands_for(row: Option<TopRow>, class: ObjectIndex) -> bool {
 
 /// Adds the addresses to the labels of rows below one row that read the same.
 fn make_distinct(inspector: &Inspector<'_>, rows: &mut [Row]) -> Result<(), AllocError> {
-    let alloc = inspector.alloc;
-    let (mut seen, mut repeated) = (BTreeSet::new(alloc), BTreeSet::new(alloc));
-    for row in rows.iter() {
-        if !seen.insert(key_of(row)?)? {
-            repeated.insert(key_of(row)?)?;
+    let repeated = repeated_keys(inspector.alloc, rows)?;
+    for row in rows.iter_mut() {
+        add_address(inspector.alloc, &repeated, row)?;
+    }
+    Ok(())
+}
+
+/// What rows below one row that read the same have in common: the address of that row, and their
+/// label.
+type Keys = BTreeSet<(u32, String)>;
+
+/// Returns the keys that several rows have.
+fn repeated_keys(alloc: Global, rows: &[Row]) -> Result<Keys, AllocError> {
+    let mut seen = BTreeSet::new(alloc);
+    let mut repeated = BTreeSet::new(alloc);
+    for row in rows {
+        if !add_key(&mut seen, row)? {
+            add_key(&mut repeated, row)?;
         }
     }
-    for row in rows.iter_mut() {
-        if let Some(address) = row.address
-            && repeated.contains(&key_of(row)?)
-        {
-            row.label = format!(in alloc; "{} {address}", row.label)?;
-        }
+    Ok(repeated)
+}
+
+/// Adds the key of a row, and returns whether it was not there.
+fn add_key(keys: &mut Keys, row: &Row) -> Result<bool, AllocError> {
+    Ok(keys.insert(key_of(row)?)?)
+}
+
+/// Adds the address of a row to its label, if several rows have its key.
+fn add_address(alloc: Global, repeated: &Keys, row: &mut Row) -> Result<(), AllocError> {
+    if let Some(address) = row.address
+        && repeated.contains(&key_of(row)?)
+    {
+        row.label = format!(in alloc; "{} {address}", row.label)?;
     }
     Ok(())
 }

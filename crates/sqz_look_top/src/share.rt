@@ -3,7 +3,7 @@
 use std::fmt;
 
 /// A part of a whole, printed as a percentage with one digit after the point.
-#[derive(Clone, Copy, Debug, PartialEq, Eq)]
+#[derive(Clone, Copy)]
 pub(crate) struct Share {
     pub(crate) part: u64,
     pub(crate) whole: u64,

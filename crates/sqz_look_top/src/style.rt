@@ -3,7 +3,6 @@
 use crate::kinds::KINDS;
 use sqz_image::Sink;
 use sqz_look_view::{Out, PrintError};
-use std::alloc::Global;
 
 /// The rules of a light page except those of kinds. The script gives the class `above` to boxes
 /// above the one that is zoomed, and `found` to boxes that match a search. It draws `strips` for
@@ -33,18 +32,23 @@ text{fill:#f0f3f6}
 .strips rect{stroke:#6e7681}
 .outline{stroke:#f0f3f6}";
 
+/// Prints the rule with the colour of the boxes of a class.
+fn print_fill<C: Sink>(class: &str, colour: &str, out: &mut Out<'_, C>) -> Result<(), PrintError> {
+    out.text(&format_args!(".{class} rect{{fill:{colour}}}"))
+}
+
 /// Prints the style.
-pub(crate) fn print_style<C: Sink>(alloc: Global, out: &mut Out<'_, C>) -> Result<(), PrintError> {
+pub(crate) fn print_style<C: Sink>(out: &mut Out<'_, C>) -> Result<(), PrintError> {
     out.text(&"<style>")?;
     for kind in KINDS {
         let look = kind.look();
-        out.text(&format!(in alloc; ".{} rect{{fill:{}}}", look.name, look.light)?)?;
+        print_fill(look.name, look.light, out)?;
     }
     out.text(&LIGHT)?;
     out.text(&"@media (prefers-color-scheme:dark){")?;
     for kind in KINDS {
         let look = kind.look();
-        out.text(&format!(in alloc; ".{} rect{{fill:{}}}", look.name, look.dark)?)?;
+        print_fill(look.name, look.dark, out)?;
     }
     out.text(&DARK)?;
     out.text(&"}")?;
