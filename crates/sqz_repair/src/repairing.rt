@@ -23,7 +23,7 @@ pub struct Repaired {
 }
 
 /// Why a file was not repaired.
-#[derive(Clone, Copy, Debug, PartialEq, Eq)]
+#[derive(Clone, Copy)]
 pub enum RepairError {
     /// Out of memory.
     OutOfMemory,
