@@ -108,12 +108,17 @@ impl Serialize for PathView {
     }
 }
 
-impl fmt::Display for PathView {
-    fn fmt<W: fmt::Write>(&self, f: &mut fmt::Formatter<W>) -> fmt::Result {
-        let width = self
-            .rows
+impl PathView {
+    /// Returns the width of the column of what leads to each object, in bytes.
+    fn lead_width(&self) -> usize {
+        self.rows
             .iter()
-            .fold(0, |most: usize, row: &StepView| most.max(row.lead.len()));
+            .fold(0, |most: usize, row: &StepView| most.max(row.lead.len()))
+    }
+
+    /// Writes a line for each step, and one for those that are left out.
+    fn write_rows<W: fmt::Write>(&self, f: &mut fmt::Formatter<W>) -> fmt::Result {
+        let width = self.lead_width();
         // the first line is about the special objects array, which leads to itself
         for (index, row) in self.rows.iter().enumerate().skip(1) {
             if self.cut > 0 && index == HALF + 1 {
@@ -121,6 +126,13 @@ impl fmt::Display for PathView {
             }
             write_step(f, row, width)?;
         }
+        Ok(())
+    }
+}
+
+impl fmt::Display for PathView {
+    fn fmt<W: fmt::Write>(&self, f: &mut fmt::Formatter<W>) -> fmt::Result {
+        self.write_rows(f)?;
         let steps = Counted(self.steps as u64, "step");
         write!(f, "\n{steps}")?;
         if self.has_hidden {

@@ -13,7 +13,7 @@ use sqz_object::ObjectIndex;
 use std::alloc::AllocError;
 
 /// A step of a path that is a row.
-#[derive(Clone, Copy, Debug, PartialEq, Eq)]
+#[derive(Clone, Copy)]
 pub(crate) struct PathStep {
     /// The object before the step.
     pub(crate) owner: ObjectIndex,

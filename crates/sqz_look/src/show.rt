@@ -176,13 +176,12 @@ impl ObjectView {
         let bytes = self.bytes;
         write!(f, "\n  {:<10}", "size")?;
         write_bytes(f, bytes)?;
-        f.write_str(", ")?;
         match self.retained {
             Some(retained) => {
-                f.write_str("retains ")?;
+                f.write_str(", retains ")?;
                 write_amount(f, retained, 0)?;
             }
-            None => f.write_str("not reachable")?,
+            None => f.write_str(", not reachable")?,
         }
         let words = Counted(u64::from(self.header_words), "word");
         let (format, hash, compact) = (self.format, self.hash, self.compact_index);

@@ -4,7 +4,7 @@ ghost use Rattle.std.specs.Prelude.{◌<◌};
 ghost use Rattle.sqz_image.specs.Objects.{object_count};
 ghost use Rattle.sqz_facts.specs.Held.{PointsBelow};
 
-use serde::Serialize;
+use serde::{Described, Serialize, Serializer};
 use sqz_answers::ShownSlot;
 use sqz_facts::{Held, SlotFacts};
 use sqz_look_view::{Hex, Inspector, ObjectLabel, SlotName, SlotNames};
@@ -20,14 +20,34 @@ pub(crate) enum SlotValue {
 }
 
 /// What the word of a slot is.
-#[derive(Clone, Copy, Drop, Serialize)]
-#[serde(rename_all = "lowercase")]
+#[derive(Clone, Copy)]
 pub(crate) enum SlotKind {
     Integer,
     Pointer,
     Weak,
     Untraced,
     Bad,
+}
+
+impl SlotKind {
+    /// Returns the name of the kind in the JSON form.
+    fn name(self) -> &'static str {
+        match self {
+            SlotKind::Integer => "integer",
+            SlotKind::Pointer => "pointer",
+            SlotKind::Weak => "weak",
+            SlotKind::Untraced => "untraced",
+            SlotKind::Bad => "bad",
+        }
+    }
+}
+
+impl Described for SlotKind {}
+
+impl Serialize for SlotKind {
+    fn serialize<S: Serializer>(&self, out: &mut S) -> Result<(), S::Error> {
+        self.name().serialize(out)
+    }
 }
 
 /// A slot and what it holds.

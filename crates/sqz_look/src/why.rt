@@ -59,18 +59,34 @@ pub fn print_why<C: Sink>(
 ) -> Result<(), PrintError>
     requires { object < object_count inspector.now.live.graph.heap.now }
 {
-    let found = why_kept(inspector.alloc, inspector.live.graph, object)?;
-    let path = match &found {
-        Some(path) => Some(PathView::of(inspector, path, raw, out.is_cut())?),
-        None => None,
-    };
-    out.emit(&WhyView {
-        address: inspector.address(object),
-        class: inspector.names.name_of_class_of(object)?,
-        label: ObjectLabel::of(inspector, object)?,
-        bytes: inspector.bytes(object),
-        retained: found.as_ref().map(|path| path.retained),
-        is_weakly_held: found.as_ref().is_some_and(|path| path.is_weakly_held),
-        path,
-    })
+    let is_cut = out.is_cut();
+    out.emit(&WhyView::of(inspector, object, raw, is_cut)?)
+}
+
+impl WhyView {
+    /// Returns a shortest path to an object; of a long one only the first and the last rows if
+    /// `is_cut`.
+    fn of(
+        inspector: &Inspector<'_>,
+        object: ObjectIndex,
+        raw: bool,
+        is_cut: bool,
+    ) -> Result<Self, AllocError>
+        requires { object < object_count inspector.now.live.graph.heap.now }
+    {
+        let found = why_kept(inspector.alloc, inspector.live.graph, object)?;
+        let path = match &found {
+            Some(path) => Some(PathView::of(inspector, path, raw, is_cut)?),
+            None => None,
+        };
+        Ok(WhyView {
+            address: inspector.address(object),
+            class: inspector.names.name_of_class_of(object)?,
+            label: ObjectLabel::of(inspector, object)?,
+            bytes: inspector.bytes(object),
+            retained: found.as_ref().map(|path| path.retained),
+            is_weakly_held: found.as_ref().is_some_and(|path| path.is_weakly_held),
+            path,
+        })
+    }
 }
