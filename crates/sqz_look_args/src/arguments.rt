@@ -45,76 +45,76 @@ pub(crate) enum Argument {
 pub(crate) fn arg_of<'a>(alloc: Global, argument: Argument) -> Result<Arg<'a>, AllocError>
     ensures { IfOk result (HasRule (argument_rule argument)) }
 {
-    Ok(match argument {
-        Argument::Image => required(alloc, "IMAGE", "The image to inspect"),
-        Argument::Images => several(alloc, "IMAGE", "The images to inspect"),
-        Argument::Old => required(alloc, "OLD", "The old image"),
-        Argument::New => required(alloc, "NEW", "The new image"),
-        Argument::Object => several(
+    match argument {
+        Argument::Image => Ok(required(alloc, "IMAGE", "The image to inspect")),
+        Argument::Images => Ok(several(alloc, "IMAGE", "The images to inspect")),
+        Argument::Old => Ok(required(alloc, "OLD", "The old image")),
+        Argument::New => Ok(required(alloc, "NEW", "The new image")),
+        Argument::Object => Ok(several(
             alloc,
             "OBJECT",
             "An address in hexadecimal digits, a class, or a method as Point>>+; after `--` each \
              word is an object, and `-` takes those of standard input, one on each line",
-        ),
-        Argument::Root => optional(
+        )),
+        Argument::Root => Ok(optional(
             alloc,
             "OBJECT",
             "The object of the first row, as for `why` [default: the special objects array]",
-        ),
-        Argument::Class => several(
+        )),
+        Argument::Class => Ok(several(
             alloc,
             "CLASS",
             "A class by its name or address, or `compact K`",
-        ),
-        Argument::ClassOrMethod => optional(
+        )),
+        Argument::ClassOrMethod => Ok(optional(
             alloc,
             "CODE",
             "A class, or a method as Point>>+ [default: the tree of all classes]",
-        ),
-        Argument::Selector => required(alloc, "SELECTOR", "A selector, as at:put:"),
-        Argument::Pattern => required(
+        )),
+        Argument::Selector => Ok(required(alloc, "SELECTOR", "A selector, as at:put:")),
+        Argument::Pattern => Ok(required(
             alloc,
             "REGEX",
             "A regular expression with the syntax of Rust's regex crate, for bytes",
-        ),
-        Argument::Nil => flag(
+        )),
+        Argument::Nil => Ok(flag(
             alloc,
             "nil",
             "Replace the pointers of live objects that lead nowhere by nil",
-        ),
-        Argument::Strict => flag(
+        )),
+        Argument::Strict => Ok(flag(
             alloc,
             "strict",
             "Warn about what a virtual machine would trip over, too",
-        ),
-        Argument::Classes => classes(alloc)?,
-        Argument::Unsent => unsent(alloc)?,
-        Argument::Unimplemented => unimplemented(alloc)?,
-        Argument::AllFaults => flag(
+        )),
+        Argument::Classes => classes(alloc),
+        Argument::Unsent => unsent(alloc),
+        Argument::Unimplemented => unimplemented(alloc),
+        Argument::AllFaults => Ok(flag(
             alloc,
             "all",
             "Print the first fault of every object, and not only that of the first",
-        ),
-        Argument::All => flag(alloc, "all", "Print all, and not only the first 20 rows"),
-        Argument::Dead => flag(alloc, "dead", "Count the objects that are not live"),
-        Argument::Retained => retained(alloc)?,
-        Argument::DeadInstances => flag(alloc, "dead", "List the instances that are not live"),
-        Argument::By => by(
+        )),
+        Argument::All => Ok(flag(alloc, "all", "Print all, and not only the first 20 rows")),
+        Argument::Dead => Ok(flag(alloc, "dead", "Count the objects that are not live")),
+        Argument::Retained => retained(alloc),
+        Argument::DeadInstances => Ok(flag(alloc, "dead", "List the instances that are not live")),
+        Argument::By => Ok(by(
             alloc,
             "ORDER",
             "List first those that retain most, or the largest: retained or size",
-        ),
-        Argument::GroupBy => by(
+        )),
+        Argument::GroupBy => Ok(by(
             alloc,
             "GROUP",
             "Group the objects on each level by their class or its category: class or category",
-        ),
-        Argument::Raw => flag(alloc, "raw", "Print each step of the path"),
-        Argument::Depth => depth(alloc),
-        Argument::Min => min(alloc),
-        Argument::Folded => folded(alloc)?,
-        Argument::Svg => svg(alloc)?,
-    })
+        )),
+        Argument::Raw => Ok(flag(alloc, "raw", "Print each step of the path")),
+        Argument::Depth => Ok(depth(alloc)),
+        Argument::Min => Ok(min(alloc)),
+        Argument::Folded => folded(alloc),
+        Argument::Svg => svg(alloc),
+    }
 }
 
 /// Returns the option that asks for the tree of all classes.

@@ -4,7 +4,7 @@ use crate::values::flag_of;
 use clap::ArgMatches;
 
 /// What a class histogram says.
-#[derive(Clone, Copy, PartialEq, Eq)]
+#[derive(Clone, Copy)]
 pub enum Counting {
     /// The number and the bytes of the live objects of each class.
     Live,

@@ -3,7 +3,7 @@
 use std::str::FromStr;
 
 /// What the objects on a level of a tree are grouped by.
-#[derive(Clone, Copy, PartialEq, Eq)]
+#[derive(Clone, Copy)]
 pub enum Grouping {
     /// Their class.
     Class,
@@ -12,7 +12,7 @@ pub enum Grouping {
 }
 
 /// A text is no grouping.
-#[derive(Clone, Copy, PartialEq, Eq)]
+#[derive(Clone, Copy)]
 pub struct BadGrouping;
 
 impl FromStr for Grouping {

@@ -3,7 +3,7 @@
 use std::str::FromStr;
 
 /// The order of a list of instances.
-#[derive(Clone, Copy, PartialEq, Eq)]
+#[derive(Clone, Copy)]
 pub enum ListOrder {
     /// Those that retain most first.
     Retained,
@@ -12,7 +12,7 @@ pub enum ListOrder {
 }
 
 /// A text is no order.
-#[derive(Clone, Copy, PartialEq, Eq)]
+#[derive(Clone, Copy)]
 pub struct BadOrder;
 
 impl FromStr for ListOrder {

@@ -11,13 +11,13 @@ const PARTS: u32 = 1_000_000;
 const DECIMALS: usize = 6;
 
 /// A percentage from 0 to 100, in millionths of a percent.
-#[derive(Clone, Copy, PartialEq, Eq, PartialOrd, Ord)]
+#[derive(Clone, Copy)]
 pub struct Percent {
     millionths: u32,
 }
 
 /// A text is no percentage.
-#[derive(Clone, Copy, PartialEq, Eq)]
+#[derive(Clone, Copy)]
 pub struct BadPercent;
 
 impl FromStr for Percent {

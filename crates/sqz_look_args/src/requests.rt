@@ -66,7 +66,7 @@ pub enum Question<'a> {
 }
 
 /// A question that is asked about each of some images.
-#[derive(Clone, Copy, PartialEq, Eq)]
+#[derive(Clone, Copy)]
 pub enum EachQuestion {
     Info,
     Census(Counting),
@@ -106,7 +106,7 @@ pub struct ObjectsAsked {
 }
 
 /// Which instances of a class are listed.
-#[derive(Clone, Copy, PartialEq, Eq)]
+#[derive(Clone, Copy)]
 pub enum Instances {
     /// The live ones, in an order.
     Live(ListOrder),
@@ -115,7 +115,7 @@ pub enum Instances {
 }
 
 /// A question about an object.
-#[derive(Clone, Copy, PartialEq, Eq)]
+#[derive(Clone, Copy)]
 pub enum ObjectQuestion {
     Show,
     Why { raw: bool },

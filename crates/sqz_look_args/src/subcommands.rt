@@ -6,7 +6,7 @@ ghost use Rattle.sqz_look_args.specs.CommandLine.{listed_of, name_of, subcommand
 use crate::arguments::Argument;
 
 /// The name of a subcommand.
-#[derive(Clone, Copy, PartialEq, Eq)]
+#[derive(Clone, Copy)]
 pub(crate) enum Name {
     Check,
     Mend,

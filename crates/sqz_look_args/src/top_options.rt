@@ -4,7 +4,7 @@ use crate::grouping::Grouping;
 use crate::percent::Percent;
 
 /// The form in which a tree is printed.
-#[derive(Clone, Copy, PartialEq, Eq)]
+#[derive(Clone, Copy)]
 pub enum TopForm {
     /// A line for each row, as text or as JSON.
     Rows,
@@ -15,7 +15,7 @@ pub enum TopForm {
 }
 
 /// How much of a tree is printed, and in which form.
-#[derive(Clone, Copy, PartialEq, Eq)]
+#[derive(Clone, Copy)]
 pub struct TopOptions {
     pub form: TopForm,
     /// What the objects on each level are grouped by. None if each has a row of its own.
