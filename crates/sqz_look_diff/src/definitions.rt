@@ -1,6 +1,6 @@
 //! The definitions of classes.
 
-ghost use Rattle.std.specs.Prelude.{◌<◌};
+ghost use Rattle.std.specs.Prelude.{◌<◌, IfSome};
 ghost use Rattle.sqz_image.specs.Objects.{object_count};
 
 use crate::name_list::NameList;
@@ -45,6 +45,23 @@ impl DefinitionChanges {
             variables: Vec::new(alloc),
             categories: Vec::new(alloc),
         }
+    }
+
+    /// Returns what differs between the definitions of two images.
+    fn between(alloc: Global, old: &Definitions, new: &Definitions) -> Result<Self, AllocError> {
+        let mut changes = DefinitionChanges::none(alloc);
+        for (name, definitions) in old.iter() {
+            match new.get(name.as_str()) {
+                Some(others) => changes.add(alloc, name.as_str(), definitions, others)?,
+                None => changes.add(alloc, name.as_str(), definitions, &[])?,
+            }
+        }
+        for (name, definitions) in new.iter() {
+            if !old.contains_key(name.as_str()) {
+                changes.add(alloc, name.as_str(), &[], definitions)?;
+            }
+        }
+        Ok(changes)
     }
 
     /// Returns the number of changes.
@@ -119,19 +136,7 @@ pub(crate) fn definition_changes(
     let alloc = old.alloc;
     let old = definitions_in(old, &mut names.texts.whole, &mut names.old.whole)?;
     let new = definitions_in(new, &mut names.texts.whole, &mut names.new.whole)?;
-    let mut changes = DefinitionChanges::none(alloc);
-    for (name, definitions) in old.iter() {
-        match new.get(name.as_str()) {
-            Some(others) => changes.add(alloc, name.as_str(), definitions, others)?,
-            None => changes.add(alloc, name.as_str(), definitions, &[])?,
-        }
-    }
-    for (name, definitions) in new.iter() {
-        if !old.contains_key(name.as_str()) {
-            changes.add(alloc, name.as_str(), &[], definitions)?;
-        }
-    }
-    Ok(changes)
+    DefinitionChanges::between(alloc, &old, &new)
 }
 
 /// Returns the definitions of the live classes of an image.
@@ -149,19 +154,35 @@ fn definitions_in(
             continue;
         }
         let name = names.class(inspector, numbers, class)?;
-        let category = match categories.of_class(inspector, organizer, class)? {
-            Some(category) => names.text(inspector, numbers, category)?,
-            None => None,
-        };
-        let definition = Definition {
-            superclass: superclass_text(inspector, names, numbers, class)?,
-            variables: variables_of(inspector, names, numbers, class)?,
-            category,
-        };
+        let category = categories.of_class(inspector, organizer, class)?;
+        let definition = definition_of(inspector, names, numbers, class, category)?;
         let same_name = found.entry(name)?.or_insert(Vec::new(alloc));
         same_name.push(definition)?;
     }
     Ok(found)
+}
+
+/// Returns the definition of a class in a category.
+fn definition_of(
+    inspector: &Inspector<'_>,
+    names: &mut WholeNames,
+    numbers: &mut Numbers,
+    class: ObjectIndex,
+    category: Option<ObjectIndex>,
+) -> Result<Definition, AllocError>
+    requires class { class < object_count inspector.now.live.graph.heap.now }
+    requires category { IfSome category (λ category.
+        category < object_count inspector.now.live.graph.heap.now) }
+{
+    let category = match category {
+        Some(category) => names.text(inspector, numbers, category)?,
+        None => None,
+    };
+    Ok(Definition {
+        superclass: superclass_text(inspector, names, numbers, class)?,
+        variables: variables_of(inspector, names, numbers, class)?,
+        category,
+    })
 }
 
 /// Returns the name of the superclass of a class, or `nil`.

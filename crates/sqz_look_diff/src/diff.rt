@@ -44,7 +44,7 @@ pub fn print_diff<C: Sink>(
     };
     print_differences(new, &differences, out)?;
     print_alikeness(old, new, alikeness, differences.is_empty(), out)?;
-    Ok(alikeness == Alikeness::Alike)
+    Ok(matches!(alikeness, Alikeness::Alike))
 }
 
 /// Prints what differs, each kind under a heading.

@@ -17,7 +17,7 @@ use std::collections::BTreeMap;
 pub(crate) const MOST_CHARACTERS: usize = 80;
 
 /// A name of a method: the numbers of its class and of its selector.
-#[derive(Clone, Copy, Debug, PartialEq, Eq, PartialOrd, Ord)]
+#[derive(Clone, Copy, PartialEq, Eq, PartialOrd, Ord)]
 pub(crate) struct MethodKey {
     pub(crate) class: usize,
     pub(crate) selector: usize,

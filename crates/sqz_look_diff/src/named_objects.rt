@@ -8,7 +8,7 @@ use sqz_object::ObjectIndex;
 use std::alloc::{AllocError, Global};
 
 /// The name of an object, by the numbers of its texts.
-#[derive(Clone, Copy, Debug, PartialEq, Eq, PartialOrd, Ord)]
+#[derive(Clone, Copy, PartialEq, Eq, PartialOrd, Ord)]
 enum ObjectName {
     Class(usize),
     /// The association of a variable.

@@ -84,16 +84,63 @@ pub(crate) fn variable_changes(
     let old = held_in(old, numbers, &mut of_old.whole, &matched.old, &[])?;
     let (dominators, shares) = (&matched.new.dominators, matched.new.shares.as_slice());
     let new = held_in(new, numbers, &mut of_new.whole, dominators, shares)?;
-    let mut changes = changes_of(alloc, &old.bytes, &new.bytes)?;
-    sort_by_difference(&mut changes)?;
-    let values = value_changes(alloc, &old.values, &new.values)?;
+    let changes = byte_changes(alloc, &old, &new)?;
     Ok(VariableChanges {
         changes,
-        values,
+        values: value_changes(alloc, &old.values, &new.values)?,
         old_set: old.set,
         new_set: new.set,
         new_bytes: new.shares,
     })
+}
+
+/// Returns the variables that were added or removed, or retain more or less, largest change first.
+fn byte_changes(
+    alloc: Global,
+    old: &Holdings,
+    new: &Holdings,
+) -> Result<Vec<Change<u64>>, AllocError> {
+    let mut changes = changes_of(alloc, &old.bytes, &new.bytes)?;
+    sort_by_difference(&mut changes)?;
+    Ok(changes)
+}
+
+impl Holdings {
+    /// Adds the value of a variable.
+    fn add_value(
+        &mut self,
+        inspector: &Inspector<'_>,
+        label: &String,
+        association: ObjectIndex,
+        value: Option<ObjectIndex>,
+    ) -> Result<(), AllocError>
+        requires association { association < object_count inspector.now.live.graph.heap.now }
+        requires value { IfSome value (λ value.
+            value < object_count inspector.now.live.graph.heap.now) }
+    {
+        if !is_nil(inspector, value)? {
+            self.set.insert(label.clone()?)?;
+        }
+        let text = value_text(inspector, association, value)?;
+        self.values.add(label.clone()?, text)?;
+        Ok(())
+    }
+
+    /// Adds the bytes that the association of a variable retains, and its share.
+    fn add_bytes(
+        &mut self,
+        label: String,
+        bytes: u64,
+        share: Option<u64>,
+    ) -> Result<(), AllocError> {
+        if let Some(share) = share {
+            let total = self.shares.entry(label.clone()?)?.or_insert(0);
+            *total = total.saturating_add(share);
+        }
+        let total = self.bytes.entry(label)?.or_insert(0);
+        *total = total.saturating_add(bytes);
+        Ok(())
+    }
 }
 
 /// Returns what the variables of an image hold, by their names. Variables with one name are added
@@ -121,17 +168,9 @@ fn held_in(
         if let Some(variable) = inspector.names.variable(association)?
             && let Some(label) = names.variable(inspector, numbers, *name)?
         {
-            if !is_nil(inspector, variable.value)? {
-                held.set.insert(label.clone()?)?;
-            }
-            let value = value_text(inspector, association, variable.value)?;
-            held.values.add(label.clone()?, value)?;
-            if let Some(share) = shares.get(association as usize) {
-                let total = held.shares.entry(label.clone()?)?.or_insert(0);
-                *total = total.saturating_add(*share);
-            }
-            let bytes = held.bytes.entry(label)?.or_insert(0);
-            *bytes = bytes.saturating_add(dominators.retained(association).bytes);
+            held.add_value(inspector, &label, association, variable.value)?;
+            let share = shares.get(association as usize).copied();
+            held.add_bytes(label, dominators.retained(association).bytes, share)?;
         }
     }
     Ok(held)
