@@ -15,7 +15,7 @@ pub(crate) enum Cause {
 }
 
 /// What an unsupported file is.
-#[derive(Clone, Copy, Debug, PartialEq, Eq, Drop, Serialize)]
+#[derive(Clone, Copy, Drop, Serialize)]
 #[serde(untagged)]
 pub(crate) enum FileKind {
     /// A file that begins as those of an archiver do: `gzip` or `zip`.

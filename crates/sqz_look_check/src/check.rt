@@ -104,10 +104,7 @@ impl CheckView<'_> {
         let path = self.image;
         let numbers = (self.objects, self.live_objects, self.live_bytes);
         if let ((Some(objects), Some(live), Some(bytes)), true) = (numbers, self.sound) {
-            let objects = Counted(u64::from(objects), "object");
-            write!(f, "{path}: sound, {objects}, {live} live, ")?;
-            write_bytes(f, bytes)?;
-            return f.write_str(" live");
+            return write_sound(f, path, objects, live, bytes);
         }
         for (index, fault) in self.faults.iter().enumerate() {
             if index > 0 {
@@ -123,6 +120,20 @@ impl CheckView<'_> {
     }
 }
 
+/// Writes that an image is sound, with its objects, its live objects and their bytes.
+fn write_sound<W: fmt::Write>(
+    f: &mut fmt::Formatter<W>,
+    path: &str,
+    objects: u32,
+    live: u32,
+    bytes: u64,
+) -> fmt::Result {
+    let objects = Counted(u64::from(objects), "object");
+    write!(f, "{path}: sound, {objects}, {live} live, ")?;
+    write_bytes(f, bytes)?;
+    f.write_str(" live")
+}
+
 /// What is asked about the soundness of an image.
 #[derive(Clone, Copy)]
 pub struct CheckOptions {
@@ -133,7 +144,7 @@ pub struct CheckOptions {
 }
 
 /// What was found of an image.
-#[derive(Clone, Copy, Debug, PartialEq, Eq)]
+#[derive(Clone, Copy)]
 pub struct Verdict {
     /// Whether there is no fault for which a compaction rejects the image.
     pub is_sound: bool,
@@ -159,18 +170,29 @@ pub fn print_check<C: Sink>(
         verdict.has_warnings) }
 {
     let findings = findings_of(rt, subject.alloc, &subject.live, options.all)?;
-    let mut view = CheckView::of(&subject, path, &findings)?;
     let warned = warnings_in(&subject, options.strict)?;
     let verdict = Verdict {
         is_sound: findings.is_sound(),
         has_warnings: warned.are_some,
     };
-    view.warnings = warned.views;
-    if !verdict.is_sound {
-        view.add_owners(&Inspector::of(subject)?)?;
-    }
+    let view = view_of(subject, path, &findings, warned.views)?;
     out.emit(&view)?;
     Ok(verdict)
+}
+
+/// Returns what was found about an image, with the names of the objects at fault.
+fn view_of<'a>(
+    subject: Subject<'_>,
+    path: &'a str,
+    findings: &Findings,
+    warnings: Option<Vec<WarningView>>,
+) -> Result<CheckView<'a>, AllocError> {
+    let mut view = CheckView::of(&subject, path, findings)?;
+    view.warnings = warnings;
+    if !view.sound {
+        view.add_owners(&Inspector::of(subject)?)?;
+    }
+    Ok(view)
 }
 
 /// The warnings about an image, if these are asked for, and whether there are some.

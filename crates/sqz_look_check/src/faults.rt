@@ -152,8 +152,19 @@ fn owner_of(
     let Some(slot) = slot else {
         return Ok(Some(label));
     };
-    let slot = SlotNames::of(inspector, object)?.text(slot)?;
+    let slot = slot_text(inspector, object, slot)?;
     Ok(Some(format!(in inspector.alloc; "{label}, {slot}")?))
+}
+
+/// Returns the name of a slot of an object.
+fn slot_text(
+    inspector: &Inspector<'_>,
+    object: ObjectIndex,
+    slot: Slot,
+) -> Result<String, AllocError>
+    requires { object < object_count inspector.now.live.graph.heap.now }
+{
+    SlotNames::of(inspector, object)?.text(slot)
 }
 
 /// Returns the data word of a slot of an object, or of its base header.

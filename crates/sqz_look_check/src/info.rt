@@ -8,7 +8,7 @@ use sqz_image::{Header, Sink};
 use sqz_look_view::{Counted, Hex, Inspector, Out, PrintError, Subject, write_bytes};
 use sqz_object::Order;
 use sqz_trace::first_fault;
-use std::alloc::Global;
+use std::alloc::{AllocError, Global};
 use std::fmt;
 use std::thread::Threads;
 
@@ -53,29 +53,42 @@ pub fn print_info<C: Sink>(
     out: &mut Out<'_, C>,
 ) -> Result<(), PrintError> {
     let facts = file_facts(subject.image, &subject.live.marks);
-    let fault = match first_fault(rt, &subject.live) {
-        Some(fault) => {
-            let mut view = FaultView::in_image(&subject, fault)?;
-            view.add_owner(&Inspector::of(subject)?, true)?;
-            Some(view)
-        }
-        None => None,
+    let fault = fault_in(rt, subject)?;
+    out.emit(&InfoView::of_image(path, facts, fault))
+}
+
+/// Returns the first fault of an image, with what has the object at fault.
+fn fault_in(
+    rt: &(impl Threads + Sync),
+    subject: Subject<'_>,
+) -> Result<Option<FaultView>, AllocError> {
+    let Some(fault) = first_fault(rt, &subject.live) else {
+        return Ok(None);
     };
-    out.emit(&InfoView {
-        image: path,
-        order: Some(name_of(facts.order)),
-        offset: Some(facts.offset as usize),
-        base: Some(Hex(facts.base)),
-        data_bytes: Some(facts.data_bytes),
-        special_objects: Some(Hex(facts.special_objects)),
-        objects: Some(facts.objects),
-        live_objects: Some(facts.live_objects),
-        live_bytes: Some(facts.live_bytes),
-        dead_bytes: Some(facts.dead_bytes),
-        free_chunks: Some(facts.free_chunks),
-        fault,
-        text: InfoText::Facts(facts),
-    })
+    let mut view = FaultView::in_image(&subject, fault)?;
+    view.add_owner(&Inspector::of(subject)?, true)?;
+    Ok(Some(view))
+}
+
+impl<'a> InfoView<'a> {
+    /// Returns what the file of an image holds.
+    fn of_image(path: &'a str, facts: FileFacts, fault: Option<FaultView>) -> Self {
+        InfoView {
+            image: path,
+            order: Some(name_of(facts.order)),
+            offset: Some(facts.offset as usize),
+            base: Some(Hex(facts.base)),
+            data_bytes: Some(facts.data_bytes),
+            special_objects: Some(Hex(facts.special_objects)),
+            objects: Some(facts.objects),
+            live_objects: Some(facts.live_objects),
+            live_bytes: Some(facts.live_bytes),
+            dead_bytes: Some(facts.dead_bytes),
+            free_chunks: Some(facts.free_chunks),
+            fault,
+            text: InfoText::Facts(facts),
+        }
+    }
 }
 
 /// Prints what could be read of a file from which no image could be read, and why not.
@@ -151,12 +164,13 @@ fn write_facts<W: fmt::Write>(f: &mut fmt::Formatter<W>, facts: FileFacts) -> fm
     let dead = objects.saturating_sub(facts.live_objects);
     let dead = Counted(u64::from(dead), "object");
     let free = Counted(u64::from(facts.free_chunks), "chunk");
-    writeln!(f, "{:<16}{base}", "base")?;
-    write!(f, "{:<16}", "data")?;
+    write!(f, "{:<16}{base}\n{:<16}", "base", "data")?;
     write_bytes(f, data)?;
-    f.write_str("\n")?;
-    writeln!(f, "{:<16}{special}", "special objects")?;
-    writeln!(f, "{:<16}{objects}", "objects")?;
+    writeln!(
+        f,
+        "\n{:<16}{special}\n{:<16}{objects}",
+        "special objects", "objects"
+    )?;
     write_sum(f, "live", live, live_bytes)?;
     write_sum(f, "dead", dead, dead_bytes)?;
     write_sum(f, "free", free, free_bytes)
@@ -181,8 +195,11 @@ fn write_place<W: fmt::Write>(
     offset: usize,
 ) -> fmt::Result {
     let order = name_of(order);
-    writeln!(f, "{:<16}{order}", "order")?;
-    writeln!(f, "{:<16}byte {offset}", "header at")
+    writeln!(
+        f,
+        "{:<16}{order}\n{:<16}byte {offset}",
+        "order", "header at"
+    )
 }
 
 /// Writes the header of a file from which no image could be read, four words in a line.

@@ -3,7 +3,7 @@
 use std::io::ErrorKind;
 
 /// Why a file cannot be read.
-#[derive(Clone, Copy, Debug, PartialEq, Eq)]
+#[derive(Clone, Copy)]
 pub enum ReadFailure {
     /// There is no such file.
     NotFound,

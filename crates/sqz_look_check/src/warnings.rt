@@ -133,24 +133,48 @@ impl fmt::Display for WarningView {
                 class,
                 has,
                 stated,
-            } => {
-                let class = class.as_str();
-                write!(f, "{class} {address} has {has}; its class states {stated}")
-            }
-            WarningView::MethodDictionary { address } => {
-                write!(
-                    f,
-                    "method dictionary {address} has fewer methods than selectors"
-                )
-            }
-            WarningView::NoKey { address } => write!(f, "association {address} has no key"),
-            WarningView::Gap { word, byte, bytes } => {
-                write_bytes(f, *bytes)?;
-                write!(
-                    f,
-                    " at word {word} (byte {byte}) are no chunk that pointers agree with"
-                )
-            }
+            } => write_shape(f, class.as_str(), *address, *has, *stated),
+            WarningView::MethodDictionary { address } => write_dictionary(f, *address),
+            WarningView::NoKey { address } => write_association(f, *address),
+            WarningView::Gap { word, byte, bytes } => write_gap(f, *word, *byte, *bytes),
         }
     }
+}
+
+/// Writes what an object has, and what its class states.
+fn write_shape<W: fmt::Write>(
+    f: &mut fmt::Formatter<W>,
+    class: &str,
+    address: Hex,
+    has: ShapeView,
+    stated: ShapeView,
+) -> fmt::Result {
+    write!(f, "{class} {address} has {has}; its class states {stated}")
+}
+
+/// Writes what a method dictionary is short of.
+fn write_dictionary<W: fmt::Write>(f: &mut fmt::Formatter<W>, address: Hex) -> fmt::Result {
+    write!(
+        f,
+        "method dictionary {address} has fewer methods than selectors"
+    )
+}
+
+/// Writes what an association is short of.
+fn write_association<W: fmt::Write>(f: &mut fmt::Formatter<W>, address: Hex) -> fmt::Result {
+    write!(f, "association {address} has no key")
+}
+
+/// Writes where a gap is.
+fn write_gap<W: fmt::Write>(
+    f: &mut fmt::Formatter<W>,
+    word: WordIndex,
+    byte: u64,
+    bytes: u64,
+) -> fmt::Result {
+    write_bytes(f, bytes)?;
+    write!(
+        f,
+        " at word {word} (byte {byte}) are no chunk that pointers agree with"
+    )
 }
