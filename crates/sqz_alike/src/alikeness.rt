@@ -12,7 +12,7 @@ use sqz_trace::Live;
 use std::alloc::{AllocError, Global};
 
 /// Whether two images are alike.
-#[derive(Clone, Copy, PartialEq, Eq)]
+#[derive(Clone, Copy)]
 pub enum Alikeness {
     /// The live objects correspond one to one.
     Alike,

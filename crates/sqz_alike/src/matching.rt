@@ -7,7 +7,7 @@ use sqz_object::ObjectIndex;
 use std::alloc::{AllocError, Global};
 
 /// An object of the old image, and one of the new image.
-#[derive(Clone, Copy, PartialEq, Eq)]
+#[derive(Clone, Copy)]
 pub struct Pair {
     pub old: ObjectIndex,
     pub new: ObjectIndex,
