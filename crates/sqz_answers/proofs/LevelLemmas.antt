@@ -1,8 +1,8 @@
 -- The level below a row, once its objects are found and sorted.
--- Serves `levels::TopTree::level_of`, `rows::push_rows`, `TopRowLemmas` and `LevelSumLemmas`.
-use Rattle.std.proofs.Common.{◌≡◌, ◌≢◌, ◌*◌, ◌<◌, ◌≤◌, ℕ, Bool, false, true≢false, List, length, get_or, eqb, All}
-use Rattle.std.proofs.Common.{Some, refl, sym, ap, ◌∙◌, arith, inl, inr}
-use Rattle.std.specs.Prelude.{Contains, slice_index, sum_by}
+-- Serves `levels::TopTree::in_order` and `::level_of`, `rows::push_rows`, `TopRowLemmas` and `LevelSumLemmas`.
+use Rattle.std.proofs.Common.{◌≡◌, ◌≢◌, ◌+◌, ◌*◌, ◌<◌, ◌≤◌, ℕ, Bool, false, true≢false, List, [], ◌∷◌, length, map, get_or, eqb, All}
+use Rattle.std.proofs.Common.{Some, refl, sym, ap, subst, ◌∙◌, arith, inl, inr}
+use Rattle.std.specs.Prelude.{Contains, slice_index, slice_index_or, sum_by}
 use Rattle.std.specs.List.{AllPairs}
 use Rattle.std.specs.List.Sorted.{IsPermutation, IsSortedBy}
 use Rattle.std.specs.Ordering.{nat_cmp, is_lt, ordering_then}
@@ -11,17 +11,18 @@ use Rattle.std.specs.declared.cmp.Reverse.{Reverse}
 use Rattle.std.proofs.lemmas.Bool.{cases_eq, ne_eqb}
 use Rattle.std.proofs.lemmas.Bool.Decides.{Decides-eqb}
 use Rattle.std.proofs.lemmas.Cmp.{nat_cmp_total, on_total, back_total, then_total, ranked, by_ranked}
-use Rattle.std.proofs.lemmas.List.{get_or_default}
-use Rattle.std.proofs.lemmas.List.Elements.{All-contains, Contains-get_or}
+use Rattle.std.proofs.lemmas.List.{get_or-map, get_or_default, length-map}
+use Rattle.std.proofs.lemmas.List.Elements.{All-contains, All-map, Contains-get_or}
 use Rattle.std.proofs.lemmas.List.MinMax.{ranks_by}
-use Rattle.std.proofs.lemmas.List.Sorted.{Contains-permutation, IsPermutation-sym, sorted_far}
+use Rattle.std.proofs.lemmas.List.Sorted.{All-permutation, Contains-permutation, IsPermutation-map, IsPermutation-sym, sorted_far}
 use Rattle.std.proofs.lemmas.Map.Keys.{IsDistinct-IsPermutation}
 use Rattle.std.proofs.lemmas.Map.Made.{AllPairs-from_IsDistinct, IsDistinct-from_AllPairs}
 use Rattle.sqz_image.specs.Objects.{Memory, object_count, chunk_words}
 use Rattle.sqz_trace.specs.declared.weak.Weak.{Weak}
 use Rattle.sqz_dominators.specs.Children.{retained_bytes}
 use Rattle.sqz_dominators.specs.Retained.{DominatorTree, AreDominators}
-use Rattle.sqz_answers.specs.Levels.{parent_of, held_value, is_joined, IsPart, IsBelow, RetainsMore, IsLevel}
+use Rattle.sqz_answers.specs.declared.levels.MeasuredObject.{MeasuredObject}
+use Rattle.sqz_answers.specs.Levels.{parent_of, held_value, is_before, is_joined, IsPart, IsBelow, RetainsMore, IsLevel}
 use Rattle.sqz_answers.specs.Levels.IsPart.{itself, joined}
 use Rattle.sqz_answers.specs.Splits.{IsSplit}
 use Rattle.sqz_answers.specs.Variables.{Variables}
@@ -31,19 +32,62 @@ use Rattle.sqz_answers.proofs.SplitLemmas.{few_apart, child_inside}
 
 module _ (tree : DominatorTree) where
   -- what objects are sorted by
-  abbrev pub sort_key : ℕ → Reverse ℕ × ℕ
-  sort_key object = (record { 0 = retained_bytes tree object }, object)
+  abbrev pub measured_key : MeasuredObject → Reverse ℕ × ℕ
+  measured_key measured = (record { 0 = measured.retained }, measured.object)
 
-  abbrev pub is_before : ℕ → ℕ → Bool
-  is_before one other = is_lt (ordering_then (nat_cmp (retained_bytes tree other) (retained_bytes tree one)) (nat_cmp one other))
+  abbrev pub object_of : MeasuredObject → ℕ
+  object_of measured = measured.object
 
-  is_before-order : IsStrictWeakOrder is_before
+  abbrev pub measured_by : ℕ → MeasuredObject
+  measured_by object = record { object = object; retained = retained_bytes tree object }
+
+  abbrev pub IsMeasured : MeasuredObject → Type 0
+  IsMeasured measured = measured ≡ measured_by measured.object
+
+  abbrev pub is_before_measured : MeasuredObject → MeasuredObject → Bool
+  is_before_measured one other = is_lt (ordering_then (nat_cmp other.retained one.retained) (nat_cmp one.object other.object))
+
+  -- objects that were measured are these objects
+  measured_objects : (objects : List ℕ) → map object_of (map measured_by objects) ≡ objects
+  measured_objects [] = refl
+  measured_objects (object ∷ objects) = ap (λ rest. object ∷ rest) (measured_objects objects)
+
+  -- sorted with what they retain they are in another order
+  pub IsPermutation-measured : (objects : List ℕ) (sorted : List MeasuredObject) → IsPermutation (map measured_by objects) sorted
+      → IsPermutation objects (map object_of sorted)
+  IsPermutation-measured objects sorted moved =
+      subst (λ all. IsPermutation all (map object_of sorted)) (measured_objects objects)
+      (IsPermutation-map object_of (map measured_by objects) sorted moved)
+
+  -- with what each retains
+  pub IsMeasured-sorted : (objects : List ℕ) (sorted : List MeasuredObject) → IsPermutation (map measured_by objects) sorted
+      → All IsMeasured sorted
+  IsMeasured-sorted objects sorted moved =
+      All-permutation IsMeasured (map measured_by objects) sorted moved
+      (All-map IsMeasured measured_by objects (λ k d lt. refl))
+
+  -- objects sorted with what they retain are sorted
+  pub in_order-measured : (sorted : List MeasuredObject) → All IsMeasured sorted
+      → IsSortedBy is_before_measured sorted → IsSortedBy (is_before tree) (map object_of sorted)
+  in_order-measured sorted measured in_order k d low below =
+      let long = length-map sorted object_of in
+      let none : MeasuredObject = record { object = d; retained = 0 } in
+      let next = slice_index_or sorted (k + 1) none in
+      let here = slice_index_or sorted k none in
+      let next_inside : k + 1 < length sorted = omega (arith, below, long) in
+      let here_inside : k < length sorted = omega (arith, next_inside) in
+      rw (get_or-map object_of sorted (k + 1) none d next_inside, get_or-map object_of sorted k none d here_inside)
+      (subst (λ (one : MeasuredObject). is_before_measured (measured_by next.object) one ≡ false) (measured k none here_inside)
+      (subst (λ (one : MeasuredObject). is_before_measured one here ≡ false) (measured (k + 1) none next_inside)
+      (in_order k none low next_inside)))
+
+  is_before-order : IsStrictWeakOrder (is_before tree)
   is_before-order =
       ranks_by (then_total (back_total (on_total (retained_bytes tree) nat_cmp_total)) (on_total (λ (object : ℕ). object) nat_cmp_total))
       (λ object. object)
 
   -- of two objects, where the second does not come before the first
-  not_before : (one other : ℕ) → is_before other one ≡ false → one ≢ other → RetainsMore tree one other
+  not_before : (one other : ℕ) → is_before tree other one ≡ false → one ≢ other → RetainsMore tree one other
   not_before one other late apart =
       let here = retained_bytes tree one in
       let there = retained_bytes tree other in
@@ -71,10 +115,10 @@ module _ (tree : DominatorTree) where
       ]
 
   RetainsMore-sorted : (below sorted : List ℕ) → AllPairs (λ one other. one ≢ other) below → IsPermutation below sorted
-      → IsSortedBy is_before sorted → AllPairs (RetainsMore tree) sorted
+      → IsSortedBy (is_before tree) sorted → AllPairs (RetainsMore tree) sorted
   RetainsMore-sorted below sorted once moved in_order i j d lt inside =
       let still = IsDistinct-IsPermutation eqb flips below sorted moved (IsDistinct-from_AllPairs Decides-eqb below once) in
-      not_before (get_or sorted i d) (get_or sorted j d) (sorted_far is_before is_before-order sorted in_order i j d (omega arith) inside)
+      not_before (get_or sorted i d) (get_or sorted j d) (sorted_far (is_before tree) is_before-order sorted in_order i j d (omega arith) inside)
       (AllPairs-from_IsDistinct Decides-eqb sorted still i j d lt inside)
 
 -- ---- the level

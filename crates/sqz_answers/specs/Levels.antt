@@ -2,6 +2,7 @@
 use Rattle.std.specs.Prelude.{◌≡◌, ◌≢◌, ◌↔◌, ◌⊎◌, ◌==◌, ◌||◌, ◌*◌, ◌<◌, ℕ, Bool, true, false, if◌then◌else◌, List, length, sum_by}
 use Rattle.std.specs.Prelude.{slice_index_or, Option, Some, None, Contains}
 use Rattle.std.specs.List.{AllPairs}
+use Rattle.std.specs.Ordering.{nat_cmp, is_lt, ordering_then}
 use Rattle.sqz_image.specs.Objects.{Memory, chunk_words}
 use Rattle.sqz_dominators.specs.Children.{retained_bytes}
 use Rattle.sqz_dominators.specs.Retained.{DominatorTree}
@@ -48,6 +49,11 @@ pub record IsBelow (tree : DominatorTree) (variables : Variables) (object below 
 abbrev pub RetainsMore : DominatorTree → ℕ → ℕ → Type 0
 RetainsMore tree one other = (retained_bytes tree other < retained_bytes tree one)
     ⊎ ((retained_bytes tree one ≡ retained_bytes tree other) × (one < other))
+
+-- whether an object comes before another by this order
+abbrev pub is_before : DominatorTree → ℕ → ℕ → Bool
+is_before tree one other =
+    is_lt (ordering_then (nat_cmp (retained_bytes tree other) (retained_bytes tree one)) (nat_cmp one other))
 
 -- the bytes of the chunks of all parts of a row, header words included, and the objects on the
 -- level below it, in order

@@ -1,11 +1,11 @@
 //! The level below a row.
 
 ghost use Rattle.std.specs.Prelude.{◌≡◌, ◌<◌, ◌≤◌, ◌^◌, ◌*◌, ◌++◌, All, IfOk, OnOk};
-ghost use Rattle.std.specs.Prelude.{length, not, sum_by};
+ghost use Rattle.std.specs.Prelude.{length, map, not, sum_by};
 ghost use Rattle.std.specs.List.{filter};
+ghost use Rattle.std.specs.List.Sorted.{IsPermutation, IsSortedBy};
 ghost use Rattle.sqz_image.specs.Objects.{object_count, chunk_words};
-ghost use Rattle.sqz_dominators.specs.Children.{retained_bytes};
-ghost use Rattle.sqz_answers.specs.Levels.{held_value, is_joined};
+ghost use Rattle.sqz_answers.specs.Levels.{held_value, is_before, is_joined};
 ghost use Rattle.sqz_answers.specs.Splits.{IsSplitOf};
 ghost use Rattle.sqz_answers.specs.TopTrees.{IsTopTree, IsLevelOf, children_in};
 
@@ -37,6 +37,24 @@ struct Split {
     below: Vec<ObjectIndex>,
 }
 
+/// An object with the bytes that it retains.
+#[derive(Clone, Copy)]
+struct MeasuredObject {
+    object: ObjectIndex,
+    retained: u64,
+}
+
+/// Returns the objects without what they retain.
+fn objects_of(alloc: Global, measured: &[MeasuredObject]) -> Result<Vec<ObjectIndex>, AllocError>
+    ensures { IfOk result (λ objects. objects.items ≡ map (λ one. one.object) measured.now) }
+{
+    let mut objects = Vec::with_capacity(alloc, measured.len())?;
+    for one in measured {
+        objects.push(one.object)?;
+    }
+    Ok(objects)
+}
+
 impl TopTree<'_> {
     /// Returns the level below the row of an object.
     pub(crate) fn level_of(&self, alloc: Global, object: ObjectIndex) -> Result<Level, AllocError>
@@ -47,16 +65,32 @@ impl TopTree<'_> {
         let value = self.held_value(object);
         let split = self.split(alloc, object, value)?;
         let own = own_bytes(self.graph.heap, &split.parts);
-        let mut below = split.below;
-        below.sort_unstable_by_key(
-            |object: &ObjectIndex| -> (Reverse<u64>, ObjectIndex)
-                ensures { result ≡ (
-                  record { 0 = retained_bytes self.entry.now.dominators.now object.now },
-                  object.now,
-                ) }
-            { (Reverse(self.dominators.retained(*object).bytes), *object) },
-        );
+        let below = self.in_order(alloc, &split.below)?;
         Ok(Level { value, own, below })
+    }
+
+    /// Returns objects in the order of what they retain, most first; on a tie by index.
+    fn in_order(
+        &self,
+        alloc: Global,
+        objects: &[ObjectIndex],
+    ) -> Result<Vec<ObjectIndex>, AllocError>
+        ensures permutation { IfOk result (λ sorted. IsPermutation objects.now sorted.items) }
+        ensures sorted { IfOk result (λ sorted.
+            IsSortedBy (is_before self.now.dominators.now) sorted.items) }
+    {
+        let mut measured = Vec::with_capacity(alloc, objects.len())?;
+        for object in objects {
+            let retained = self.dominators.retained(*object).bytes;
+            let object = *object;
+            measured.push(MeasuredObject { object, retained })?;
+        }
+        measured.sort_unstable_by_key(
+            |one: &MeasuredObject| -> (Reverse<u64>, ObjectIndex)
+                ensures { result ≡ (record { 0 = one.now.retained }, one.now.object) }
+            { (Reverse(one.retained), one.object) },
+        );
+        objects_of(alloc, &measured)
     }
 
     /// Returns the parts of the row of an object, and the other children of these. Each object is a

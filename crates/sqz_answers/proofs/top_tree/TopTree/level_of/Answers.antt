@@ -1,8 +1,7 @@
-use Rattle.std.proofs.Common.{◌≡◌, ◌*◌, ◌∙◌, ap, length, arith, rules}
+use Rattle.std.proofs.Common.{◌≡◌, ◌*◌, ◌∙◌, ap, length, arith}
 use Rattle.std.specs.Prelude.{sum_by}
-use Rattle.std.proofs.lemmas.Fn.{always_returns_same}
 use Rattle.sqz_image.specs.Objects.{chunk_words}
-use Rattle.sqz_answers.proofs.LevelLemmas.{sort_key, IsLevel-sorted}
+use Rattle.sqz_answers.proofs.LevelLemmas.{IsLevel-sorted}
 use Rattle.sqz_answers.proofs.SplitLemmas.{parts-inside, parts-few}
 use Rattle.sqz_answers.proofs.top_tree.TopTree.level_of.Goals as goal
 
@@ -28,11 +27,11 @@ returns c =
     let top = c.args.self.now in
     let memory = top.graph.heap.now in
     let split = c.in_ok-split.split in
-    let done = c.sort_unstable_by_key.ensures in
+    let done = c.in_ok-below.ensures in
     record {
       value = c.held_value-value.ensures;
       is = IsLevel-sorted memory top.dominators.now top.parts.now c.args.object split.parts.items split.below.items c.in_ok-split.ensures
-          c.own_bytes-own.result c.sort_unstable_by_key.new.self.items
+          c.own_bytes-own.result c.in_ok-below.below.items
           (c.own_bytes-own.ensures ∙ ap (λ parts. 4 * sum_by (λ part. length (chunk_words memory part)) parts) c.deref.ensures.value)
-          done.permutation (done.sorted (sort_key top.dominators.now) (always_returns_same _ _ _ (λ a r f h. search rules)));
+          (rw c.deref-2.ensures.value at done.permutation) done.sorted;
     }
