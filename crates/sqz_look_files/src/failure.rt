@@ -11,7 +11,7 @@ use sqz_repair::RepairError;
 use std::alloc::{AllocError, Global};
 
 /// Why a question has no answer.
-#[derive(Debug, Drop)]
+#[derive(Drop)]
 pub enum Failure {
     /// Memory ran out.
     OutOfMemory,

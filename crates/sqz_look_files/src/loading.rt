@@ -28,7 +28,7 @@ pub(crate) enum LoadedPast {
 }
 
 /// Why it is not known what a file holds.
-#[derive(Clone, Copy, Debug, PartialEq, Eq)]
+#[derive(Clone, Copy)]
 pub(crate) enum LoadError {
     /// Memory ran out.
     OutOfMemory,
