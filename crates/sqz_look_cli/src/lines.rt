@@ -16,7 +16,7 @@ const LINES: &str = "-";
 const APART: &str = "--";
 
 /// Why there are no lines.
-#[derive(Clone, Copy, Debug, PartialEq, Eq)]
+#[derive(Clone, Copy)]
 enum BadLines {
     /// Memory ran out.
     OutOfMemory,
