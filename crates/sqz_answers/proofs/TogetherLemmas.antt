@@ -16,6 +16,7 @@ use Rattle.sqz_trace.specs.Dead.{bytes_in}
 use Rattle.sqz_trace.specs.Graph.{Graph, Leads, is_marked}
 use Rattle.sqz_trace.specs.Live.{live}
 use Rattle.sqz_trace.specs.Reachability.{graph_from, IsReachability}
+use Rattle.sqz_trace.proofs.SoundMarkingLemmas.{both_true}
 use Rattle.sqz_histogram.specs.declared.group.Group.{Group}
 use Rattle.sqz_histogram.specs.declared.group.GroupTotal.{GroupTotal}
 use Rattle.sqz_histogram.specs.Groups.{IsInside, group_of}
@@ -82,11 +83,6 @@ any-found test (suc bound) found =
     or_false : (b : Bool) → (b || false) ≡ b
     or_false true = refl
     or_false false = refl
-
-both_true : (one other : Bool) → (one && other) ≡ true → (one ≡ true) × (other ≡ true)
-both_true true true both = (refl, refl)
-both_true true false both = absurd (true≢false (sym both))
-both_true false other both = absurd (true≢false (sym both))
 
 all_true : (one other : Bool) → one ≡ true → other ≡ true → (one && other) ≡ true
 all_true one other first second = rw (first, second) refl

@@ -60,7 +60,7 @@ module _ (graph : Graph) where
         along = λ from to marked edge. reached.complete to (IsReachable-next from to (reached.sound from marked) edge);
       }
 
-same_mark : (one other : Bool) → (one ≡ true → other ≡ true) → (other ≡ true → one ≡ true) → one ≡ other
+pub same_mark : (one other : Bool) → (one ≡ true → other ≡ true) → (other ≡ true → one ≡ true) → one ≡ other
 same_mark true other f g = sym (f refl)
 same_mark false true f g = g refl
 same_mark false false f g = refl

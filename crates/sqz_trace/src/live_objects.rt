@@ -26,7 +26,8 @@ pub struct Live<'a> {
 }
 
 impl<'a> Live<'a> {
-    /// Marks the live objects of a heap, in one thread.
+    /// Marks the live objects of a heap, in one thread, and notes whether all that is reached is
+    /// sound.
     pub fn of(alloc: Global, graph: ObjectGraph<'a>) -> Result<Self, AllocError>
         ensures { IfOk result (λ live. live.graph ≡ graph.entry) }
     {
