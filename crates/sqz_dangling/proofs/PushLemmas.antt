@@ -1,6 +1,6 @@
 -- The patches of slots one after the other.
 -- Serves `pushing::push_fields` and `pushing::push_patches`.
-use Rattle.std.proofs.Common.{◌≡◌, ℕ, zero, suc, ◌+◌, ◌-◌, ◌<◌, Bool, true, cond, List, [], ◌∷◌, ◌++◌, map}
+use Rattle.std.proofs.Common.{◌≡◌, ℕ, ◌+◌, ◌-◌, ◌<◌, Bool, true, cond, List, [], ◌∷◌, ◌++◌, map}
 use Rattle.std.proofs.Common.{slice_index, Option, IsSome, Contains, refl, sym, ap, ◌∙◌, arith}
 use Rattle.std.proofs.lemmas.List.{append-nil, append_assoc, map-append}
 use Rattle.std.proofs.lemmas.List.Elements.{filter-append, Contains-append_left, Contains-append_right}
@@ -9,47 +9,13 @@ use Rattle.sqz_image.specs.declared.slot.Slot.{Slot}
 use Rattle.sqz_image.specs.declared.slot.Slot.TheVariants.{Field}
 use Rattle.sqz_image.specs.Objects.{Memory, Object}
 use Rattle.sqz_trace.specs.Slots.{traced, field_slots}
-use Rattle.sqz_trace.proofs.SlotLemmas.{slot_word-field}
+use Rattle.sqz_trace.proofs.SlotLemmas.{slot_word-field, field_slots-append, fields-push}
 use Rattle.sqz_dangling.specs.declared.patch.Patch.{Patch}
 use Rattle.sqz_dangling.specs.declared.nil_error.NilError.{NilError}
 use Rattle.sqz_dangling.specs.declared.nil_error.NilError.TheVariants.{OutOfMemory, NoNil, NoSpecialObjects}
 use Rattle.sqz_dangling.specs.Dangling.{is_dangling, is_dangling_word, dangles, dangling_among}
 use Rattle.sqz_dangling.specs.Patches.{slot_patch, slot_index, nil_word}
 use Rattle.sqz_dangling.specs.Pushed.{nil_or_zero, ArePushed, IsPushError, IsMissing}
-
--- ---- the slots of one field more
-
-field_slots-push : (first count : ℕ) → field_slots first (count + 1) ≡ field_slots first count ++ Field (first + count) ∷ []
-field_slots-push first zero =
-    let same : first ≡ first + 0 = omega arith in
-    ap (λ (index : ℕ). Field index ∷ []) same
-field_slots-push first (suc count) =
-    let more : suc count + 1 ≡ suc (count + 1) = omega arith in
-    let last : suc first + count ≡ first + suc count = omega arith in
-    ap (field_slots first) more
-    ∙ ap (λ (slots : List Slot). Field first ∷ slots)
-    (field_slots-push (suc first) count
-    ∙ ap (λ (index : ℕ). field_slots (suc first) count ++ Field index ∷ []) last)
-
-fields-push : (count : ℕ) → field_slots 0 (count + 1) ≡ field_slots 0 count ++ Field count ∷ []
-fields-push count =
-    let same : 0 + count ≡ count = omega arith in
-    field_slots-push 0 count ∙ ap (λ (index : ℕ). field_slots 0 count ++ Field index ∷ []) same
-
--- the slots of fields, and of those after them
-field_slots-append : (first count more : ℕ)
-    → field_slots first (count + more) ≡ field_slots first count ++ field_slots (first + count) more
-field_slots-append first zero more =
-    let none : 0 + more ≡ more = omega arith in
-    let same : first ≡ first + 0 = omega arith in
-    ap (field_slots first) none ∙ ap (λ (index : ℕ). field_slots index more) same
-field_slots-append first (suc count) more =
-    let next : suc count + more ≡ suc (count + more) = omega arith in
-    let last : suc first + count ≡ first + suc count = omega arith in
-    ap (field_slots first) next
-    ∙ ap (λ (slots : List Slot). Field first ∷ slots)
-    (field_slots-append (suc first) count more
-    ∙ ap (λ (index : ℕ). field_slots (suc first) count ++ field_slots index more) last)
 
 module _ (memory : Memory) (chunk : List ℕ) where
   -- a field dangles if its word leads nowhere

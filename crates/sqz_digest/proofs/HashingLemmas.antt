@@ -1,6 +1,6 @@
 -- Steps of the walk that are hashed.
 -- Serves `object::hash_header`, `::hash_slot`, `::hash_slots` and `::hash_object`.
-use Rattle.std.proofs.Common.{◌≡◌, ℕ, zero, suc, ◌+◌, List, [], ◌∷◌, ◌++◌, length, Option, Some, None, sym, ap, subst, ◌∙◌, arith}
+use Rattle.std.proofs.Common.{◌≡◌, ℕ, ◌+◌, List, [], ◌∷◌, ◌++◌, length, Option, Some, None, sym, ap, subst, ◌∙◌}
 use Rattle.std.specs.Prelude.{fold, filter_map, flat_map}
 use Rattle.std.specs.List.{cons_option}
 use Rattle.std.proofs.lemmas.Grind.{flat_map-append}
@@ -17,9 +17,8 @@ use Rattle.sqz_object.specs.Reading.{description}
 use Rattle.sqz_object.specs.Value.{base_of}
 use Rattle.sqz_object.specs.declared.order.Order.TheVariants.{Little}
 use Rattle.sqz_image.specs.declared.slot.Slot.{Slot}
-use Rattle.sqz_image.specs.declared.slot.Slot.TheVariants.{Field}
 use Rattle.sqz_image.specs.Objects.{chunk_words}
-use Rattle.sqz_trace.specs.Slots.{slot_word, traced, field_slots}
+use Rattle.sqz_trace.specs.Slots.{slot_word, traced}
 use Rattle.sqz_alike.specs.Seen.{Seen, seen_target}
 use Rattle.sqz_digest.specs.Found.{place_of, with_object, slots_of, with_targets}
 use Rattle.sqz_digest.specs.Hashing.{Takes, HashesSlots, HashesObject}
@@ -63,24 +62,6 @@ header-taken {a} {b} chunk header base kind traced_count described base_is kind_
     (Takes-then (Takes-then first_of second) third)
 
 -- ---- slots
-
--- one field more
-field_slots-push : (first count : ℕ) → field_slots first (count + 1) ≡ field_slots first count ++ Field (first + count) ∷ []
-field_slots-push first zero =
-    let same : first ≡ first + 0 = omega arith in
-    ap (λ (index : ℕ). Field index ∷ []) same
-field_slots-push first (suc count) =
-    let more : suc count + 1 ≡ suc (count + 1) = omega arith in
-    let last : suc first + count ≡ first + suc count = omega arith in
-    ap (field_slots first) more
-    ∙ ap (λ (slots : List Slot). Field first ∷ slots)
-    (field_slots-push (suc first) count
-    ∙ ap (λ (index : ℕ). field_slots (suc first) count ++ Field index ∷ []) last)
-
-pub fields-push : (count : ℕ) → field_slots 0 (count + 1) ≡ field_slots 0 count ++ Field count ∷ []
-fields-push count =
-    let same : 0 + count ≡ count = omega arith in
-    field_slots-push 0 count ∙ ap (λ (index : ℕ). field_slots 0 count ++ Field index ∷ []) same
 
 module _ (seen : Seen) (object : ℕ) where
   with_targets-append : (found : List ℕ) (xs ys : List Slot)

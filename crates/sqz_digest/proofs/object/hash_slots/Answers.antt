@@ -1,9 +1,10 @@
 use Rattle.std.proofs.Common.{List, ◌∷◌, sym, subst}
 use Rattle.sqz_image.specs.declared.slot.Slot.{Slot}
 use Rattle.sqz_image.specs.declared.slot.Slot.TheVariants.{ClassWord}
+use Rattle.sqz_trace.proofs.SlotLemmas.{fields-push}
 use Rattle.sqz_alike.specs.Seen.{seen}
 use Rattle.sqz_digest.specs.Hashing.{HashesSlots}
-use Rattle.sqz_digest.proofs.HashingLemmas.{fields-push, HashesSlots-then}
+use Rattle.sqz_digest.proofs.HashingLemmas.{HashesSlots-then}
 use Rattle.sqz_digest.proofs.object.hash_slots.Goals as goal
 
 pub loop-index-preserved : goal.loop-index-preserved
