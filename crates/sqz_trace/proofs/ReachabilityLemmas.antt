@@ -2,7 +2,8 @@
 -- marked object, are the reachable objects.
 -- Serves `CopyLemmas`, `LawLemmas` and `MarkingLemmas`; `EventLemmas` of `sqz_marks`;
 -- `RemainingLemmas` of `sqz_workers`; `CopiedLemmas` of `sqz_slide`; `GroupLemmas` of
--- `sqz_histogram`; `Uniqueness` of `sqz_tool`; `TracingTest` of `sqz_test_examples`.
+-- `sqz_histogram`; `AloneLemmas` of `sqz_answers`; `Uniqueness` of `sqz_tool`; `TracingTest` of
+-- `sqz_test_examples`.
 use Rattle.std.proofs.Common.{◌≡◌, ℕ, Bool, true, false, List, [], ◌∷◌, ◌++◌, length, refl, sym, subst, ◌∙◌}
 use Rattle.std.proofs.lemmas.List.{ext_get_or}
 use Rattle.std.proofs.lemmas.Option.{same_Some}

@@ -1,5 +1,5 @@
 -- Marking that sees whether the objects that it reaches are sound.
--- Serves `marking::mark_targets` and `marking::mark_without`.
+-- Serves `marking::mark_targets` and `marking::mark_without`; `TogetherLemmas` of `sqz_answers`.
 use Rattle.std.proofs.Common.{◌≡◌, ℕ, ◌⊎◌, Bool, true, false, not, ◌&&◌, cond, List, [], ◌∷◌, ◌++◌, length}
 use Rattle.std.proofs.Common.{Some, None, refl, sym, ap, subst, ◌∙◌, arith, inl, inr}
 use Rattle.std.specs.Prelude.{Contains, slice_index}
