@@ -1,12 +1,17 @@
 //! What points to holders.
 
-ghost use Rattle.std.specs.Prelude.{All, IfOk, ℕ, ◌<◌};
+ghost use Rattle.std.specs.Prelude.{All, IfOk, List, ℕ, [], ◌++◌, ◌<◌, ◌≡◌, Some, length, map};
 ghost use Rattle.sqz_image.specs.Objects.{object_count};
-ghost use Rattle.sqz_match.specs.Referrers.{AreInside};
+ghost use Rattle.sqz_trace.specs.Edges.{strong_slots};
+ghost use Rattle.sqz_facts.specs.declared.referrers.Referrer as referrer;
+ghost use Rattle.sqz_facts.specs.Referrers.{referrers, referrers_among};
+ghost use Rattle.sqz_match.specs.Referrers.{AreFirstTwo, AreInside, AreRows, and_referrer};
+ghost use Rattle.sqz_match.specs.Referrers.{first_at, first_two, objects_of, row_of};
 
 use crate::holder::Holder;
 use sqz_facts::Referrer;
-use sqz_trace::Live;
+use sqz_object::ObjectIndex;
+use sqz_trace::{Live, OutEdges};
 use std::alloc::{AllocError, Global};
 
 /// The first two references that live objects hold to an object: by index, and the class word of an
@@ -20,10 +25,19 @@ pub struct FirstReferrers {
 }
 
 impl FirstReferrers {
-    /// Returns these references with one more.
+    /// Returns no references.
+    fn none() -> Self
+        ensures { result ≡ first_two [] }
+    {
+        FirstReferrers {
+            first: None,
+            second: None,
+        }
+    }
+
+    /// Returns these references with one more, if they are fewer than two.
     fn with(self, referrer: Referrer) -> Self
-        ensures { (count : ℕ) → AreInside count self → referrer.object < count
-            → AreInside count result }
+        ensures { result ≡ and_referrer self.first self.second referrer }
     {
         match (self.first, self.second) {
             (None, _) => FirstReferrers {
@@ -40,39 +54,96 @@ impl FirstReferrers {
 }
 
 /// Returns the first references to each holder. Takes one pass over the slots of all live objects,
-/// and sixteen bytes per object. Fails only if out of memory.
+/// and sixteen bytes per object and up to 64 per holder. Fails only if out of memory.
 pub fn find_referrers(
     alloc: Global,
     live: &Live<'_>,
     holders: &[Holder],
 ) -> Result<Vec<FirstReferrers>, AllocError>
+    ensures first { IfOk result (λ found. found.items ≡ map (λ object. first_two
+        (referrers live.now.graph.heap.now live.now.graph.weak live.now.marks object))
+        (objects_of holders.now)) }
     ensures inside { IfOk result (λ found.
         All (AreInside (object_count live.now.graph.heap.now)) found.items) }
 {
-    let mut places = vec![in alloc; None; live.graph.heap.len() as usize]?;
-    let mut found = Vec::with_capacity(alloc, holders.len())?;
-    for (place, holder) in holders.iter().enumerate() {
-        if let Some(at) = places.get_mut(holder.object as usize) {
-            *at = Some(place);
+    let rows = rows_of(alloc, live.graph.heap.len() as usize, holders)?;
+    let mut firsts = vec![in alloc; FirstReferrers::none(); holders.len()]?;
+    for from in 0..live.graph.heap.len() {
+        if live.marks.has(from) {
+            add_referrers(&live.graph.edges(from), from, &rows, &mut firsts);
         }
-        found.push(FirstReferrers {
-            first: None,
-            second: None,
+    }
+    firsts_of(alloc, &rows, &firsts, holders)
+}
+
+/// Returns by object index the place of a holder with this object; None for any other object.
+fn rows_of(
+    alloc: Global,
+    count: usize,
+    holders: &[Holder],
+) -> Result<Vec<Option<usize>>, AllocError>
+    ensures { IfOk result (λ rows.
+        AreRows count (length holders.now) (objects_of holders.now) rows.items) }
+{
+    let mut rows = vec![in alloc; None; count]?;
+    for row in 0..holders.len() {
+        let object = holders[row].object as usize;
+        if object < count {
+            rows[object] = Some(row);
+        }
+    }
+    Ok(rows)
+}
+
+/// Adds the references that an object holds to the rows of the objects that they lead to.
+fn add_referrers(
+    edges: &OutEdges<'_>,
+    from: ObjectIndex,
+    rows: &[Option<usize>],
+    firsts: &mut [FirstReferrers],
+)
+    requires inside { (object row : ℕ) → row_of rows.now object ≡ Some row
+        → row < length firsts.old }
+    requires own { (one other row : ℕ) → row_of rows.now one ≡ Some row
+        → row_of rows.now other ≡ Some row → one ≡ other }
+    ensures length { length firsts.new ≡ length firsts.old }
+    ensures added { (before : ℕ → List referrer.Referrer) → AreFirstTwo rows.now before firsts.old
+        → AreFirstTwo rows.now (λ object. before object
+        ++ referrers_among edges.now from object (strong_slots edges.now)) firsts.new }
+{
+    for slot in edges.slots() {
+        if let Some(to) = edges.target(slot)
+            && let Some(row) = row_in(rows, to)
+        {
+            firsts[row] = firsts[row].with(Referrer { object: from, slot });
+        }
+    }
+}
+
+/// Returns the references of each holder.
+fn firsts_of(
+    alloc: Global,
+    rows: &[Option<usize>],
+    firsts: &[FirstReferrers],
+    holders: &[Holder],
+) -> Result<Vec<FirstReferrers>, AllocError>
+    requires { (object row : ℕ) → row_of rows.now object ≡ Some row → row < length firsts.now }
+    ensures { IfOk result (λ found. found.items
+        ≡ map (λ object. first_at firsts.now (row_of rows.now object)) (objects_of holders.now)) }
+{
+    let mut found = Vec::with_capacity(alloc, holders.len())?;
+    for holder in holders {
+        found.push(match row_in(rows, holder.object) {
+            Some(row) => firsts[row],
+            None => FirstReferrers::none(),
         })?;
     }
-    for from in 0..live.graph.heap.len() {
-        if !live.marks.has(from) {
-            continue;
-        }
-        let edges = live.graph.edges(from);
-        for slot in edges.slots() {
-            if let Some(to) = edges.target(slot)
-                && let Some(place) = places.get(to as usize).copied().flatten()
-                && let Some(referrers) = found.get_mut(place)
-            {
-                *referrers = referrers.with(Referrer { object: from, slot });
-            }
-        }
-    }
     Ok(found)
+}
+
+/// Returns the row of an object, if it has one.
+fn row_in(rows: &[Option<usize>], object: ObjectIndex) -> Option<usize>
+    ensures { result ≡ row_of rows.now object }
+{
+    rows.get(object as usize).copied().flatten()
 }

@@ -1,12 +1,87 @@
-use Rattle.std.proofs.Common.{arith}
-use Rattle.std.proofs.lemmas.List.Elements.{All-set}
+use Rattle.std.proofs.Common.{◌≡◌, ◌∙◌, ◌++◌, ℕ, List, length, sym, ap, subst, arith}
+use Rattle.std.specs.declared.vec.Vec.{Vec}
+use Rattle.std.proofs.lemmas.List.{length-map, with_items_is}
+use Rattle.std.proofs.lemmas.Result.{IfOk-weaker}
 use Rattle.sqz_image.specs.Objects.{object_count}
-use Rattle.sqz_match.specs.Referrers.{AreInside}
+use Rattle.sqz_trace.specs.Edges.{OutEdges, strong_slots}
+use Rattle.sqz_facts.specs.Referrers.{referrers_among}
+use Rattle.sqz_match.specs.declared.holder.Holder.{Holder}
+use Rattle.sqz_match.specs.Referrers.{AreFirstTwo, AreRows, objects_of, row_of}
+use Rattle.sqz_match.proofs.ReferrerLemmas.{AreFirstTwo-same, references_below, references_below-marked, references_below-unmarked, firsts_are, firsts-inside}
 use Rattle.sqz_match.proofs.first_referrers.find_referrers.Goals as goal
+use Rattle.sqz_match.proofs.first_referrers.find_referrers.Goals.{then-has, else-has}
 
-pub loop-slot-preserved-in-loop-slot : goal.loop-slot-preserved-in-loop-slot
-loop-slot-preserved-in-loop-slot c =
-    let count = object_count c.args.live.now.graph.heap.now in
-    let before : AreInside count c.in-Some-get_mut.referrers.now = grind (arith, c.loop-slot.invariant, c.in-Some-get_mut.ensures.item) in
-    All-set (AreInside count) c.loop-slot.found.items c.in-Some-flatten.place c.with.result
-    (c.with.ensures count before (omega arith)) c.loop-slot.invariant
+pub add_referrers-requires-clause-own : goal.add_referrers-requires-clause-own
+add_referrers-requires-clause-own c =
+    let are = c.in_ok-rows.ensures in
+    let rows = sym c.deref.ensures.value in
+    λ one other row at_one at_other.
+    sym (are.own one row (ap (λ (found : List _). row_of found one) rows ∙ at_one))
+    ∙ are.own other row (ap (λ (found : List _). row_of found other) rows ∙ at_other)
+
+pub loop-from-preserved : goal.loop-from-preserved
+loop-from-preserved c =
+    let memory = c.args.live.now.graph.heap.now in
+    let weak = c.args.live.now.graph.weak in
+    let marks = c.args.live.now.marks in
+    let from = c.loop-from.from in
+    let rows = c.in_ok-rows.rows.items in
+    let before = references_below memory weak marks from in
+    elim c.if-has.branch [
+      | then-has w ↦
+          let items = ap (λ (found : Vec _ _). found.items) w.firsts-is
+          ∙ with_items_is c.loop-from.firsts w.add_referrers.new.firsts (w.add_referrers.ensures.length ∙ w.deref_mut.ensures.len) in
+          let added =
+          w.add_referrers.ensures.added before
+          (rw w.deref.ensures.value (rw w.deref_mut.ensures.value c.loop-from.invariant.begun)) in
+          let marked = sym c.has.ensures ∙ w.if-has.true in
+          record {
+            same_length =
+                ap length items
+                ∙ w.add_referrers.ensures.length
+                ∙ ap length w.deref_mut.ensures.value
+                ∙ c.loop-from.invariant.same_length;
+            begun =
+                rw items
+                (AreFirstTwo-same rows _ _ w.add_referrers.new.firsts (references_below-marked memory weak marks from marked)
+                (subst (λ (edges : OutEdges). AreFirstTwo rows (λ object. before object ++ referrers_among edges from object (strong_slots edges)) w.add_referrers.new.firsts)
+                w.edges.ensures (rw w.deref.ensures.value at added)));
+          }
+      | else-has w ↦
+          rw w.firsts-is record {
+            same_length = c.loop-from.invariant.same_length;
+            begun =
+                AreFirstTwo-same rows _ _ c.loop-from.firsts.items
+                (references_below-unmarked memory weak marks from (sym c.has.ensures ∙ w.if-has.false))
+                c.loop-from.invariant.begun;
+          }
+    ]
+
+pub returns-clause-first : goal.returns-clause-first
+returns-clause-first c =
+    let memory = c.args.live.now.graph.heap.now in
+    let weak = c.args.live.now.graph.weak in
+    let marks = c.args.live.now.marks in
+    let holders = c.args.holders.now in
+    let objects = objects_of holders in
+    let rows = c.in_ok-rows.rows.items in
+    let end : c.loop-from.from ≡ object_count memory =
+    omega (arith, c.loop-from-test.false, c.loop-from.auto.from-end, c.len-from-end.ensures.objects)
+    in
+    let listed =
+    subst (λ (count : ℕ). AreRows count (length objects) objects rows) c.len.ensures.objects
+    (subst (λ (taken : ℕ). AreRows c.len.result taken objects rows) (sym (length-map holders (λ (holder : Holder). holder.object)))
+    c.in_ok-rows.ensures) in
+    let all =
+    firsts_are memory weak marks rows c.loop-from.firsts.items (rw end at c.loop-from.invariant.begun) objects listed in
+    IfOk-weaker c.firsts_of.result _ _ (λ found is. is ∙ all)
+    (rw c.deref-2.ensures.value at (rw c.deref-3.ensures.value at c.firsts_of.ensures))
+
+pub returns-clause-inside : goal.returns-clause-inside
+returns-clause-inside c =
+    IfOk-weaker c.firsts_of.result _ _
+    (λ found is.
+    rw is
+    (firsts-inside c.args.live.now.graph.heap.now c.args.live.now.graph.weak c.args.live.now.marks
+    (objects_of c.args.holders.now)))
+    (returns-clause-first c)

@@ -1,13 +1,10 @@
-use Rattle.std.specs.Prelude.{All}
-use Rattle.sqz_image.specs.Objects.{object_count}
-use Rattle.sqz_match.specs.Referrers.{AreInside}
+use Rattle.std.proofs.Common.{◌≡◌, length}
+use Rattle.sqz_match.specs.Referrers.{AreFirstTwo}
+use Rattle.sqz_match.proofs.ReferrerLemmas.{references_below}
 use Rattle.sqz_match.proofs.first_referrers.find_referrers.Given as goal
 
-abbrev pub invariant-loop-place : goal.invariant-loop-place
-invariant-loop-place l = All (AreInside (object_count l.live.graph.heap.now)) l.found.items
-
 abbrev pub invariant-loop-from : goal.invariant-loop-from
-invariant-loop-from l = All (AreInside (object_count l.live.graph.heap.now)) l.found.items
-
-abbrev pub invariant-loop-slot : goal.invariant-loop-slot
-invariant-loop-slot l = All (AreInside (object_count l.live.graph.heap.now)) l.found.items
+invariant-loop-from l = record {
+  same_length : length l.firsts.items ≡ length l.holders;
+  begun : AreFirstTwo l.rows.items (references_below l.live.graph.heap.now l.live.graph.weak l.live.marks l.from) l.firsts.items;
+}
