@@ -21,7 +21,7 @@ use Rattle.sqz_facts.proofs.RangeLemmas.{flat_map-next}
 use Rattle.sqz_facts.proofs.ReferrerLemmas.{referrers_among-no, referrers_among-yes, referrers_from-marked, referrers_from-unmarked}
 use Rattle.sqz_facts.proofs.ReferrerLemmas.{referrers-inside, referrers-outside}
 use Rattle.sqz_match.specs.declared.first_referrers.FirstReferrers.{FirstReferrers}
-use Rattle.sqz_match.specs.Referrers.{AreFirstTwo, AreInside, AreRows, and_referrer, first_at, first_two, row_of}
+use Rattle.sqz_match.specs.Referrers.{AreFirstTwo, AreInside, AreRows, first_at, first_two, row_of}
 
 -- ---- rows
 
@@ -87,12 +87,6 @@ module _ (count taken : ℕ) (objects : List ℕ) (rows : List (Option ℕ)) (ar
 
 -- ---- references
 
-pub first_two-push : (references : List Referrer) (last : Referrer)
-    → and_referrer (first_two references).first (first_two references).second last ≡ first_two (references ++ last ∷ [])
-first_two-push [] last = refl
-first_two-push (one ∷ []) last = refl
-first_two-push (one ∷ two ∷ rest) last = refl
-
 pub AreFirstTwo-same : (rows : List (Option ℕ)) (one other : ℕ → List Referrer) (firsts : List FirstReferrers)
     → ((object : ℕ) → one object ≡ other object) → AreFirstTwo rows one firsts → AreFirstTwo rows other firsts
 AreFirstTwo-same rows one other firsts same are = record {
@@ -113,53 +107,36 @@ module _ (edges : OutEdges) (from : ℕ) (rows : List (Option ℕ)) (before : �
         ≡ before object ++ referrers_among edges from object (slots ++ slot ∷ [])
     stays object other = ap (λ more. before object ++ more) (sym (referrers_among-no edges from object slots slot other))
 
-    -- a slot that points to no object
-    pub Holds-no_target : edge_target edges slot ≡ None → Holds (slots ++ slot ∷ []) firsts
-    Holds-no_target none =
-        AreFirstTwo-same rows _ _ firsts
-        (λ object. stays object (ap (λ target. option_eq nat_eq target (Some object)) none)) are
-
     module _ (to : ℕ) (target : edge_target edges slot ≡ Some to) where
       points_to-other : (object : ℕ) → to ≢ object → points_to edges object slot ≡ false
       points_to-other object apart =
           ap (λ found. option_eq nat_eq found (Some object)) target ∙ ne_eqb to object apart
 
-      -- one that points to an object without a row
-      pub Holds-no_row : row_of rows to ≡ None → Holds (slots ++ slot ∷ []) firsts
-      Holds-no_row none = record {
-        first = λ object row is.
-            are.first object row is
-            ∙ ap first_two
-            (stays object (points_to-other object (λ same. none-some row (sym none ∙ ap (row_of rows) same ∙ is))));
-      }
-
       module _ (row : ℕ) (at : row_of rows to ≡ Some row) (room : row < length firsts)
           (own : (one other place : ℕ) → row_of rows one ≡ Some place → row_of rows other ≡ Some place → one ≡ other) where
-        abbrev longer : FirstReferrers
-        longer =
-            and_referrer (first_at firsts (Some row)).first (first_at firsts (Some row)).second reference
-
-        here : longer ≡ first_two (before to ++ referrers_among edges from to (slots ++ slot ∷ []))
+        here : (before to ++ referrers_among edges from to slots) ++ reference ∷ []
+            ≡ before to ++ referrers_among edges from to (slots ++ slot ∷ [])
         here =
-            ap (λ (found : FirstReferrers). and_referrer found.first found.second reference) (are.first to row at)
-            ∙ first_two-push (before to ++ referrers_among edges from to slots) reference
-            ∙ ap first_two
-            (append_assoc (before to) (referrers_among edges from to slots) (reference ∷ [])
+            append_assoc (before to) (referrers_among edges from to slots) (reference ∷ [])
             ∙ ap (λ more. before to ++ more)
             (sym
             (referrers_among-yes edges from to slots slot
-            (ap (λ found. option_eq nat_eq found (Some to)) target ∙ eq-eqb to to refl))))
+            (ap (λ found. option_eq nat_eq found (Some to)) target ∙ eq-eqb to to refl)))
 
-        -- one that points to an object with a row
-        pub Holds-row : Holds (slots ++ slot ∷ []) (set firsts row longer)
-        Holds-row = record {
+        -- a slot that points to an object with a row
+        pub Holds-row : (longer : FirstReferrers)
+            → ((references : List Referrer) → first_at firsts (Some row) ≡ first_two references
+            → longer ≡ first_two (references ++ reference ∷ []))
+            → Holds (slots ++ slot ∷ []) (set firsts row longer)
+        Holds-row longer one_more = record {
           first = λ object other is.
               elim (cases_eq other row) [
                 | inl same ↦
                     let it : to ≡ object = own to object row at (is ∙ ap Some same) in
                     rw same
                     (get_or-set_same firsts row longer (first_two []) room
-                    ∙ here
+                    ∙ one_more (before to ++ referrers_among edges from to slots) (are.first to row at)
+                    ∙ ap first_two here
                     ∙ ap (λ o. first_two (before o ++ referrers_among edges from o (slots ++ slot ∷ []))) it)
                 | inr apart ↦
                     get_or-set_other firsts row other longer (first_two []) apart

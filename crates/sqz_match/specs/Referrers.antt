@@ -16,12 +16,6 @@ first_two [] = record { first = None; second = None }
 first_two (one ∷ []) = record { first = Some one; second = None }
 first_two (one ∷ two ∷ more) = record { first = Some one; second = Some two }
 
--- these references and one more, if they are fewer than two
-abbrev pub and_referrer : Option Referrer → Option Referrer → Referrer → FirstReferrers
-and_referrer None second referrer = record { first = Some referrer; second = second }
-and_referrer (Some one) None referrer = record { first = Some one; second = Some referrer }
-and_referrer (Some one) (Some two) referrer = record { first = Some one; second = Some two }
-
 abbrev pub objects_of : List Holder → List ℕ
 objects_of holders = map (λ holder. holder.object) holders
 

@@ -1,12 +1,12 @@
 //! What points to holders.
 
-ghost use Rattle.std.specs.Prelude.{All, IfOk, List, ℕ, [], ◌++◌, ◌<◌, ◌≡◌, Some, length, map};
+ghost use Rattle.std.specs.Prelude.{All, IfOk, List, ℕ, [], ◌∷◌, ◌++◌, ◌<◌, ◌≡◌, Some, length, map};
 ghost use Rattle.sqz_image.specs.Objects.{object_count};
 ghost use Rattle.sqz_trace.specs.Edges.{strong_slots};
-ghost use Rattle.sqz_facts.specs.declared.referrers.Referrer as referrer;
+ghost use Rattle.sqz_facts.specs.declared.referrers.Referrer as reference;
 ghost use Rattle.sqz_facts.specs.Referrers.{referrers, referrers_among};
-ghost use Rattle.sqz_match.specs.Referrers.{AreFirstTwo, AreInside, AreRows, and_referrer};
-ghost use Rattle.sqz_match.specs.Referrers.{first_at, first_two, objects_of, row_of};
+ghost use Rattle.sqz_match.specs.Referrers.{AreFirstTwo, AreInside, AreRows, first_at};
+ghost use Rattle.sqz_match.specs.Referrers.{first_two, objects_of, row_of};
 
 use crate::holder::Holder;
 use sqz_facts::Referrer;
@@ -37,7 +37,8 @@ impl FirstReferrers {
 
     /// Returns these references with one more, if they are fewer than two.
     fn with(self, referrer: Referrer) -> Self
-        ensures { result ≡ and_referrer self.first self.second referrer }
+        ensures { (references : List reference.Referrer) → self ≡ first_two references
+            → result ≡ first_two (references ++ referrer ∷ []) }
     {
         match (self.first, self.second) {
             (None, _) => FirstReferrers {
@@ -86,8 +87,8 @@ fn rows_of(
         AreRows count (length holders.now) (objects_of holders.now) rows.items) }
 {
     let mut rows = vec![in alloc; None; count]?;
-    for row in 0..holders.len() {
-        let object = holders[row].object as usize;
+    for (row, holder) in holders.iter().enumerate() {
+        let object = holder.object as usize;
         if object < count {
             rows[object] = Some(row);
         }
@@ -107,7 +108,7 @@ fn add_referrers(
     requires own { (one other row : ℕ) → row_of rows.now one ≡ Some row
         → row_of rows.now other ≡ Some row → one ≡ other }
     ensures length { length firsts.new ≡ length firsts.old }
-    ensures added { (before : ℕ → List referrer.Referrer) → AreFirstTwo rows.now before firsts.old
+    ensures added { (before : ℕ → List reference.Referrer) → AreFirstTwo rows.now before firsts.old
         → AreFirstTwo rows.now (λ object. before object
         ++ referrers_among edges.now from object (strong_slots edges.now)) firsts.new }
 {

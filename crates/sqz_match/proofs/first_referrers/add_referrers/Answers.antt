@@ -14,10 +14,9 @@ loop-slot-preserved-in-loop-slot c =
     record {
       same_length = length-set firsts c.in-Some-row_in.row c.with.result ∙ c.loop-slot.invariant.same_length;
       added = λ before held.
-          rw c.with.ensures
-          (Holds-row c.args.edges.now c.args.from c.args.rows.now before c.loop-slot.yielded firsts c.in-Some.slot
+          Holds-row c.args.edges.now c.args.from c.args.rows.now before c.loop-slot.yielded firsts c.in-Some.slot
           (c.loop-slot.invariant.added before held) c.in-Some-target.to (sym c.target.ensures.target ∙ c.in-Some-target.is)
-          c.in-Some-row_in.row at room c.requires.own);
+          c.in-Some-row_in.row at room c.requires.own c.with.result c.with.ensures;
     }
 
 pub returns-clause-added : goal.returns-clause-added

@@ -13,7 +13,7 @@ loop-row-preserved c =
     let count = c.args.count in
     let row = c.loop-row.row in
     let rows = c.loop-row.rows.items in
-    let object = get_or-map (λ (holder : Holder). holder.object) holders row _ 0 (omega (arith, c.loop-row-test.true, c.loop-row.auto.row-end)) in
+    let object = get_or-map (λ (holder : Holder). holder.object) holders row _ 0 c.loop-row-test.true in
     elim c.if-object-count.branch [
       | then-object-count w ↦
           rw w.rows-is
