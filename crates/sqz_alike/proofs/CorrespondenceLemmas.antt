@@ -20,7 +20,8 @@ use Rattle.sqz_alike.specs.Alike.{SlotsMatch, ObjectsMatch, IsOneToOne, HasOld, 
 use Rattle.sqz_alike.specs.Seen.{Seen, seen_target, live_or_nil}
 use Rattle.sqz_alike.proofs.MatchingLemmas.{pair_of}
 use Rattle.sqz_alike.specs.Matching.{IsMatching, partner_in}
-use Rattle.sqz_alike.specs.Walk.{AreLive, AreMatched}
+use Rattle.sqz_alike.specs.FirstDifference.{AreMatched}
+use Rattle.sqz_alike.specs.Walk.{AreLive}
 
 -- ---- every live object is in a pair
 

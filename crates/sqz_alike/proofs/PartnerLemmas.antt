@@ -1,20 +1,21 @@
 -- Objects that are offered as partners.
--- Serves `partners::partners_of` and the methods of `Matching` in `partners`.
+-- Serves `partners::partners_of`, the methods of `Matching`, and `objects::slot_matches`.
 use Rattle.std.proofs.Common.{◌≡◌, ℕ, zero, suc, ◌+◌, ◌≤◌, Bool, true, false, not, ◌&&◌, ◌||◌, cond, eqb, List, [], ◌∷◌, ◌++◌, length}
 use Rattle.std.proofs.Common.{Option, Some, None, refl, sym, ap, ◌∙◌, arith, inl, inr}
-use Rattle.std.specs.Prelude.{Contains, is_none}
+use Rattle.std.specs.Prelude.{Contains, is_none, slice_index}
 use Rattle.std.proofs.lemmas.Bool.{and_parts, or_cases, eq-eqb, eqb-true}
-use Rattle.std.proofs.lemmas.List.{length-append}
+use Rattle.std.proofs.lemmas.List.{get_or_past, length-append}
 use Rattle.std.proofs.lemmas.Option.{none-some}
 use Rattle.sqz_image.specs.declared.slot.Slot.{Slot}
 use Rattle.sqz_image.specs.declared.slot.Slot.TheVariants.{ClassWord, Field}
 use Rattle.sqz_trace.specs.Graph.{is_marked}
 use Rattle.sqz_alike.specs.declared.matching.Pair.{Pair}
 use Rattle.sqz_alike.specs.Alike.{HasOld, HasNew, IsOneToOne}
-use Rattle.sqz_alike.specs.Matching.{IsMatching, partner_in}
-use Rattle.sqz_alike.specs.Partners.{has_old, has_new, are_free, are_live, are_partners, are_of_one_kind, SeenSides}
+use Rattle.sqz_alike.specs.FirstDifference.{any_kind}
+use Rattle.sqz_alike.specs.Matching.{IsMatching, are_free, has_new, has_old, partner_in, with_pair}
+use Rattle.sqz_alike.specs.Partners.{are_live, are_partners, are_of_one_kind, SeenSides}
 use Rattle.sqz_alike.specs.Partners.{offer, offer_both, offer_targets, offer_slots, follow, follow_first, pair_at, common_slots}
-use Rattle.sqz_alike.specs.Seen.{seen_target}
+use Rattle.sqz_alike.specs.Seen.{Seen, seen_target}
 use Rattle.sqz_alike.specs.Walk.{IsLive}
 use Rattle.sqz_alike.proofs.MatchingLemmas.{pair_of}
 
@@ -86,6 +87,13 @@ module _ (pairs : List Pair) (new_of old_of : List (Option ℕ)) (matching : IsM
   pub free-new : (object : ℕ) → is_none (partner_in old_of object) ≡ not (has_new pairs object)
   free-new object = is_free_new object (partner_in old_of object) refl
 
+  -- objects are free if both have no partner
+  pub are_free-is : (pair : Pair) (one other : Bool) → is_none (partner_in new_of pair.old) ≡ one
+      → is_none (partner_in old_of pair.new) ≡ other → are_free pairs pair ≡ (one && other)
+  are_free-is pair one other e f =
+      ap (λ (b : Bool). b && not (has_new pairs pair.new)) (sym (free-old pair.old) ∙ e)
+      ∙ ap (λ (b : Bool). one && b) (sym (free-new pair.new) ∙ f)
+
   -- no object is in two pairs
   pub once : IsOneToOne pairs
   once =
@@ -104,30 +112,39 @@ module _ (pairs : List Pair) (new_of old_of : List (Option ℕ)) (matching : IsM
       same_pair : (one other : Pair) → one.old ≡ other.old → one.new ≡ other.new → one ≡ other
       same_pair one other old new = ap (λ (n : ℕ). pair_of n one.new) old ∙ ap (pair_of other.old) new
 
-pub none_of : (partner : Option ℕ) → is_none partner ≡ true → partner ≡ None
-none_of (Some object) e = absurd cc
-none_of None e = refl
-
 -- ---- what partners are
 
 module _ (sides : SeenSides) (pairs : List Pair) (pair : Pair) (are : are_partners sides pairs pair ≡ true) where
   parts : (are_live sides pair ≡ true) × ((are_free pairs pair && are_of_one_kind sides pair) ≡ true)
   parts = and_parts (are_live sides pair) (are_free pairs pair && are_of_one_kind sides pair) are
 
-  free : (not (has_old pairs pair.old) ≡ true) × (not (has_new pairs pair.new) ≡ true)
-  free = and_parts (not (has_old pairs pair.old)) (not (has_new pairs pair.new)) (and_parts (are_free pairs pair) (are_of_one_kind sides pair) parts.1).0
-
   pub IsLive-partners : IsLive sides.old sides.new pair
   IsLive-partners =
       let both = and_parts (is_marked sides.old.marks pair.old) (is_marked sides.new.marks pair.new) parts.0 in
       record { old_is = both.0; new_is = both.1 }
 
-  module _ (new_of old_of : List (Option ℕ)) (matching : IsMatching pairs new_of old_of) where
-    pub old_free : partner_in new_of pair.old ≡ None
-    old_free = none_of (partner_in new_of pair.old) (free-old pairs new_of old_of matching pair.old ∙ free.0)
+  pub offer-partners : with_pair pairs pair ≡ offer sides pairs pair
+  offer-partners =
+      ap (λ (b : Bool). cond b (pairs ++ pair ∷ []) pairs)
+      ((and_parts (are_free pairs pair) (are_of_one_kind sides pair) parts.1).0 ∙ sym are)
 
-    pub new_free : partner_in old_of pair.new ≡ None
-    new_free = none_of (partner_in old_of pair.new) (free-new pairs new_of old_of matching pair.new ∙ free.1)
+-- of any kind, two live objects become partners unless one of them has one
+pub offer-any_kind : (old new : Seen) (pairs : List Pair) (pair : Pair) → IsLive old new pair
+    → with_pair pairs pair ≡ offer (any_kind old new) pairs pair
+offer-any_kind old new pairs pair live =
+    ap (λ (b : Bool). cond b (pairs ++ pair ∷ []) pairs) (sym are)
+  where
+    one_kind : are_of_one_kind (any_kind old new) pair ≡ true
+    one_kind =
+        eq-eqb (slice_index [] pair.old) (slice_index [] pair.new)
+        (get_or_past [] pair.old 0 (omega arith) ∙ sym (get_or_past [] pair.new 0 (omega arith)))
+
+    and-true : (one other : Bool) → other ≡ true → (one && other) ≡ one
+    and-true true other e = e
+    and-true false other e = refl
+
+    are : are_partners (any_kind old new) pairs pair ≡ are_free pairs pair
+    are = rw (live.old_is, live.new_is) (and-true (are_free pairs pair) (are_of_one_kind (any_kind old new) pair) one_kind)
 
 -- ---- the walk
 

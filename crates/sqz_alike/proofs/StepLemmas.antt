@@ -1,17 +1,21 @@
 -- Steps of a walk through two images.
--- Serves `objects::slot_matches`, `::fields_match`, `::objects_match` and `alikeness::compare`.
-use Rattle.std.proofs.Common.{◌≡◌, ◌≢◌, ℕ, Bool, true, false, List, [], ◌++◌, Option, Some, None, sym, ap, subst, ◌∙◌, inl, inr}
+-- Serves `objects::slot_matches`, `::slots_match`, `::objects_match` and `alikeness::compare`.
+use Rattle.std.proofs.Common.{◌≡◌, ◌≢◌, ℕ, Bool, true, false, eqb, List, [], ◌++◌, Option, Some, None, refl, sym, ap, subst, ◌∙◌, inl, inr}
+use Rattle.std.specs.Option.{option_eq}
 use Rattle.std.specs.Prelude.{Contains}
+use Rattle.std.proofs.lemmas.Bool.{eqb-true, eqb-false}
 use Rattle.std.proofs.lemmas.List.{append-nil, append_assoc}
 use Rattle.std.proofs.lemmas.List.Elements.{Contains-append_left, Contains-append_cases}
+use Rattle.std.proofs.lemmas.Option.{none-some, same_Some}
 use Rattle.sqz_image.specs.declared.slot.Slot.{Slot}
 use Rattle.sqz_image.specs.Objects.{chunk_words}
 use Rattle.sqz_trace.specs.Slots.{slot_word}
 use Rattle.sqz_alike.specs.declared.matching.Pair.{Pair}
-use Rattle.sqz_alike.specs.Alike.{SlotsMatch, SlotMatches, IsCorrespondence}
+use Rattle.sqz_alike.specs.Alike.{SlotsMatch, SlotMatches}
+use Rattle.sqz_alike.specs.FirstDifference.{AreAmong, Never}
 use Rattle.sqz_alike.specs.Seen.{Seen, seen_target}
 use Rattle.sqz_alike.specs.Matching.{Joins}
-use Rattle.sqz_alike.specs.Walk.{AreAmong, IsRefuted, IsStep, Finds}
+use Rattle.sqz_alike.specs.Walk.{Finds}
 
 -- ---- slots that match
 
@@ -59,65 +63,55 @@ module _ (word other : Option ℕ) where
   SlotsMatch-more pairs more among None (Some b) m = m
   SlotsMatch-more pairs more among None None m = m
 
+-- ---- words that are the same, or not
+
+pub option_eq-true : (one other : Option ℕ) → option_eq eqb one other ≡ true → one ≡ other
+option_eq-true (Some a) (Some b) e = ap (λ (n : ℕ). Some n) (eqb-true a b e)
+option_eq-true (Some a) None e = absurd cc
+option_eq-true None (Some b) e = absurd cc
+option_eq-true None None e = refl
+
+pub option_eq-false : (one other : Option ℕ) → option_eq eqb one other ≡ false → one ≢ other
+option_eq-false (Some a) (Some b) e same = eqb-false a b e (same_Some a b same)
+option_eq-false (Some a) None e same = none-some a (sym same)
+option_eq-false None (Some b) e same = none-some b same
+option_eq-false None None e same = absurd cc
+
 -- ---- steps
 
-module _ {old new : Seen} where
-  pub IsStep-none : (pairs : List Pair) → IsStep old new pairs pairs
-  IsStep-none pairs = record { added = []; more = sym (append-nil pairs); forced = λ all is among. among }
+module _ {Holds : List Pair → Type 0} where
+  -- a step that adds nothing
+  pub Finds-none : (pairs : List Pair) (found : Bool) → (found ≡ true → Holds pairs) → (found ≡ false → Never Holds pairs)
+      → Finds Holds pairs pairs found
+  Finds-none pairs found holds never =
+      record { added = []; more = sym (append-nil pairs); forced = λ all among is. among; holds = holds; never = never }
 
-  pub IsStep-then : {a b c : List Pair} → IsStep old new a b → IsStep old new b c → IsStep old new a c
-  IsStep-then {a} p q =
-      record {
-        added = p.added ++ q.added;
-        more = q.more ∙ ap (λ (xs : List Pair). xs ++ q.added) p.more ∙ append_assoc a p.added q.added;
-        forced = λ all is among. q.forced all is (p.forced all is among);
-      }
+  pub Finds-never : (pairs : List Pair) → Never Holds pairs → Finds Holds pairs pairs false
+  Finds-never pairs never = Finds-none pairs false (λ e. absurd cc) (λ e. never)
 
-  pub AreAmong-step : {a b : List Pair} → IsStep old new a b → AreAmong a b
-  AreAmong-step {a} step pair in_a =
-      subst (λ (xs : List Pair). Contains xs pair) (sym step.more) (Contains-append_left a step.added pair in_a)
+  pub AreAmong-finds : {a b : List Pair} {found : Bool} → Finds Holds a b found → AreAmong a b
+  AreAmong-finds {a} finds pair in_a =
+      subst (λ (xs : List Pair). Contains xs pair) (sym finds.more) (Contains-append_left a finds.added pair in_a)
 
-  pub IsRefuted-step : {a b : List Pair} → IsStep old new a b → IsRefuted old new b → IsRefuted old new a
-  IsRefuted-step step refuted = λ all is among. refuted all is (step.forced all is among)
-
-  module _ {Holds : List Pair → Type 0} where
-    pub Finds-refuted : (pairs : List Pair) → IsRefuted old new pairs → Finds old new Holds pairs pairs false
-    Finds-refuted pairs refuted =
-        record { step = IsStep-none pairs; holds = λ e. absurd cc; refuted = λ e. refuted }
-
-    pub Finds-after : {a b c : List Pair} {found : Bool} → IsStep old new a b → Finds old new Holds b c found
-        → Finds old new Holds a c found
-    Finds-after step finds =
-        record {
-          step = IsStep-then step finds.step;
-          holds = finds.holds;
-          refuted = λ e. IsRefuted-step step (finds.refuted e);
-        }
-
-    pub Finds-weaker : {Q : List Pair → Type 0} {a b : List Pair} {found : Bool} → ((found ≡ true) → Holds b → Q b)
-        → Finds old new Holds a b found → Finds old new Q a b found
-    Finds-weaker f finds =
-        record { step = finds.step; holds = λ e. f e (finds.holds e); refuted = finds.refuted }
-
-  -- a step that finds that something does not hold, after another step
-  pub Finds-failed : {Holds Q : List Pair → Type 0} {a b c : List Pair} {found : Bool} → IsStep old new a b
-      → Finds old new Holds b c found → found ≡ false → Finds old new Q a c false
-  Finds-failed step finds failed =
-      record {
-        step = IsStep-then step finds.step;
-        holds = λ e. absurd cc;
-        refuted = λ e. IsRefuted-step step (finds.refuted failed);
-      }
+-- a step after another: of both, if the second finds what holds, and never, if it does not
+pub Finds-then : {First Second Both : List Pair → Type 0} {a b c : List Pair} {one found : Bool} → Finds First a b one
+    → Finds Second b c found → ((all : List Pair) → Both all → First all) → ((all : List Pair) → Both all → Second all)
+    → (found ≡ true → Second c → Both c) → Finds Both a c found
+Finds-then {a} first second to_first to_second both =
+    record {
+      added = first.added ++ second.added;
+      more = second.more ∙ ap (λ (xs : List Pair). xs ++ second.added) first.more ∙ append_assoc a first.added second.added;
+      forced = λ all among is. second.forced all (first.forced all among (to_first all is)) (to_second all is);
+      holds = λ e. both e (second.holds e);
+      never = λ e all once among is.
+          second.never e all once (first.forced all among (to_first all is)) (to_second all is);
+    }
 
 -- ---- one slot of a pair
 
-module _ (old new : Seen) (pair : Pair) (slot : Slot) (before : List Pair) (paired : Contains before pair) where
+module _ (old new : Seen) (pair : Pair) (slot : Slot) (before : List Pair) where
   abbrev Matches : List Pair → Type 0
   Matches pairs = SlotMatches old new pairs pair slot
-
-  -- in each correspondence the slot matches
-  matches_in : (all : List Pair) → IsCorrespondence old new all → AreAmong before all → Matches all
-  matches_in all is among = (is.each pair (among pair paired)).slots slot
 
   abbrev target_old : Option ℕ
   target_old = seen_target old pair.old slot
@@ -135,50 +129,41 @@ module _ (old new : Seen) (pair : Pair) (slot : Slot) (before : List Pair) (pair
     abbrev found_pair : Pair
     found_pair = record { old = a; new = b }
 
-    paired_in : (all : List Pair) → IsCorrespondence old new all → AreAmong before all → Contains all found_pair
-    paired_in all is among = SlotsMatch-at_some word_old word_new all target_old target_new a b old_is new_is (matches_in all is among)
+    paired_in : (all : List Pair) → Matches all → Contains all found_pair
+    paired_in all is = SlotsMatch-at_some word_old word_new all target_old target_new a b old_is new_is is
 
-    pub slot_joins : (after : List Pair) (joined : Bool) → Joins found_pair before after joined
-        → Finds old new Matches before after joined
+    pub slot_joins : (after : List Pair) (joined : Bool) → Joins found_pair before after joined → Finds Matches before after joined
     slot_joins after joined joins =
         record {
-          step =
-              record {
-                added = joins.added;
-                more = joins.more;
-                forced = λ all is among other in_after.
-                    elim (Contains-append_cases before joins.added other (subst (λ (xs : List Pair). Contains xs other) joins.more in_after)) [
-                      | inl early ↦ among other early
-                      | inr late ↦
-                          subst (λ (p : Pair). Contains all p) (sym (joins.only other late)) (paired_in all is among)
-                    ];
-              };
+          added = joins.added;
+          more = joins.more;
+          forced = λ all among is other in_after.
+              elim (Contains-append_cases before joins.added other (subst (λ (xs : List Pair). Contains xs other) joins.more in_after)) [
+                | inl early ↦ among other early
+                | inr late ↦ subst (λ (p : Pair). Contains all p) (sym (joins.only other late)) (paired_in all is)
+              ];
           holds = λ e. SlotsMatch-some word_old word_new after target_old target_new a b old_is new_is (joins.paired e);
-          refuted = λ e all is among.
+          never = λ e all once among is.
               let clash = joins.clashes e in
               let in_all = among clash.other clash.paired in
-              let found = paired_in all is among in
               elim clash.shared [
-                | inl same ↦ clash.is_other (is.once.by_old clash.other found_pair in_all found same)
-                | inr same ↦ clash.is_other (is.once.by_new clash.other found_pair in_all found same)
+                | inl same ↦ clash.is_other (once.by_old clash.other found_pair in_all (paired_in all is) same)
+                | inr same ↦ clash.is_other (once.by_new clash.other found_pair in_all (paired_in all is) same)
               ];
         }
 
   pub slot_words : target_old ≡ None → target_new ≡ None → (found : Bool)
-      → (found ≡ true → word_old ≡ word_new) → (found ≡ false → word_old ≢ word_new)
-      → Finds old new Matches before before found
+      → (found ≡ true → word_old ≡ word_new) → (found ≡ false → word_old ≢ word_new) → Finds Matches before before found
   slot_words old_is new_is found same differ =
-      record {
-        step = IsStep-none before;
-        holds = λ e. SlotsMatch-none word_old word_new before target_old target_new old_is new_is (same e);
-        refuted = λ e all is among.
-            differ e (SlotsMatch-at_none word_old word_new all target_old target_new old_is new_is (matches_in all is among));
-      }
+      Finds-none before found
+      (λ e. SlotsMatch-none word_old word_new before target_old target_new old_is new_is (same e))
+      (λ e all once among is.
+      differ e (SlotsMatch-at_none word_old word_new all target_old target_new old_is new_is is))
 
-  pub slot_left : (a : ℕ) → target_old ≡ Some a → target_new ≡ None → Finds old new Matches before before false
+  pub slot_left : (a : ℕ) → target_old ≡ Some a → target_new ≡ None → Finds Matches before before false
   slot_left a old_is new_is =
-      Finds-refuted before (λ all is among. SlotsMatch-left word_old word_new all target_old target_new a old_is new_is (matches_in all is among))
+      Finds-never before (λ all once among is. SlotsMatch-left word_old word_new all target_old target_new a old_is new_is is)
 
-  pub slot_right : (b : ℕ) → target_old ≡ None → target_new ≡ Some b → Finds old new Matches before before false
+  pub slot_right : (b : ℕ) → target_old ≡ None → target_new ≡ Some b → Finds Matches before before false
   slot_right b old_is new_is =
-      Finds-refuted before (λ all is among. SlotsMatch-right word_old word_new all target_old target_new b old_is new_is (matches_in all is among))
+      Finds-never before (λ all once among is. SlotsMatch-right word_old word_new all target_old target_new b old_is new_is is)

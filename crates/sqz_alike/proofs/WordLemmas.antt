@@ -1,5 +1,5 @@
 -- Lists of words that are the same bytes.
--- Serves `words::bytes_match`; `ReferrerLemmas` of `sqz_match`.
+-- Serves `words::bytes_match`; `ReferrerLemmas` of `sqz_referrers`.
 use Rattle.std.proofs.Common.{◌≡◌, ℕ, suc, ◌<◌, List, [], ◌∷◌, map, length, slice_index, get_or, refl, sym, ap, ◌∙◌, true, not, nat_eq, arith}
 use Rattle.std.specs.Cmp.Lexicographic.{pointwise}
 use Rattle.std.proofs.lemmas.Cmp.{nat_list_eq_equiv}

@@ -1,5 +1,6 @@
 pub mod Seen
 pub mod Alike
 pub mod Matching
-pub mod Walk
 pub mod Partners
+pub mod FirstDifference
+pub mod Walk

@@ -1,5 +1,6 @@
 -- Pairs of objects that are kept with the partner of each object.
-use Rattle.std.specs.Prelude.{◌≡◌, ◌≢◌, ◌⊎◌, ◌+◌, ℕ, suc, Bool, true, false, List, [], ◌∷◌, length, ◌++◌, Option, Some, None}
+use Rattle.std.specs.Prelude.{◌≡◌, ◌≢◌, ◌⊎◌, ◌&&◌, ◌||◌, ◌==◌, ◌+◌, ℕ, suc, not, Bool, true, false, if◌then◌else◌}
+use Rattle.std.specs.Prelude.{List, [], ◌∷◌, length, ◌++◌, Option, Some, None}
 use Rattle.std.specs.Prelude.{Contains, slice_index_or}
 use Rattle.sqz_alike.specs.declared.matching.Pair.{Pair}
 
@@ -12,6 +13,23 @@ abbrev pub single_count : List (Option ℕ) → ℕ
 single_count [] = 0
 single_count (None ∷ partners) = suc (single_count partners)
 single_count (Some partner ∷ partners) = single_count partners
+
+-- whether an object is in one of these pairs, on either side
+abbrev pub has_old : List Pair → ℕ → Bool
+has_old [] object = false
+has_old (pair ∷ pairs) object = (pair.old == object) || has_old pairs object
+
+abbrev pub has_new : List Pair → ℕ → Bool
+has_new [] object = false
+has_new (pair ∷ pairs) object = (pair.new == object) || has_new pairs object
+
+-- whether neither object is in one of these pairs
+abbrev pub are_free : List Pair → Pair → Bool
+are_free pairs pair = not (has_old pairs pair.old) && not (has_new pairs pair.new)
+
+-- the pairs after two objects became one more, if neither was in a pair
+abbrev pub with_pair : List Pair → Pair → List Pair
+with_pair pairs pair = if are_free pairs pair then pairs ++ pair ∷ [] else pairs
 
 -- the pairs are those of the partners, on either side
 pub record IsMatching (pairs : List Pair) (new_of old_of : List (Option ℕ)) : Type 0 where

@@ -1,5 +1,5 @@
 -- Which objects of two images are partners: a walk from objects with equal names and from the roots.
-use Rattle.std.specs.Prelude.{◌≡◌, ◌&&◌, ◌||◌, ◌==◌, ℕ, zero, suc, not, Bool, false, if◌then◌else◌}
+use Rattle.std.specs.Prelude.{◌≡◌, ◌&&◌, ◌==◌, ℕ, zero, suc, Bool, if◌then◌else◌}
 use Rattle.std.specs.Prelude.{List, [], ◌∷◌, ◌++◌, length, min, slice_index, slice_index_or, Option, Some, None}
 use Rattle.sqz_image.specs.declared.slot.Slot.{Slot}
 use Rattle.sqz_image.specs.declared.slot.Slot.TheVariants.{ClassWord, Field}
@@ -8,6 +8,7 @@ use Rattle.sqz_trace.specs.Graph.{is_marked}
 use Rattle.sqz_trace.specs.Slots.{traced}
 use Rattle.sqz_alike.specs.declared.matching.Pair.{Pair}
 use Rattle.sqz_alike.specs.declared.sides.Sides.{Sides}
+use Rattle.sqz_alike.specs.Matching.{are_free}
 use Rattle.sqz_alike.specs.Seen.{Seen, seen, seen_target}
 
 -- two images as they are compared, with a number for each object: only objects with equal numbers can
@@ -26,22 +27,9 @@ seen_sides sides = record {
   new_kinds = sides.new_kinds.now;
 }
 
--- whether an object is in one of these pairs, on either side
-abbrev pub has_old : List Pair → ℕ → Bool
-has_old [] object = false
-has_old (pair ∷ pairs) object = (pair.old == object) || has_old pairs object
-
-abbrev pub has_new : List Pair → ℕ → Bool
-has_new [] object = false
-has_new (pair ∷ pairs) object = (pair.new == object) || has_new pairs object
-
 -- whether both objects are live
 abbrev pub are_live : SeenSides → Pair → Bool
 are_live sides pair = is_marked sides.old.marks pair.old && is_marked sides.new.marks pair.new
-
--- whether neither object is in one of these pairs
-abbrev pub are_free : List Pair → Pair → Bool
-are_free pairs pair = not (has_old pairs pair.old) && not (has_new pairs pair.new)
 
 -- whether both objects have the same number
 abbrev pub are_of_one_kind : SeenSides → Pair → Bool

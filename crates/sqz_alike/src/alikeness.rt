@@ -4,6 +4,7 @@ ghost use Rattle.std.specs.Prelude.{◌≡◌, ◌↔◌, IfOk};
 ghost use Rattle.sqz_image.specs.Objects.{object_count};
 ghost use Rattle.sqz_alike.specs.declared.alikeness.Alikeness.TheVariants.{Alike};
 ghost use Rattle.sqz_alike.specs.Alike.{AreAlike, IsInside};
+ghost use Rattle.sqz_alike.specs.FirstDifference.{IsFirst};
 ghost use Rattle.sqz_alike.specs.Seen.{seen};
 
 use crate::matching::{Matching, Pair};
@@ -16,7 +17,8 @@ use std::alloc::{AllocError, Global};
 pub enum Alikeness {
     /// The live objects correspond one to one.
     Alike,
-    /// They do not. These objects differ, though they would have to correspond.
+    /// They do not. These objects differ, though they would have to correspond: the same slots lead
+    /// to both from the special objects arrays. They are the first that a walk finds.
     Differ(Pair),
 }
 
@@ -31,6 +33,7 @@ pub enum Alikeness {
 pub fn compare(alloc: Global, old: &Live<'_>, new: &Live<'_>) -> Result<Alikeness, AllocError>
     ensures alike { IfOk result (λ found.
         (found ≡ Alike) ↔ ∥ AreAlike (seen old.now) (seen new.now) ∥₁) }
+    ensures first { IfOk result (IsFirst (seen old.now) (seen new.now)) }
     ensures inside { IfOk result (IsInside (object_count old.now.graph.heap.now)
         (object_count new.now.graph.heap.now)) }
 {

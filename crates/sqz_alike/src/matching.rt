@@ -1,7 +1,7 @@
 //! The pairs of objects that must correspond, as far as they were found.
 
-ghost use Rattle.std.specs.Prelude.{◌≡◌, ◌<◌, ◌∷◌, ◌++◌, length, [], None, IfOk, OnOk};
-ghost use Rattle.sqz_alike.specs.Matching.{IsMatching, Joins, partner_in};
+ghost use Rattle.std.specs.Prelude.{◌≡◌, ◌<◌, length, [], IfOk, OnOk};
+ghost use Rattle.sqz_alike.specs.Matching.{IsMatching, Joins, partner_in, with_pair};
 
 use sqz_object::ObjectIndex;
 use std::alloc::{AllocError, Global};
@@ -50,9 +50,7 @@ impl Matching {
         requires old { pair.old < length self.old.new_of.items }
         requires new { pair.new < length self.old.old_of.items }
         ensures joins { IfOk result (Joins pair self.old.pairs.items self.new.pairs.items) }
-        ensures more { OnOk result (partner_in self.old.new_of.items pair.old ≡ None
-            → partner_in self.old.old_of.items pair.new ≡ None
-            → self.new.pairs.items ≡ self.old.pairs.items ++ pair ∷ []) }
+        ensures pairs { OnOk result (self.new.pairs.items ≡ with_pair self.old.pairs.items pair) }
         ensures matching { OnOk result (IsMatching self.new.pairs.items self.new.new_of.items
             self.new.old_of.items) }
         ensures old { OnOk result (length self.new.new_of.items ≡ length self.old.new_of.items) }

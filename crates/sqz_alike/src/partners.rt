@@ -3,8 +3,8 @@
 ghost use Rattle.std.specs.Prelude.{◌≡◌, ◌<◌, Contains, IfOk, OnOk};
 ghost use Rattle.sqz_image.specs.Objects.{object_count};
 ghost use Rattle.sqz_alike.specs.Alike.{IsOneToOne};
-ghost use Rattle.sqz_alike.specs.Matching.{IsMatching};
-ghost use Rattle.sqz_alike.specs.Partners.{AreFound, are_free, are_live, are_of_one_kind};
+ghost use Rattle.sqz_alike.specs.Matching.{IsMatching, are_free};
+ghost use Rattle.sqz_alike.specs.Partners.{AreFound, are_live, are_of_one_kind};
 ghost use Rattle.sqz_alike.specs.Partners.{are_partners, common_slots, offer};
 ghost use Rattle.sqz_alike.specs.Partners.{offer_slots, offer_targets, seen_sides};
 ghost use Rattle.sqz_alike.specs.Walk.{IsWalk};

@@ -224,12 +224,13 @@ module _ (one other : Live) (small : (object : ℕ) → IsSmall (chunk_words one
         let other_leads = in_order-closed other k (omega (arith, inside, long)) in
         record {
           words = words;
-          slots = all_slots (seen one) (seen other) (zip_pairs xs ys) (pair_of x y) count refl words.traced
-              (slot-matches ClassWord leads.0 other_leads.0 alike.slots.0)
-              (λ index lt.
-              slot-matches (Field index) (field_of (LeadsIn (seen one) x xs) count leads.1 index lt)
-              (field_of (LeadsIn (seen other) y ys) other_count other_leads.1 index (omega (arith, lt, words.traced)))
-              (field_of (λ slot. slot_bytes (seen one) xs x slot ≡ slot_bytes (seen other) ys y slot) count alike.slots.1 index lt));
+          slots = all_slots (seen one) (seen other) (zip_pairs xs ys) (pair_of x y) count refl words.traced record {
+            class = slot-matches ClassWord leads.0 other_leads.0 alike.slots.0;
+            fields = λ index lt.
+                slot-matches (Field index) (field_of (LeadsIn (seen one) x xs) count leads.1 index lt)
+                (field_of (LeadsIn (seen other) y ys) other_count other_leads.1 index (omega (arith, lt, words.traced)))
+                (field_of (λ slot. slot_bytes (seen one) xs x slot ≡ slot_bytes (seen other) ys y slot) count alike.slots.1 index lt);
+          };
         }
 
   each : (pair : Pair) → Contains (zip_pairs xs ys) pair → ObjectsMatch (seen one) (seen other) (zip_pairs xs ys) pair

@@ -1,6 +1,6 @@
 use Rattle.std.proofs.Common.{◌≡◌, ◌∙◌, ◌&&◌, ℕ, Bool, true, false, not, Option, Some, None, sym, ap, refl}
 use Rattle.std.specs.Prelude.{is_none, is_some}
-use Rattle.sqz_alike.specs.Partners.{has_old, has_new}
+use Rattle.sqz_alike.specs.Matching.{has_old, has_new}
 use Rattle.sqz_alike.proofs.PartnerLemmas.{free-old, free-new}
 use Rattle.sqz_alike.proofs.matching.Matching.are_free.Goals as goal
 

@@ -1,6 +1,6 @@
-use Rattle.std.proofs.Common.{◌≡◌, ℕ, Bool, Ok, true, sym, ◌∙◌, [], ◌∷◌, ◌++◌, cond, ap}
+use Rattle.std.proofs.Common.{◌≡◌, ℕ, Ok, true, sym, ◌∙◌}
 use Rattle.sqz_alike.specs.Partners.{are_partners, seen_sides}
-use Rattle.sqz_alike.proofs.PartnerLemmas.{IsLive-partners, old_free, new_free}
+use Rattle.sqz_alike.proofs.PartnerLemmas.{IsLive-partners, offer-partners}
 use Rattle.sqz_alike.proofs.WalkLemmas.{IsWalk-join}
 use Rattle.sqz_alike.proofs.matching.Matching.offer.Goals as goal
 
@@ -17,7 +17,4 @@ returns-in_ok-join-clause-pairs c =
     let self = c.args.self.now in
     let are : are_partners (seen_sides c.args.sides.now) self.pairs.items c.args.pair ≡ true =
     sym c.are_partners.ensures ∙ c.if-are_partners.true in
-    c.in_ok-join.ensures.more
-    (old_free (seen_sides c.args.sides.now) self.pairs.items c.args.pair are self.new_of.items self.old_of.items c.requires.walk.matched)
-    (new_free (seen_sides c.args.sides.now) self.pairs.items c.args.pair are self.new_of.items self.old_of.items c.requires.walk.matched)
-    ∙ sym (ap (λ (b : Bool). cond b (self.pairs.items ++ c.args.pair ∷ []) self.pairs.items) are)
+    c.in_ok-join.ensures.pairs ∙ offer-partners (seen_sides c.args.sides.now) self.pairs.items c.args.pair are
