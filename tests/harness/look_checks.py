@@ -7,6 +7,7 @@ from tests.harness.program_checks import ProgramTest
 from tests.harness.sqzlook import CLEAR, look_at_all
 from tests.reference.alike import digest_of
 from tests.reference.answers import Answers
+from tests.reference.stacks import Stacks
 
 
 class Question(typing.NamedTuple):
@@ -56,6 +57,7 @@ class Asking:
             self.question("census", rows=answers.census(path)),
             self.question("census", "--dead", rows=answers.census(path, dead=True)),
             self.question("digest", rows=[{"image": path, "digest": digest_of(answers)}]),
+            self.question("stacks", rows=Stacks(answers.names).rows()),
         ]
 
     def of_retained(self):

@@ -1,25 +1,14 @@
 //! A context of a process.
 
-ghost use Rattle.std.specs.Prelude.{◌<◌};
+ghost use Rattle.std.specs.Prelude.{◌<◌, IfSome};
 ghost use Rattle.sqz_image.specs.Objects.{object_count};
 
 use serde::Serialize;
-use sqz_look_view::{Hex, Inspector, field_of};
-use sqz_object::{ObjectIndex, Value, value_of};
+use sqz_look_view::{Hex, Inspector};
+use sqz_object::ObjectIndex;
+use sqz_stacks::frame_of;
 use std::alloc::AllocError;
 use std::fmt;
-
-/// The field of a context with its program counter.
-const PROGRAM_COUNTER: usize = 1;
-
-/// The field of a context that points to its method; that of a block has a number of arguments.
-const METHOD: u32 = 3;
-
-/// The field of a method's context that points to the receiver.
-const RECEIVER: u32 = 5;
-
-/// The field of a block's context that points to the context of its method.
-const HOME: u32 = 5;
 
 /// A context of a process.
 #[derive(Drop, Serialize)]
@@ -39,55 +28,28 @@ impl ContextView {
     pub(crate) fn of(inspector: &Inspector<'_>, context: ObjectIndex) -> Result<Self, AllocError>
         requires { context < object_count inspector.now.live.graph.heap.now }
     {
-        let is_block = integer_in(inspector, context, METHOD as usize).is_some();
-        let home = if is_block {
-            field_of(inspector, context, HOME)
-        } else {
-            Some(context)
-        };
-        let (method, receiver) = match home {
-            Some(home) => (
-                label_in(inspector, home, METHOD)?,
-                label_in(inspector, home, RECEIVER)?,
-            ),
-            None => (None, None),
-        };
+        let frame = frame_of(inspector.live.graph.heap, context);
         Ok(ContextView {
             address: inspector.address(context),
-            method,
-            block: is_block,
-            pc: integer_in(inspector, context, PROGRAM_COUNTER),
-            receiver,
+            method: label_of(inspector, frame.method)?,
+            block: frame.is_block,
+            pc: frame.pc,
+            receiver: label_of(inspector, frame.receiver)?,
         })
     }
 }
 
-/// Returns the label of what a field of an object points to.
-fn label_in(
+/// Returns the label of an object, if there is one.
+pub(crate) fn label_of(
     inspector: &Inspector<'_>,
-    object: ObjectIndex,
-    field: u32,
+    object: Option<ObjectIndex>,
 ) -> Result<Option<String>, AllocError>
-    requires { object < object_count inspector.now.live.graph.heap.now }
+    requires { IfSome object
+        (λ object. object < object_count inspector.now.live.graph.heap.now) }
 {
-    match field_of(inspector, object, field) {
-        Some(target) => Ok(Some(inspector.names.label(target)?)),
+    match object {
+        Some(object) => Ok(Some(inspector.names.label(object)?)),
         None => Ok(None),
-    }
-}
-
-/// Returns the SmallInteger in a field of an object. None if there is none.
-pub(crate) fn integer_in(
-    inspector: &Inspector<'_>,
-    object: ObjectIndex,
-    field: usize,
-) -> Option<i32>
-    requires { object < object_count inspector.now.live.graph.heap.now }
-{
-    let object = inspector.live.graph.heap.object(object);
-    match value_of(object.fields().get(field)?) {
-        Value::Int(number) => Some(number),
-        Value::Pointer(_) | Value::Odd(_) => None,
     }
 }
 

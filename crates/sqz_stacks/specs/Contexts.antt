@@ -6,6 +6,7 @@ use Rattle.sqz_object.specs.Layout.{layout}
 use Rattle.sqz_image.specs.declared.slot.Slot.TheVariants.{Field}
 use Rattle.sqz_image.specs.Objects.{Memory, chunk_words}
 use Rattle.sqz_trace.specs.Targets.{target}
+use Rattle.sqz_stacks.specs.Fields.{sender_field, suspended_context_field}
 
 -- an object, if it has the layout of a context
 abbrev pub if_context : Layout → ℕ → Option ℕ
@@ -23,4 +24,8 @@ context_in memory object field =
 
 -- the context to which a context returns: its sender, or the caller of a block
 abbrev pub sender : Memory → ℕ → Option ℕ
-sender memory context = context_in memory context 0
+sender memory context = context_in memory context sender_field
+
+-- the innermost context of a process
+abbrev pub innermost : Memory → ℕ → Option ℕ
+innermost memory process = context_in memory process suspended_context_field
