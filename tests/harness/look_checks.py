@@ -8,6 +8,10 @@ from tests.harness.sqzlook import CLEAR, look_at_all
 from tests.reference.alike import digest_of
 from tests.reference.answers import Answers
 from tests.reference.stacks import Stacks
+from tests.reference.strings import find
+
+# What `find` is asked for: it has the same meaning in Python as in the program.
+PATTERN = "^[A-Z][a-z]|:"
 
 
 class Question(typing.NamedTuple):
@@ -58,6 +62,7 @@ class Asking:
             self.question("census", "--dead", rows=answers.census(path, dead=True)),
             self.question("digest", rows=[{"image": path, "digest": digest_of(answers)}]),
             self.question("stacks", rows=Stacks(answers.names).rows()),
+            self.question("find", PATTERN, rows=find(answers, PATTERN.encode())),
         ]
 
     def of_retained(self):

@@ -1,16 +1,19 @@
 //! The strings and symbols that match a regular expression.
 
-ghost use Rattle.std.specs.Prelude.{◌<◌, All, IfOk};
+ghost use Rattle.std.specs.Prelude.{◌<◌, IfSome};
 ghost use Rattle.sqz_image.specs.Objects.{object_count};
+ghost use Rattle.sqz_strings.specs.Matches.{IsText};
 
-use crate::slot_holders::first_holders;
-use regex::bytes::{Matcher, Regex};
+use crate::slot_holders::referrer_text;
+use regex::bytes::Regex;
 use serde::Serialize;
-use sqz_histogram::first_bytes;
+use sqz_facts::Referrer;
 use sqz_image::Sink;
 use sqz_look_view::{Hex, Inspector, Out, PrintError};
-use sqz_names::{Label, escaped};
+use sqz_names::escaped;
 use sqz_object::ObjectIndex;
+use sqz_referrers::first_referrers_of;
+use sqz_strings::{matches_of, text_of};
 use std::alloc::AllocError;
 use std::fmt;
 
@@ -29,23 +32,29 @@ struct MatchView {
 }
 
 impl MatchView {
-    /// Returns the row of a string or symbol.
+    /// Returns the row of a string or symbol, with the first reference to it.
     fn of(
         inspector: &Inspector<'_>,
         object: ObjectIndex,
-        holder: Option<&String>,
+        referrer: Option<Referrer>,
     ) -> Result<Self, AllocError>
-        requires { object < object_count inspector.now.live.graph.heap.now }
+        requires text { IsText inspector.now.live.graph.heap.now inspector.now.live.graph.weak
+            object }
+        requires referrer { IfSome referrer (λ referrer.
+            referrer.object < object_count inspector.now.live.graph.heap.now) }
     {
-        let bytes = bytes_of(inspector, object)?;
-        let holder = match holder {
-            Some(holder) => Some(holder.clone()?),
+        let (alloc, graph) = (inspector.alloc, inspector.live.graph);
+        let Some(bytes) = text_of(alloc, graph, object)? else {
+            unreachable!()
+        };
+        let holder = match referrer {
+            Some(referrer) => Some(referrer_text(inspector, referrer)?),
             None => None,
         };
         Ok(MatchView {
             address: inspector.address(object),
             class: inspector.names.name_of_class_of(object)?,
-            text: escaped(inspector.alloc, &bytes)?,
+            text: escaped(alloc, &bytes)?,
             label: inspector.names.label(object)?,
             holder,
         })
@@ -70,58 +79,13 @@ pub fn print_matches<C: Sink>(
     pattern: &Regex,
     out: &mut Out<'_, C>,
 ) -> Result<(), PrintError> {
-    let matches = matches_of(inspector, pattern)?;
-    let holders = first_holders(inspector, &matches)?;
-    let shown = out.shown(matches.len());
+    let (alloc, live) = (inspector.alloc, &inspector.live);
+    let matches = matches_of(alloc, live, pattern)?;
+    let shown = &matches[..out.shown(matches.len())];
+    let referrers = first_referrers_of(alloc, live, shown)?;
     out.text(&"address   text")?;
-    for object in matches.iter().take(shown) {
-        out.emit(&MatchView::of(inspector, *object, holders.get(object))?)?;
+    for (object, referrers) in shown.iter().zip(&referrers) {
+        out.emit(&MatchView::of(inspector, *object, referrers.first)?)?;
     }
     out.rest(matches.len(), "string")
-}
-
-/// Returns the live strings and symbols that match a regular expression, by address.
-fn matches_of(inspector: &Inspector<'_>, pattern: &Regex) -> Result<Vec<ObjectIndex>, AllocError>
-    ensures { IfOk result (λ found.
-        All (λ object. object < object_count inspector.now.live.graph.heap.now) found.items) }
-{
-    let mut matcher = pattern.matcher(inspector.alloc)?;
-    let mut found = Vec::new(inspector.alloc);
-    for object in 0..inspector.live.graph.heap.len() {
-        if is_match(inspector, &mut matcher, object)? {
-            found.push(object)?;
-        }
-    }
-    Ok(found)
-}
-
-/// Returns whether an object is a live string or symbol that matches.
-fn is_match(
-    inspector: &Inspector<'_>,
-    matcher: &mut Matcher<'_>,
-    object: ObjectIndex,
-) -> Result<bool, AllocError>
-    requires { object < object_count inspector.now.live.graph.heap.now }
-{
-    if !inspector.live.marks.has(object) {
-        return Ok(false);
-    }
-    match inspector.names.label_of(object)? {
-        Label::String | Label::Symbol => {
-            let bytes = bytes_of(inspector, object)?;
-            Ok(matcher.is_match(&bytes))
-        }
-        _ => Ok(false),
-    }
-}
-
-/// Returns the bytes of a byte object; none of another one.
-fn bytes_of(inspector: &Inspector<'_>, object: ObjectIndex) -> Result<Vec<u8>, AllocError>
-    requires { object < object_count inspector.now.live.graph.heap.now }
-{
-    let (alloc, heap) = (inspector.alloc, inspector.live.graph.heap);
-    match first_bytes(alloc, heap.order(), &heap.object(object), usize::MAX)? {
-        Some(bytes) => Ok(bytes),
-        None => Ok(Vec::new(alloc)),
-    }
 }

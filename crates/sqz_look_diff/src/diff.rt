@@ -18,7 +18,8 @@ use sqz_alike::{Alikeness, compare};
 use sqz_answers::{Change, Size};
 use sqz_image::Sink;
 use sqz_look_view::{Inspector, Out, PrintError, SlotNames};
-use sqz_match::{Holder, find_referrers};
+use sqz_match::{Holder, objects_of};
+use sqz_referrers::first_referrers_of;
 use std::alloc::{AllocError, Global};
 use std::thread::Threads;
 
@@ -183,7 +184,8 @@ fn print_holders<C: Sink>(
     let count = holders.len();
     out.text(&format!(in alloc; "holders   {count} changed")?)?;
     let shown = &holders[..out.shown(count)];
-    let referrers = find_referrers(alloc, &new.live, shown)?;
+    let objects = objects_of(alloc, shown)?;
+    let referrers = first_referrers_of(alloc, &new.live, &objects)?;
     let mut names = SlotNames::none(alloc);
     for (holder, first) in shown.iter().zip(&referrers) {
         out.emit(&HolderView::of(new, &mut names, *holder, *first)?)?;

@@ -2,7 +2,7 @@
 
 ghost use Rattle.std.specs.Prelude.{◌<◌, IfSome};
 ghost use Rattle.sqz_image.specs.Objects.{object_count};
-ghost use Rattle.sqz_match.specs.Referrers.{AreInside};
+ghost use Rattle.sqz_referrers.specs.FirstReferrers.{AreInside};
 
 use serde::Serialize;
 use sqz_answers::bytes_or_none;
@@ -10,7 +10,8 @@ use sqz_facts::Referrer;
 use sqz_look_view::{
     Hex, Inspector, ObjectLabel, SlotName, SlotNames, write_difference, write_unit,
 };
-use sqz_match::{FirstReferrers, Holder};
+use sqz_match::Holder;
+use sqz_referrers::FirstReferrers;
 use std::alloc::AllocError;
 use std::fmt;
 

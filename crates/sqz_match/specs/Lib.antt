@@ -1,3 +1,2 @@
 pub mod NewObjects
 pub mod Holders
-pub mod Referrers

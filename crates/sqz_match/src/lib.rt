@@ -2,14 +2,12 @@
 //! their partners.
 #![tactic(auto)]
 
-mod first_referrers;
 mod growth;
 mod holder;
 mod holders;
 mod new_objects;
 
-pub use first_referrers::{FirstReferrers, find_referrers};
 pub use growth::Growth;
-pub use holder::Holder;
+pub use holder::{Holder, objects_of};
 pub use holders::find_holders;
 pub use new_objects::mark_new;

@@ -2,8 +2,8 @@ use Rattle.std.proofs.Common.{◌<◌, ◌∙◌, length, sym, arith}
 use Rattle.std.proofs.lemmas.List.{length-set}
 use Rattle.sqz_trace.specs.Edges.{strong_slots}
 use Rattle.sqz_trace.proofs.TargetLemmas.{slots_at_end}
-use Rattle.sqz_match.proofs.ReferrerLemmas.{Holds-row}
-use Rattle.sqz_match.proofs.first_referrers.add_referrers.Goals as goal
+use Rattle.sqz_referrers.proofs.ReferrerLemmas.{Holds-row}
+use Rattle.sqz_referrers.proofs.first_referrers.add_referrers.Goals as goal
 
 pub loop-slot-preserved-in-loop-slot : goal.loop-slot-preserved-in-loop-slot
 loop-slot-preserved-in-loop-slot c =

@@ -1,15 +1,14 @@
 use Rattle.std.proofs.Common.{◌≡◌, ◌∙◌, ◌++◌, ℕ, List, length, sym, ap, subst, arith}
 use Rattle.std.specs.declared.vec.Vec.{Vec}
-use Rattle.std.proofs.lemmas.List.{length-map, with_items_is}
+use Rattle.std.proofs.lemmas.List.{with_items_is}
 use Rattle.std.proofs.lemmas.Result.{IfOk-weaker}
 use Rattle.sqz_image.specs.Objects.{object_count}
 use Rattle.sqz_trace.specs.Edges.{OutEdges, strong_slots}
 use Rattle.sqz_facts.specs.Referrers.{referrers_among}
-use Rattle.sqz_match.specs.declared.holder.Holder.{Holder}
-use Rattle.sqz_match.specs.Referrers.{AreFirstTwo, AreRows, objects_of, row_of}
-use Rattle.sqz_match.proofs.ReferrerLemmas.{AreFirstTwo-same, references_below, references_below-marked, references_below-unmarked, firsts_are, firsts-inside}
-use Rattle.sqz_match.proofs.first_referrers.find_referrers.Goals as goal
-use Rattle.sqz_match.proofs.first_referrers.find_referrers.Goals.{then-has, else-has}
+use Rattle.sqz_referrers.specs.FirstReferrers.{AreFirstTwo, AreRows, row_of}
+use Rattle.sqz_referrers.proofs.ReferrerLemmas.{AreFirstTwo-same, references_below, references_below-marked, references_below-unmarked, firsts_are, firsts-inside}
+use Rattle.sqz_referrers.proofs.first_referrers.first_referrers_of.Goals as goal
+use Rattle.sqz_referrers.proofs.first_referrers.first_referrers_of.Goals.{then-has, else-has}
 
 pub add_referrers-requires-clause-own : goal.add_referrers-requires-clause-own
 add_referrers-requires-clause-own c =
@@ -62,16 +61,14 @@ returns-clause-first c =
     let memory = c.args.live.now.graph.heap.now in
     let weak = c.args.live.now.graph.weak in
     let marks = c.args.live.now.marks in
-    let holders = c.args.holders.now in
-    let objects = objects_of holders in
+    let objects = c.args.objects.now in
     let rows = c.in_ok-rows.rows.items in
     let end : c.loop-from.from ≡ object_count memory =
     omega (arith, c.loop-from-test.false, c.loop-from.auto.from-end, c.len-from-end.ensures.objects)
     in
     let listed =
     subst (λ (count : ℕ). AreRows count (length objects) objects rows) c.len.ensures.objects
-    (subst (λ (taken : ℕ). AreRows c.len.result taken objects rows) (sym (length-map holders (λ (holder : Holder). holder.object)))
-    c.in_ok-rows.ensures) in
+    c.in_ok-rows.ensures in
     let all =
     firsts_are memory weak marks rows c.loop-from.firsts.items (rw end at c.loop-from.invariant.begun) objects listed in
     IfOk-weaker c.firsts_of.result _ _ (λ found is. is ∙ all)
@@ -83,5 +80,5 @@ returns-clause-inside c =
     (λ found is.
     rw is
     (firsts-inside c.args.live.now.graph.heap.now c.args.live.now.graph.weak c.args.live.now.marks
-    (objects_of c.args.holders.now)))
+    c.args.objects.now))
     (returns-clause-first c)

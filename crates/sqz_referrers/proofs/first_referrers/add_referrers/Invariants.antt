@@ -1,8 +1,8 @@
 use Rattle.std.proofs.Common.{◌≡◌, ◌++◌, ℕ, List, length}
 use Rattle.sqz_facts.specs.declared.referrers.Referrer.{Referrer}
 use Rattle.sqz_facts.specs.Referrers.{referrers_among}
-use Rattle.sqz_match.specs.Referrers.{AreFirstTwo}
-use Rattle.sqz_match.proofs.first_referrers.add_referrers.Given as goal
+use Rattle.sqz_referrers.specs.FirstReferrers.{AreFirstTwo}
+use Rattle.sqz_referrers.proofs.first_referrers.add_referrers.Given as goal
 
 abbrev pub invariant-loop-slot : goal.invariant-loop-slot
 invariant-loop-slot l = record {

@@ -1,14 +1,13 @@
-//! What points to holders.
+//! The first references to each of many objects.
 
 ghost use Rattle.std.specs.Prelude.{All, IfOk, List, ℕ, [], ◌∷◌, ◌++◌, ◌<◌, ◌≡◌, Some, length, map};
 ghost use Rattle.sqz_image.specs.Objects.{object_count};
 ghost use Rattle.sqz_trace.specs.Edges.{strong_slots};
 ghost use Rattle.sqz_facts.specs.declared.referrers.Referrer as reference;
 ghost use Rattle.sqz_facts.specs.Referrers.{referrers, referrers_among};
-ghost use Rattle.sqz_match.specs.Referrers.{AreFirstTwo, AreInside, AreRows, first_at};
-ghost use Rattle.sqz_match.specs.Referrers.{first_two, objects_of, row_of};
+ghost use Rattle.sqz_referrers.specs.FirstReferrers.{AreFirstTwo, AreInside, AreRows, first_at};
+ghost use Rattle.sqz_referrers.specs.FirstReferrers.{first_two, row_of};
 
-use crate::holder::Holder;
 use sqz_facts::Referrer;
 use sqz_object::ObjectIndex;
 use sqz_trace::{Live, OutEdges};
@@ -54,41 +53,42 @@ impl FirstReferrers {
     }
 }
 
-/// Returns the first references to each holder. Takes one pass over the slots of all live objects,
-/// and sixteen bytes per object and up to 64 per holder. Fails only if out of memory.
-pub fn find_referrers(
+/// Returns the first references to each of some objects. Takes one pass over the slots of all live
+/// objects, and sixteen bytes per object of the image and up to 64 per listed one. Fails only if
+/// out of memory.
+pub fn first_referrers_of(
     alloc: Global,
     live: &Live<'_>,
-    holders: &[Holder],
+    objects: &[ObjectIndex],
 ) -> Result<Vec<FirstReferrers>, AllocError>
     ensures first { IfOk result (λ found. found.items ≡ map (λ object. first_two
         (referrers live.now.graph.heap.now live.now.graph.weak live.now.marks object))
-        (objects_of holders.now)) }
+        objects.now) }
     ensures inside { IfOk result (λ found.
         All (AreInside (object_count live.now.graph.heap.now)) found.items) }
 {
-    let rows = rows_of(alloc, live.graph.heap.len() as usize, holders)?;
-    let mut firsts = vec![in alloc; FirstReferrers::none(); holders.len()]?;
+    let rows = rows_of(alloc, live.graph.heap.len() as usize, objects)?;
+    let mut firsts = vec![in alloc; FirstReferrers::none(); objects.len()]?;
     for from in 0..live.graph.heap.len() {
         if live.marks.has(from) {
             add_referrers(&live.graph.edges(from), from, &rows, &mut firsts);
         }
     }
-    firsts_of(alloc, &rows, &firsts, holders)
+    firsts_of(alloc, &rows, &firsts, objects)
 }
 
-/// Returns by object index the place of a holder with this object; None for any other object.
+/// Returns by object index a place of this object among these; None for any other object.
 fn rows_of(
     alloc: Global,
     count: usize,
-    holders: &[Holder],
+    objects: &[ObjectIndex],
 ) -> Result<Vec<Option<usize>>, AllocError>
     ensures { IfOk result (λ rows.
-        AreRows count (length holders.now) (objects_of holders.now) rows.items) }
+        AreRows count (length objects.now) objects.now rows.items) }
 {
     let mut rows = vec![in alloc; None; count]?;
-    for (row, holder) in holders.iter().enumerate() {
-        let object = holder.object as usize;
+    for (row, object) in objects.iter().enumerate() {
+        let object = *object as usize;
         if object < count {
             rows[object] = Some(row);
         }
@@ -121,20 +121,20 @@ fn add_referrers(
     }
 }
 
-/// Returns the references of each holder.
+/// Returns the references to each object.
 fn firsts_of(
     alloc: Global,
     rows: &[Option<usize>],
     firsts: &[FirstReferrers],
-    holders: &[Holder],
+    objects: &[ObjectIndex],
 ) -> Result<Vec<FirstReferrers>, AllocError>
     requires { (object row : ℕ) → row_of rows.now object ≡ Some row → row < length firsts.now }
     ensures { IfOk result (λ found. found.items
-        ≡ map (λ object. first_at firsts.now (row_of rows.now object)) (objects_of holders.now)) }
+        ≡ map (λ object. first_at firsts.now (row_of rows.now object)) objects.now) }
 {
-    let mut found = Vec::with_capacity(alloc, holders.len())?;
-    for holder in holders {
-        found.push(match row_in(rows, holder.object) {
+    let mut found = Vec::with_capacity(alloc, objects.len())?;
+    for object in objects {
+        found.push(match row_in(rows, *object) {
             Some(row) => firsts[row],
             None => FirstReferrers::none(),
         })?;

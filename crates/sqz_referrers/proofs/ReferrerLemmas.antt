@@ -20,8 +20,8 @@ use Rattle.sqz_facts.specs.Referrers.{points_to, referrers_among, referrers_from
 use Rattle.sqz_facts.proofs.RangeLemmas.{flat_map-next}
 use Rattle.sqz_facts.proofs.ReferrerLemmas.{referrers_among-no, referrers_among-yes, referrers_from-marked, referrers_from-unmarked}
 use Rattle.sqz_facts.proofs.ReferrerLemmas.{referrers-inside, referrers-outside}
-use Rattle.sqz_match.specs.declared.first_referrers.FirstReferrers.{FirstReferrers}
-use Rattle.sqz_match.specs.Referrers.{AreFirstTwo, AreInside, AreRows, first_at, first_two, row_of}
+use Rattle.sqz_referrers.specs.declared.first_referrers.FirstReferrers.{FirstReferrers}
+use Rattle.sqz_referrers.specs.FirstReferrers.{AreFirstTwo, AreInside, AreRows, first_at, first_two, row_of}
 
 -- ---- rows
 

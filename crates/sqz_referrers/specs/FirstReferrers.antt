@@ -1,9 +1,8 @@
--- What points to holders.
-use Rattle.std.specs.Prelude.{◌≡◌, ◌≢◌, ◌<◌, ℕ, List, [], ◌∷◌, length, map, slice_index, slice_index_or}
+-- The first two references to each of some objects.
+use Rattle.std.specs.Prelude.{◌≡◌, ◌≢◌, ◌<◌, ℕ, List, [], ◌∷◌, length, slice_index, slice_index_or}
 use Rattle.std.specs.Prelude.{Option, Some, None, IfSome}
 use Rattle.sqz_facts.specs.declared.referrers.Referrer.{Referrer}
-use Rattle.sqz_match.specs.declared.first_referrers.FirstReferrers.{FirstReferrers}
-use Rattle.sqz_match.specs.declared.holder.Holder.{Holder}
+use Rattle.sqz_referrers.specs.declared.first_referrers.FirstReferrers.{FirstReferrers}
 
 -- the objects that hold the references are below a count
 pub record AreInside (count : ℕ) (referrers : FirstReferrers) : Type 0 where
@@ -15,9 +14,6 @@ abbrev pub first_two : List Referrer → FirstReferrers
 first_two [] = record { first = None; second = None }
 first_two (one ∷ []) = record { first = Some one; second = None }
 first_two (one ∷ two ∷ more) = record { first = Some one; second = Some two }
-
-abbrev pub objects_of : List Holder → List ℕ
-objects_of holders = map (λ holder. holder.object) holders
 
 -- the row of an object in a table by object
 abbrev pub row_of : List (Option ℕ) → ℕ → Option ℕ
