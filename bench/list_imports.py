@@ -2,20 +2,13 @@
 """Lists the definitions that a statement rests on: the files that one reads to judge what it says.
 Prints them in an order in which each comes after those that it uses, with their lines.
 
-Usage: bench/list_imports.py [CRATE/MODULE ...]
-       bench/list_imports.py --promises
-
-A module is one of `specs/`, as `sqz_answers/Why`. Without one, the modules are those that the
-contract of `run` names: `sqz_tool/Headline`. With `--promises`, prints one line for each promise of
-docs/GUARANTEES.md, and for each answer of `sqzlook`.
-
 The imports are followed within the repository: a module that imports another one needs all of it.
 A type that is declared in Rust counts as its declaration. The libraries of Rattle are left out. A
 line counts unless it is blank or a comment alone."""
 
+import argparse
 import pathlib
 import re
-import sys
 
 ROOT = pathlib.Path(__file__).resolve().parent.parent
 HEADLINE = ["sqz_tool/Headline"]
@@ -47,12 +40,15 @@ PROMISES = {
     "`top`": ["sqz_answers/TopRows"],
     "`top --by`": ["sqz_answers/GroupedRows"],
     "`diff`: alike": ["sqz_alike/Alike"],
+    "`diff`: the first objects": ["sqz_alike/FirstDifference"],
     "`diff`: the exit": ["sqz_look_cli/Comparison"],
     "`digest`": ["sqz_digest/Written"],
     "`mend`": ["sqz_mend/Recovery"],
     "`mend --nil`": ["sqz_repair/Repairs"],
     "instructions of `code`": ["sqz_methods/Parts", "sqz_code/Instructions"],
     "`senders`, `code --unsent`": ["sqz_selectors/Mentions", "sqz_selectors/Picks"],
+    "`stacks`": ["sqz_stacks/Processes", "sqz_stacks/Stacks", "sqz_stacks/Frames"],
+    "`find`": ["sqz_strings/Matches", "sqz_referrers/FirstReferrers"],
     "labels": ["sqz_names/Labels"],
 }
 
@@ -134,12 +130,32 @@ def print_promises():
         print(f"| {promise} | {names} | {files} | {lines} | {count} |")
 
 
+def module(word):
+    """The module that a word of the command line names."""
+    if not path_of(word).is_file():
+        raise argparse.ArgumentTypeError(f"no module {word}")
+    return word
+
+
 def main():
-    words = sys.argv[1:]
-    if words == ["--promises"]:
+    parser = argparse.ArgumentParser(description=__doc__.splitlines()[0])
+    parser.add_argument(
+        "modules",
+        nargs="*",
+        type=module,
+        metavar="CRATE/MODULE",
+        help=f"a module of specs/, as sqz_answers/Why; else {HEADLINE[0]}, which `run` names",
+    )
+    parser.add_argument(
+        "--promises",
+        action="store_true",
+        help="print a line for each promise of docs/GUARANTEES.md and each answer of sqzlook",
+    )
+    arguments = parser.parse_args()
+    if arguments.promises:
         print_promises()
     else:
-        print_files(words or HEADLINE)
+        print_files(arguments.modules or HEADLINE)
 
 
 if __name__ == "__main__":
