@@ -37,9 +37,7 @@ class Stacks:
 
     def __init__(self, names):
         self.names, self.image, self.listed = names, names.image, set()
-        scheduler = names.target(
-            self.image.special, SpecialField.SCHEDULER, AssociationField.VALUE
-        )
+        scheduler = names.target(self.image.special, SpecialField.SCHEDULER, AssociationField.VALUE)
         self.active = names.target(scheduler, SchedulerField.ACTIVE)
         self.ready_lists = names.target(scheduler, SchedulerField.READY_LISTS)
 
@@ -79,9 +77,7 @@ class Stacks:
         """What a process does, and the list that it waits in."""
         if number == self.active:
             return "active", None
-        nil = self.image.strong_field(
-            self.image.special, SpecialField.NIL, self.names.clear_weak
-        )
+        nil = self.image.strong_field(self.image.special, SpecialField.NIL, self.names.clear_weak)
         waits_in = self.image.field(number, ProcessField.LIST)
         if waits_in in (None, nil):
             return "suspended", None
