@@ -11,7 +11,7 @@ use Rattle.sqz_alike.specs.Seen.{Seen}
 abbrev pub any_kind : Seen → Seen → SeenSides
 any_kind old new = record { old = old; new = new; old_kinds = []; new_kinds = [] }
 
--- the pairs that a walk from the roots finds, after as many of them were followed
+-- the pairs that a walk from the roots has found when the first `count` of them were followed
 abbrev pub walked : Seen → Seen → Pair → ℕ → List Pair
 walked old new roots count = follow_first (any_kind old new) (roots ∷ []) count
 

@@ -19,8 +19,8 @@ pub(crate) const PRIORITY: u32 = 2;
 /// The field of a process that points to the list that it is in.
 pub(crate) const LIST: u32 = 3;
 
-/// The field of a context that points to the context to which it returns: its sender, or the caller
-/// of a block.
+/// The field of a context that points to the context to which it returns: its sender, or for a
+/// block its caller.
 pub(crate) const SENDER: u32 = 0;
 
 /// The field of a context with its program counter.
