@@ -32,6 +32,8 @@ class StacksTest(LookTest):
         contexts = [context for row in rows for context in row["contexts"]]
         self.assertEqual([context["block"] for context in contexts], [True, False, True, False])
         self.assertEqual([context["pc"] for context in contexts], [-1, 5, 17, 3])
+        receivers = [context["receiver"] for context in contexts]
+        self.assertEqual([receivers[0], receivers[1]], [None, 7])
         self.assertEqual([row["meets"] is None for row in rows[:2]], [True, False])
 
     def test_text(self):
@@ -44,6 +46,7 @@ class StacksTest(LookTest):
         ends = ["active", "ready", "ready", *["waits for"] * 4, "suspended", "suspended"]
         for head, end in zip(heads, ends, strict=True):
             self.assertIn(f", {end}", head)
+        self.assertTrue(lines[2].endswith(" at 5, self 7"), lines[2])
 
     def test_no_process(self):
         for broken in (SpecialField.SCHEDULER, SpecialField.COMPACT_CLASSES):

@@ -99,12 +99,16 @@ class Image:
                     found.append(Pointer(place, owner, numbers.get(words[place])))
         return [it for it in found if it.target is not None]
 
-    def field(self, number, field):
-        """The number of the object that a field points to, if it exists and is no SmallInteger."""
+    def traced_word(self, number, field):
+        """The word of a field, if it is traced."""
         place = self.objects[number].base + 1 + field
         if place >= traced_end(self.words, self.objects[number]):
             return None
-        return self.numbers.get(self.words[place])
+        return self.words[place]
+
+    def field(self, number, field):
+        """The number of the object that a field points to, if it exists and is no SmallInteger."""
+        return self.numbers.get(self.traced_word(number, field))
 
     def header_of(self, number):
         return self.words[self.objects[number].base]

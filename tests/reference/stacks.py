@@ -4,7 +4,7 @@ import enum
 
 from tests.reference.fields import AssociationField, SpecialField
 from tests.reference.objects import is_context
-from tests.reference.values import fields_of, signed
+from tests.reference.values import signed
 
 
 class SchedulerField(enum.IntEnum):
@@ -49,9 +49,9 @@ class Stacks:
         return [self.process(it) for it in live if self.names.class_of(it) == a_class]
 
     def integer(self, number, field):
-        """The SmallInteger in a field, if there is one."""
-        fields = fields_of(self.image, number)
-        return signed(fields[field]) if field < len(fields) and fields[field] & 1 else None
+        """The SmallInteger in a traced field, if there is one."""
+        word = self.image.traced_word(number, field)
+        return signed(word) if word is not None and word & 1 else None
 
     def label(self, number):
         return None if number is None else self.names.label(number)
@@ -92,6 +92,15 @@ class Stacks:
         found = self.image.field(number, field)
         return found if found is not None and is_context(self.image.header_of(found)) else None
 
+    def receiver(self, home):
+        """The receiver in the context of a method: a number, or a label."""
+        if home is None:
+            return None
+        number = self.integer(home, ContextField.RECEIVER)
+        if number is not None:
+            return number
+        return self.label(self.image.field(home, ContextField.RECEIVER))
+
     def context(self, number):
         is_block = self.integer(number, ContextField.METHOD) is not None
         home = self.image.field(number, ContextField.HOME) if is_block else number
@@ -100,5 +109,5 @@ class Stacks:
             "method": self.label(self.names.target(home, ContextField.METHOD)),
             "block": is_block,
             "pc": self.integer(number, ContextField.PC),
-            "receiver": self.label(self.names.target(home, ContextField.RECEIVER)),
+            "receiver": self.receiver(home),
         }

@@ -2,13 +2,43 @@
 
 ghost use Rattle.std.specs.Prelude.{◌<◌, IfSome};
 ghost use Rattle.sqz_image.specs.Objects.{object_count};
+ghost use Rattle.sqz_stacks.specs.Frames.{ReceiverBelow};
 
 use serde::Serialize;
 use sqz_look_view::{Hex, Inspector};
 use sqz_object::ObjectIndex;
-use sqz_stacks::frame_of;
+use sqz_stacks::{Receiver, frame_of};
 use std::alloc::AllocError;
 use std::fmt;
+
+/// The receiver of a method: the label of an object, or a SmallInteger.
+#[derive(Drop, Serialize)]
+#[serde(untagged)]
+enum ReceiverView {
+    Object(String),
+    Integer(i32),
+}
+
+impl ReceiverView {
+    /// Returns a receiver.
+    fn of(inspector: &Inspector<'_>, receiver: Receiver) -> Result<Self, AllocError>
+        requires { ReceiverBelow (object_count inspector.now.live.graph.heap.now) receiver }
+    {
+        match receiver {
+            Receiver::Object(object) => Ok(ReceiverView::Object(inspector.names.label(object)?)),
+            Receiver::Integer(number) => Ok(ReceiverView::Integer(number)),
+        }
+    }
+}
+
+impl fmt::Display for ReceiverView {
+    fn fmt<W: fmt::Write>(&self, f: &mut fmt::Formatter<W>) -> fmt::Result {
+        match self {
+            ReceiverView::Object(label) => f.write_str(label.as_str()),
+            ReceiverView::Integer(number) => write!(f, "{number}"),
+        }
+    }
+}
 
 /// A context of a process.
 #[derive(Drop, Serialize)]
@@ -20,7 +50,7 @@ pub(crate) struct ContextView {
     block: bool,
     /// The program counter, in bytes of the method from 1.
     pc: Option<i32>,
-    receiver: Option<String>,
+    receiver: Option<ReceiverView>,
 }
 
 impl ContextView {
@@ -29,12 +59,16 @@ impl ContextView {
         requires { context < object_count inspector.now.live.graph.heap.now }
     {
         let frame = frame_of(inspector.live.graph.heap, context);
+        let receiver = match frame.receiver {
+            Some(receiver) => Some(ReceiverView::of(inspector, receiver)?),
+            None => None,
+        };
         Ok(ContextView {
             address: inspector.address(context),
             method: label_of(inspector, frame.method)?,
             block: frame.is_block,
             pc: frame.pc,
-            receiver: label_of(inspector, frame.receiver)?,
+            receiver,
         })
     }
 }
@@ -68,7 +102,7 @@ impl fmt::Display for ContextView {
             write!(f, " at {pc}")?;
         }
         match &self.receiver {
-            Some(receiver) => write!(f, ", self {}", receiver.as_str()),
+            Some(receiver) => write!(f, ", self {receiver}"),
             None => Ok(()),
         }
     }

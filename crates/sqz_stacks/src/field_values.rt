@@ -6,15 +6,15 @@ ghost use Rattle.sqz_stacks.specs.FieldValues.{along, integer_in};
 
 use sqz_image::{Heap, Slot};
 use sqz_object::{ObjectIndex, Value, value_of};
-use sqz_trace::target;
+use sqz_trace::{slot_word, target};
 
-/// Returns the SmallInteger in a field of an object, given its number from 0. None if there is no
-/// such field, and if it holds something else.
+/// Returns the SmallInteger in a traced field of an object, given its number from 0. None if the
+/// object has no such field, and if it holds something else.
 pub(crate) fn integer_in(heap: &Heap, object: ObjectIndex, field: u32) -> Option<i32>
     requires { object < object_count heap.now }
     ensures { result ≡ integer_in heap.now object field }
 {
-    match value_of(heap.object(object).fields().get(field as usize)?) {
+    match value_of(slot_word(heap, object, Slot::Field(field))?) {
         Value::Int(number) => Some(number),
         Value::Pointer(_) | Value::Odd(_) => None,
     }

@@ -1,14 +1,24 @@
 //! What contexts run.
 
-ghost use Rattle.std.specs.Prelude.{◌≡◌, ◌<◌, IfSome};
+ghost use Rattle.std.specs.Prelude.{◌≡◌, ◌<◌, IfSome, option_and_then};
 ghost use Rattle.sqz_image.specs.Objects.{object_count};
 ghost use Rattle.sqz_stacks.specs.FieldValues.{along};
-ghost use Rattle.sqz_stacks.specs.Frames.{frame, home};
+ghost use Rattle.sqz_stacks.specs.Fields.{method_field};
+ghost use Rattle.sqz_stacks.specs.Frames.{ReceiverBelow, frame, home, receiver};
 
 use crate::field_values::{field_of, integer_in};
 use crate::fields::{HOME, METHOD, PROGRAM_COUNTER, RECEIVER};
 use sqz_image::Heap;
 use sqz_object::ObjectIndex;
+
+/// The receiver of a method.
+#[derive(Clone, Copy)]
+pub enum Receiver {
+    /// An object with a header.
+    Object(ObjectIndex),
+    /// A SmallInteger.
+    Integer(i32),
+}
 
 /// What a context runs.
 #[derive(Clone, Copy)]
@@ -19,8 +29,7 @@ pub struct Frame {
     pub is_block: bool,
     /// The program counter: a byte of the method, counted from 1.
     pub pc: Option<i32>,
-    /// The receiver of the method, if it is an object with a header.
-    pub receiver: Option<ObjectIndex>,
+    pub receiver: Option<Receiver>,
 }
 
 /// Returns what a context runs. What its fields do not state is None.
@@ -28,7 +37,7 @@ pub fn frame_of(heap: &Heap, context: ObjectIndex) -> Frame
     requires { context < object_count heap.now }
     ensures frame { result ≡ frame heap.now context }
     ensures method { IfSome result.method (λ method. method < object_count heap.now) }
-    ensures receiver { IfSome result.receiver (λ receiver. receiver < object_count heap.now) }
+    ensures receiver { IfSome result.receiver (ReceiverBelow (object_count heap.now)) }
 {
     let is_block = integer_in(heap, context, METHOD).is_some();
     let home = if is_block {
@@ -37,18 +46,31 @@ pub fn frame_of(heap: &Heap, context: ObjectIndex) -> Frame
         Some(context)
     };
     Frame {
-        method: field_along(heap, home, METHOD),
+        method: method_in(heap, home),
         is_block,
         pc: integer_in(heap, context, PROGRAM_COUNTER),
-        receiver: field_along(heap, home, RECEIVER),
+        receiver: receiver_in(heap, home),
     }
 }
 
-/// Returns the object that a traced field of an object points to. None also if there is no object.
-fn field_along(heap: &Heap, object: Option<ObjectIndex>, field: u32) -> Option<ObjectIndex>
-    requires { IfSome object (λ object. object < object_count heap.now) }
-    ensures along { result ≡ along heap.now field object }
+/// Returns the method of a context. None also if there is no context.
+fn method_in(heap: &Heap, home: Option<ObjectIndex>) -> Option<ObjectIndex>
+    requires { IfSome home (λ context. context < object_count heap.now) }
+    ensures along { result ≡ along heap.now method_field home }
     ensures inside { IfSome result (λ found. found < object_count heap.now) }
 {
-    field_of(heap, object?, field)
+    field_of(heap, home?, METHOD)
+}
+
+/// Returns the receiver of a method, given its context. None also if there is no context.
+fn receiver_in(heap: &Heap, home: Option<ObjectIndex>) -> Option<Receiver>
+    requires { IfSome home (λ context. context < object_count heap.now) }
+    ensures receiver { result ≡ option_and_then (receiver heap.now) home }
+    ensures inside { IfSome result (ReceiverBelow (object_count heap.now)) }
+{
+    let context = home?;
+    if let Some(number) = integer_in(heap, context, RECEIVER) {
+        return Some(Receiver::Integer(number));
+    }
+    Some(Receiver::Object(field_of(heap, context, RECEIVER)?))
 }

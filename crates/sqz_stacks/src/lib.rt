@@ -10,7 +10,7 @@ mod senders;
 mod stack;
 mod states;
 
-pub use frames::{Frame, frame_of};
+pub use frames::{Frame, Receiver, frame_of};
 pub use processes::processes_of;
 pub use senders::innermost_of;
 pub use stack::{Stack, stack_from};
