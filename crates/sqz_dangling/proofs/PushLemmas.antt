@@ -14,7 +14,8 @@ use Rattle.sqz_dangling.specs.declared.patch.Patch.{Patch}
 use Rattle.sqz_dangling.specs.declared.nil_error.NilError.{NilError}
 use Rattle.sqz_dangling.specs.declared.nil_error.NilError.TheVariants.{OutOfMemory, NoNil, NoSpecialObjects}
 use Rattle.sqz_dangling.specs.Dangling.{is_dangling, is_dangling_word, dangles, dangling_among}
-use Rattle.sqz_dangling.specs.Patches.{slot_patch, slot_index, nil_word}
+use Rattle.sqz_places.specs.Words.{slot_index}
+use Rattle.sqz_dangling.specs.Patches.{nil_patch, slot_patch, nil_word}
 use Rattle.sqz_dangling.specs.Pushed.{nil_or_zero, ArePushed, IsPushError, IsMissing}
 
 module _ (memory : Memory) (chunk : List ℕ) where
@@ -82,9 +83,9 @@ module _ (nil : Option ℕ) (object : Object) where
   -- the patch of one slot
   pub ArePushed-slot : (slot : Slot) (word value : ℕ) (old new : List Patch)
       → word ≡ object.first + slot_index object.chunk slot → value ≡ nil_word (nil_or_zero nil) object.chunk slot
-      → new ≡ old ++ record { word = word; value = value } ∷ [] → IsSome nil → ArePushed nil object (slot ∷ []) old new
+      → new ≡ old ++ nil_patch word value ∷ [] → IsSome nil → ArePushed nil object (slot ∷ []) old new
   ArePushed-slot slot word value old new word_is value_is pushed some =
-      let last : ℕ → ℕ → List Patch = λ w v. old ++ record { word = w; value = v } ∷ [] in
+      let last : ℕ → ℕ → List Patch = λ w v. old ++ nil_patch w v ∷ [] in
       record {
         pushed = pushed ∙ ap (λ (w : ℕ). last w value) word_is ∙ ap (λ (v : ℕ). last (object.first + slot_index object.chunk slot) v) value_is;
         needed = λ none. absurd (let no = rw none at some in cc);

@@ -1,36 +1,35 @@
 -- The data words that are written anew so that no pointer of a live object leads nowhere.
-use Rattle.std.specs.Prelude.{◌≡◌, ℕ, ◌+◌, ◌-◌, ◌%◌, ◌<◌, Bool, true, false, if◌then◌else◌, List, [], ◌∷◌, map, length}
+use Rattle.std.specs.Prelude.{◌≡◌, ℕ, ◌+◌, ◌%◌, ◌<◌, Bool, true, false, if◌then◌else◌, List, [], ◌∷◌, map, length}
 use Rattle.std.specs.Prelude.{slice_index, slice_set, None, MatchOption, IfSome, Contains}
 use Rattle.std.specs.List.{flat_map, range_with_len}
-use Rattle.sqz_object.specs.Chunk.{before}
 use Rattle.sqz_image.specs.declared.slot.Slot.{Slot}
 use Rattle.sqz_image.specs.declared.slot.Slot.TheVariants.{ClassWord, Field}
 use Rattle.sqz_image.specs.Objects.{Memory, Object, object_count, object_at, chunk_words, find}
 use Rattle.sqz_trace.specs.Graph.{is_marked}
 use Rattle.sqz_damage.specs.Filled.{free_header}
+use Rattle.sqz_places.specs.Words.{slot_index}
+use Rattle.sqz_dangling.specs.declared.patch.Becomes.TheVariants.{Nil, FreeChunk}
 use Rattle.sqz_dangling.specs.declared.patch.Patch.{Patch}
 use Rattle.sqz_dangling.specs.declared.nil_error.NilError.{NilError}
 use Rattle.sqz_dangling.specs.declared.nil_error.NilError.TheVariants.{OutOfMemory, NoNil, NoSpecialObjects}
 use Rattle.sqz_dangling.specs.Dangling.{is_untraceable, dangling_slots, nil_address}
-
--- the index of a slot's word among the words of a chunk
-abbrev pub slot_index : List ℕ → Slot → ℕ
-slot_index chunk ClassWord = before chunk - 1
-slot_index chunk (Field index) = before chunk + 1 + index
 
 -- the word of a slot that points to nil; a class word keeps its header type, the low two bits
 abbrev pub nil_word : ℕ → List ℕ → Slot → ℕ
 nil_word nil chunk ClassWord = nil + slice_index chunk (slot_index chunk ClassWord) % 4
 nil_word nil chunk (Field index) = nil
 
+-- a word becomes this pointer to nil
+abbrev pub nil_patch : ℕ → ℕ → Patch
+nil_patch word value = record { word = word; value = value; becomes = Nil }
+
 -- the slot of an object becomes a pointer to nil
 abbrev pub slot_patch : ℕ → Object → Slot → Patch
-slot_patch nil object slot =
-    record { word = object.first + slot_index object.chunk slot; value = nil_word nil object.chunk slot }
+slot_patch nil object slot = nil_patch (object.first + slot_index object.chunk slot) (nil_word nil object.chunk slot)
 
 -- the chunk of an object becomes a free chunk
 abbrev pub free_patch : Object → Patch
-free_patch object = record { word = object.first; value = free_header (length object.chunk) }
+free_patch object = record { word = object.first; value = free_header (length object.chunk); becomes = FreeChunk }
 
 -- the patches of an object: an object that cannot be traced becomes a free chunk, and in any other
 -- one each slot that dangles points to nil. `nil` is the address of nil

@@ -13,6 +13,6 @@ mod untraceable;
 mod writing;
 
 pub use nil_error::NilError;
-pub use patch::Patch;
+pub use patch::{Becomes, Patch};
 pub use patches::nil_patches;
 pub use writing::write_patches;

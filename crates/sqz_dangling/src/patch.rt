@@ -2,6 +2,15 @@
 
 use sqz_object::WordIndex;
 
+/// What a data word becomes.
+#[derive(Clone, Copy, Debug, PartialEq, Eq)]
+pub enum Becomes {
+    /// A pointer to nil.
+    Nil,
+    /// The header of a free chunk.
+    FreeChunk,
+}
+
 /// A data word that is written anew.
 #[derive(Clone, Copy, Debug, PartialEq, Eq)]
 pub struct Patch {
@@ -9,4 +18,6 @@ pub struct Patch {
     pub word: WordIndex,
     /// The new word.
     pub value: u32,
+    /// What the word becomes.
+    pub becomes: Becomes,
 }

@@ -6,12 +6,12 @@ ghost use Rattle.sqz_object.specs.Chunk.{chunk_kind};
 ghost use Rattle.sqz_image.specs.Objects.{object_count, object_at, chunk_words};
 ghost use Rattle.sqz_trace.specs.Slots.{traced, class_slots, field_slots};
 ghost use Rattle.sqz_dangling.specs.Dangling.{dangling_among};
-ghost use Rattle.sqz_dangling.specs.Patches.{patches_of, dangling_of};
+ghost use Rattle.sqz_dangling.specs.Patches.{patches_of, nil_patch, dangling_of};
 ghost use Rattle.sqz_dangling.specs.Pushed.{ArePushed, IsPushError, IsMissing, nil_or_zero};
 
 use crate::dangling::is_dangling;
 use crate::nil_error::NilError;
-use crate::patch::Patch;
+use crate::patch::{Becomes, Patch};
 use crate::untraceable::is_untraceable;
 use sqz_image::Heap;
 use sqz_object::{Address, Kind, ObjectIndex, WordIndex};
@@ -41,6 +41,7 @@ pub(crate) fn push_patches(
         patches.push(Patch {
             word: heap.first(object),
             value: 4 * chunk.header().length + 2,
+            becomes: Becomes::FreeChunk,
         })?;
         return Ok(());
     }
@@ -115,7 +116,7 @@ fn push_nil(
     requires nil { IfSome nil (λ address. address + 4 ≤ 2 ^ 32) }
     requires low { low < 4 }
     ensures pushed { OnOk result (patches.new.items
-        ≡ patches.old.items ++ record { word = word; value = nil_or_zero nil + low } ∷ []) }
+        ≡ patches.old.items ++ nil_patch word (nil_or_zero nil + low) ∷ []) }
     ensures needed { OnOk result (IsSome nil) }
     ensures refused { IfErr result (λ error. IsMissing nil error) }
 {
@@ -125,6 +126,7 @@ fn push_nil(
     patches.push(Patch {
         word,
         value: nil + low,
+        becomes: Becomes::Nil,
     })?;
     Ok(())
 }

@@ -1,6 +1,6 @@
 //! Patches of worked images, whose first data word has the address 0x1000, and patches in bytes.
 
-use crate::{NilError, Patch, nil_patches, write_patches};
+use crate::{Becomes, NilError, Patch, nil_patches, write_patches};
 use sqz_image::{Image, read_image};
 use sqz_object::Order;
 use sqz_trace::{Live, ObjectGraph, Weak};
@@ -76,7 +76,22 @@ fn assert_patches<R: Abort + AllocGlobal>(
 /// A pointer to nil, which is at word 4, in place of word `word`. `low` is the header type.
 const fn nil_at(word: u32, low: u32) -> Patch {
     let value = if low == 1 { 0x1011 } else { 0x1010 };
-    Patch { word, value }
+    let becomes = Becomes::Nil;
+    Patch {
+        word,
+        value,
+        becomes,
+    }
+}
+
+/// The header of a free chunk in place of word `word`.
+const fn free_at(word: u32, value: u32) -> Patch {
+    let becomes = Becomes::FreeChunk;
+    Patch {
+        word,
+        value,
+        becomes,
+    }
 }
 
 #[test]
@@ -115,7 +130,7 @@ fn class_word_keeps_header_type(rt: HostRuntime) -> Result<(), Fail> {
 #[test]
 fn object_without_class(rt: HostRuntime) -> Result<(), Fail> {
     let words = [FOUR_WORDS, 0x1010, 0x1014, INT_0, ONE_WORD, NO_CLASS, ODD];
-    let freed = Patch { word: 5, value: 10 };
+    let freed = free_at(5, 10);
     assert_patches(&rt, &words, Ok(&[nil_at(2, 0), freed]))
 }
 
@@ -132,7 +147,7 @@ fn bad_method(rt: HostRuntime) -> Result<(), Fail> {
         METHOD,
         ONE_LITERAL,
     ];
-    let freed = Patch { word: 5, value: 10 };
+    let freed = free_at(5, 10);
     assert_patches(&rt, &words, Ok(&[nil_at(2, 0), freed]))
 }
 
@@ -141,7 +156,7 @@ fn bad_context(rt: HostRuntime) -> Result<(), Fail> {
     let words = [
         FOUR_WORDS, 0x1010, INT_0, 0x1014, ONE_WORD, CONTEXT, INT_0, INT_0, INT_0,
     ];
-    let freed = Patch { word: 5, value: 18 };
+    let freed = free_at(5, 18);
     assert_patches(&rt, &words, Ok(&[nil_at(3, 0), freed]))
 }
 
@@ -168,11 +183,17 @@ fn no_special_objects(rt: HostRuntime) -> Result<(), Fail> {
 
 #[test]
 fn written(rt: HostRuntime) {
+    let becomes = Becomes::Nil;
     let patches = [
-        Patch { word: 2, value: 7 },
+        Patch {
+            word: 2,
+            value: 7,
+            becomes,
+        },
         Patch {
             word: 0,
             value: 256,
+            becomes,
         },
     ];
     let mut bytes = [9u8; 14];

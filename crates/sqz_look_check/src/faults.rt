@@ -1,16 +1,17 @@
 //! A fault, and where it is.
 
-ghost use Rattle.std.specs.Prelude.{◌<◌, IfSome};
+ghost use Rattle.std.specs.Prelude.{◌<◌};
 ghost use Rattle.sqz_image.specs.Objects.{object_count};
 
 use crate::causes::{BadWord, Cause, NearObject};
 use serde::Serialize;
 use sqz_facts::slot_facts;
-use sqz_image::{Fault, HEADER_SIZE, Heap, Slot};
+use sqz_image::{Fault, Slot};
 use sqz_look_path::PathLine;
-use sqz_look_view::{Hex, Inspector, SlotNames, Subject, object_at};
+use sqz_look_view::{Hex, Inspector, SlotNames, Subject};
 use sqz_names::Label;
-use sqz_object::{ObjectIndex, WordIndex};
+use sqz_object::ObjectIndex;
+use sqz_places::{fault_place, near_object};
 use std::alloc::{AllocError, Global};
 use std::fmt;
 
@@ -58,19 +59,16 @@ impl FaultView {
 
     /// Returns a fault of an object of an image.
     pub(crate) fn in_image(subject: &Subject<'_>, fault: Fault) -> Result<Self, AllocError> {
-        let heap = subject.live.graph.heap;
-        let Some(object) = object_of(heap, &fault) else {
+        let Some(place) = fault_place(subject.image, fault) else {
             return FaultView::of(subject.alloc, fault, None);
         };
-        let slot = slot_of(&fault);
-        let cause = match slot {
-            Some(slot) => bad_word(subject, object, slot)?.map(Cause::Pointer),
+        let cause = match place.slot {
+            Some(slot) => bad_word(subject, place.object, slot)?.map(Cause::Pointer),
             None => None,
         };
         let mut view = FaultView::of(subject.alloc, fault, cause)?;
-        let start = subject.image.prefix().len() as u64 + HEADER_SIZE as u64;
-        view.byte = Some(start + 4 * u64::from(word_of(heap, object, slot)));
-        view.address = Some(subject.address(object));
+        view.byte = Some(place.byte);
+        view.address = Some(subject.address(place.object));
         Ok(view)
     }
 
@@ -81,12 +79,12 @@ impl FaultView {
         inspector: &Inspector<'_>,
         finds_path: bool,
     ) -> Result<(), AllocError> {
-        let Some(object) = object_of(inspector.live.graph.heap, &self.fault) else {
+        let Some(place) = fault_place(inspector.image, self.fault) else {
             return Ok(());
         };
-        self.owner = owner_of(inspector, object, slot_of(&self.fault))?;
+        self.owner = owner_of(inspector, place.object, place.slot)?;
         if self.owner.is_none() && finds_path {
-            self.path = PathLine::of(inspector, object)?;
+            self.path = PathLine::of(inspector, place.object)?;
         }
         Ok(())
     }
@@ -112,28 +110,6 @@ impl fmt::Display for FaultView {
             (None, Some(path)) => write!(f, ", at {path}"),
             (None, None) => Ok(()),
         }
-    }
-}
-
-/// Returns the object that is at fault.
-fn object_of(heap: &Heap, fault: &Fault) -> Option<ObjectIndex>
-    ensures { IfSome result (λ object. object < object_count heap.now) }
-{
-    match *fault {
-        Fault::NoClass { address }
-        | Fault::BadMethod { address }
-        | Fault::BadContext { address }
-        | Fault::BadWeak { address }
-        | Fault::BadPointer { address, .. } => object_at(heap, address),
-        _ => None,
-    }
-}
-
-/// Returns the slot that is at fault.
-fn slot_of(fault: &Fault) -> Option<Slot> {
-    match *fault {
-        Fault::BadPointer { slot, .. } => Some(slot),
-        _ => None,
     }
 }
 
@@ -167,18 +143,6 @@ fn slot_text(
     SlotNames::of(inspector, object)?.text(slot)
 }
 
-/// Returns the data word of a slot of an object, or of its base header.
-fn word_of(heap: &Heap, object: ObjectIndex, slot: Option<Slot>) -> WordIndex
-    requires { object < object_count heap.now }
-{
-    let header = heap.first(object).saturating_add(heap.chunk(object).before);
-    match slot {
-        Some(Slot::ClassWord) => header.saturating_sub(1),
-        Some(Slot::Field(index)) => header.saturating_add(1).saturating_add(index),
-        None => header,
-    }
-}
-
 /// Returns what a bad slot holds, and the object whose address is one bit away. None if the object
 /// has no such slot.
 fn bad_word(
@@ -192,7 +156,7 @@ fn bad_word(
     let Some(held) = slot_facts(heap, object, slot) else {
         return Ok(None);
     };
-    let near = match one_bit_from(heap, held.word) {
+    let near = match near_object(heap, held.word) {
         Some(near) => Some(NearObject {
             address: subject.address(near),
             class: subject.name_of_class_of(near)?,
@@ -201,20 +165,4 @@ fn bad_word(
     };
     let word = Hex(held.word);
     Ok(Some(BadWord { word, near }))
-}
-
-/// Returns the object whose address differs from a word in one bit, if there is exactly one.
-fn one_bit_from(heap: &Heap, word: u32) -> Option<ObjectIndex>
-    ensures { IfSome result (λ found. found < object_count heap.now) }
-{
-    let mut found = None;
-    for bit in 0..32u32 {
-        if let Some(object) = object_at(heap, word ^ (1 << bit)) {
-            if found.is_some() {
-                return None;
-            }
-            found = Some(object);
-        }
-    }
-    found
 }

@@ -1,9 +1,9 @@
 //! Which words of a file were written anew.
 
-use crate::skipped::byte_of;
-use sqz_dangling::Patch;
+use sqz_dangling::{Becomes, Patch};
 use sqz_image::Header;
 use sqz_look_view::Counted;
+use sqz_places::byte_of_word;
 use std::fmt;
 
 /// The maximum number of words that are listed.
@@ -23,20 +23,15 @@ impl<'a> RepairedView<'a> {
     }
 }
 
-/// Returns whether a patch made its object a free chunk: its word is then a free chunk's header.
-fn frees_object(patch: &Patch) -> bool {
-    patch.value % 4 == 2
-}
-
 impl fmt::Display for RepairedView<'_> {
     fn fmt<W: fmt::Write>(&self, f: &mut fmt::Formatter<W>) -> fmt::Result {
-        let mut freed = 0u64;
+        let (mut pointers, mut freed) = (0u64, 0u64);
         for patch in self.patches {
-            if frees_object(patch) {
-                freed = freed.saturating_add(1);
+            match patch.becomes {
+                Becomes::Nil => pointers = pointers.saturating_add(1),
+                Becomes::FreeChunk => freed = freed.saturating_add(1),
             }
         }
-        let pointers = (self.patches.len() as u64).saturating_sub(freed);
         let (pointers, freed) = (Counted(pointers, "pointer"), Counted(freed, "object"));
         write!(
             f,
@@ -44,8 +39,11 @@ impl fmt::Display for RepairedView<'_> {
         )?;
         for patch in self.patches.iter().take(MOST_WORDS) {
             let word = patch.word;
-            let byte = byte_of(self.header, word);
-            let became = if frees_object(patch) { "free" } else { "nil" };
+            let byte = byte_of_word(self.header.offset, u64::from(word));
+            let became = match patch.becomes {
+                Becomes::Nil => "nil",
+                Becomes::FreeChunk => "free",
+            };
             write!(f, "\nword {word} (byte {byte}): {became}")?;
         }
         match self.patches.len().saturating_sub(MOST_WORDS) {

@@ -1,11 +1,11 @@
 //! What of a file was skipped.
 
 use serde::Serialize;
-use sqz_damage::Gap;
-use sqz_image::{HEADER_SIZE, Header};
+use sqz_image::Header;
 use sqz_look_view::{Counted, write_bytes};
 use sqz_mend::Damage;
 use sqz_object::WordIndex;
+use sqz_places::{GapPlace, bytes_in_gaps, gap_place};
 use std::alloc::{AllocError, Global};
 use std::fmt;
 
@@ -17,6 +17,14 @@ struct GapView {
     bytes: u64,
 }
 
+impl GapView {
+    /// Returns a run that lies there.
+    fn of(place: GapPlace) -> Self {
+        let GapPlace { word, byte, bytes } = place;
+        GapView { word, byte, bytes }
+    }
+}
+
 /// What of the data of an image was skipped.
 #[derive(Drop, Serialize)]
 pub struct SkippedView<'a> {
@@ -24,6 +32,9 @@ pub struct SkippedView<'a> {
     skipped: Vec<GapView>,
     /// The number of bytes of the data that the file does not have.
     missing_bytes: u32,
+    /// The length of all runs in bytes.
+    #[serde(skip)]
+    bytes: u64,
 }
 
 impl<'a> SkippedView<'a> {
@@ -36,50 +47,23 @@ impl<'a> SkippedView<'a> {
     ) -> Result<Self, AllocError> {
         let mut skipped = Vec::new(alloc);
         for gap in &damage.gaps {
-            skipped.push(GapView {
-                word: gap.first,
-                byte: byte_of(header, gap.first),
-                bytes: bytes_of(*gap),
-            })?;
+            skipped.push(GapView::of(gap_place(header.offset, *gap)))?;
         }
         Ok(SkippedView {
             image,
             skipped,
             missing_bytes: damage.missing,
+            bytes: bytes_in_gaps(&damage.gaps),
         })
     }
 }
 
-/// Returns where a data word is in a file with this header, in bytes.
-pub(crate) fn byte_of(header: &Header, word: WordIndex) -> u64 {
-    let start = header.offset.saturating_add(HEADER_SIZE) as u64;
-    start.saturating_add(4 * u64::from(word))
-}
-
-/// Returns the length of a gap in bytes.
-fn bytes_of(gap: Gap) -> u64 {
-    4 * u64::from(gap.words)
-}
-
-/// Returns the length of all gaps in bytes.
-pub(crate) fn skipped_bytes(damage: &Damage) -> u64 {
-    let mut bytes = 0u64;
-    for gap in &damage.gaps {
-        bytes = bytes.saturating_add(bytes_of(*gap));
-    }
-    bytes
-}
-
 impl fmt::Display for SkippedView<'_> {
     fn fmt<W: fmt::Write>(&self, f: &mut fmt::Formatter<W>) -> fmt::Result {
-        let mut bytes = 0u64;
-        for gap in &self.skipped {
-            bytes = bytes.saturating_add(gap.bytes);
-        }
         if let Some(first) = self.skipped.first() {
             let (word, byte) = (first.word, first.byte);
             f.write_str("skipped ")?;
-            write_bytes(f, bytes)?;
+            write_bytes(f, self.bytes)?;
             match self.skipped.len() {
                 1 => write!(f, " at word {word} (byte {byte})")?,
                 gaps => {

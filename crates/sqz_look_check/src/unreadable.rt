@@ -5,12 +5,12 @@ ghost use Rattle.sqz_image.specs.Unread.{IsUnread};
 use crate::causes::{Cause, FileKind};
 use crate::faults::FaultView;
 use crate::file_kinds::kind_of;
-use crate::skipped::skipped_bytes;
 use serde::Serialize;
-use sqz_image::{Fault, HEADER_SIZE, Header, UnreadFile};
+use sqz_image::{Fault, Header, UnreadFile};
 use sqz_look_view::{Counted, Hex, write_bytes};
 use sqz_mend::{RecoverError, recover};
 use sqz_object::Address;
+use sqz_places::{bytes_in_gaps, unread_place};
 use std::alloc::{AllocError, Global};
 use std::fmt;
 
@@ -42,7 +42,7 @@ impl Extent {
     fn of(alloc: Global, bytes: Vec<u8>) -> Result<Option<Self>, AllocError> {
         match recover(alloc, bytes) {
             Ok(recovered) => Ok(Some(Extent {
-                unreadable_bytes: skipped_bytes(&recovered.damage),
+                unreadable_bytes: bytes_in_gaps(&recovered.damage.gaps),
                 missing_bytes: recovered.damage.missing,
                 objects: recovered.image.heap().len(),
             })),
@@ -104,11 +104,9 @@ impl Unreadable {
         let Some(header) = self.header else {
             return Ok(view);
         };
-        if let Some(word) = self.fault.unread_word() {
-            let address = header.base().wrapping_add(word.wrapping_mul(4));
-            let start = header.offset.saturating_add(HEADER_SIZE) as u64;
-            view.address = Some(Hex(address));
-            view.byte = Some(start.saturating_add(4 * u64::from(word)));
+        if let Some(place) = unread_place(&header, self.fault) {
+            view.address = Some(Hex(place.address));
+            view.byte = Some(place.byte);
         }
         if self.fault == Fault::BadSpecialObjects {
             view.address = Some(Hex(header.special()));

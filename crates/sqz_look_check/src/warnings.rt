@@ -6,9 +6,10 @@ ghost use Rattle.sqz_strict.specs.Warnings.{object_of};
 
 use serde::Serialize;
 use sqz_damage::Gap;
-use sqz_image::{HEADER_SIZE, Object};
+use sqz_image::Object;
 use sqz_look_view::{Counted, Hex, Subject, write_bytes};
 use sqz_object::{WordIndex, base_of};
+use sqz_places::{GapPlace, gap_place};
 use sqz_strict::{ClassShape, Findings, Warning};
 use std::alloc::AllocError;
 use std::fmt;
@@ -91,12 +92,8 @@ impl WarningView {
 
     /// Returns a gap of the best reading of the data.
     fn of_gap(subject: &Subject<'_>, gap: Gap) -> Self {
-        let start = subject.image.prefix().len() as u64 + HEADER_SIZE as u64;
-        WarningView::Gap {
-            word: gap.first,
-            byte: start + 4 * u64::from(gap.first),
-            bytes: 4 * u64::from(gap.words),
-        }
+        let GapPlace { word, byte, bytes } = gap_place(subject.image.prefix().len(), gap);
+        WarningView::Gap { word, byte, bytes }
     }
 }
 

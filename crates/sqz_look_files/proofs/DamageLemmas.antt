@@ -1,17 +1,16 @@
 -- What is recovered of files, or that nothing can be.
 -- Serves `recovered_of`, `read_past_damage` and `mend`.
 use Rattle.std.proofs.Common.{◌≡◌, ◌≢◌, ◌⊎◌, ◌∙◌, ℕ, zero, suc, List, [], ◌∷◌, Option, refl, sym, subst, inl, inr}
-use Rattle.sqz_image.specs.declared.fault.Fault.{Fault}
 use Rattle.sqz_image.specs.declared.fault.Fault.TheVariants.{OutOfMemory}
 use Rattle.sqz_image.specs.declared.reading.UnreadFile.{UnreadFile}
-use Rattle.sqz_image.specs.Refusals.{Holds, IsUnreadable}
+use Rattle.sqz_image.specs.Refusals.{Holds}
 use Rattle.sqz_image.specs.Unread.{IsUnread}
 use Rattle.sqz_damage.specs.declared.gap.Gap.{Gap}
 use Rattle.sqz_mend.specs.declared.damage.Damage.{Damage}
 use Rattle.sqz_mend.specs.declared.recovery.MendedFile.{MendedFile}
 use Rattle.sqz_mend.specs.declared.recovery.Recovered.{Recovered}
 use Rattle.sqz_mend.specs.Damaged.{IsNone}
-use Rattle.sqz_mend.specs.Recovery.{HoldsNoneMended, IsMendedFile, IsNotRecovered}
+use Rattle.sqz_mend.specs.Recovery.{IsMendedFile, IsNotRecovered}
 use Rattle.sqz_look_files.specs.declared.loading.Loaded.TheVariants as whole
 use Rattle.sqz_look_files.specs.declared.loading.LoadedPast.TheVariants as past
 use Rattle.sqz_look_files.specs.Checks.{HoldsNone, IsLoaded, ReadsFile, ReadsSome}

@@ -9,7 +9,7 @@ use Rattle.sqz_look_files.specs.declared.loading.Loaded.TheVariants.{Image}
 use Rattle.sqz_look_files.specs.declared.session.ReadFile.TheVariants as read
 use Rattle.sqz_look_files.specs.declared.session.ReadImage.{ReadImage}
 use Rattle.sqz_look_files.specs.Checks.{IsLoaded, IsUnsound, ReadsSome}
-use Rattle.sqz_look_files.specs.Damaged.{IsReadAs, ReadsDamaged}
+use Rattle.sqz_look_files.specs.Damaged.{IsReadAs}
 use Rattle.sqz_look_files.specs.Warnings.{IsSilent}
 
 module _ {F : Type 0} (left : F → Option (List ℕ)) (weak : Weak) (past : Bool) where

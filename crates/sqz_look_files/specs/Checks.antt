@@ -1,17 +1,14 @@
 -- Whether files hold sound images, and the exits that say so.
-use Rattle.std.specs.Prelude.{◌≡◌, ◌≢◌, ◌⊎◌, ℕ, max, Bool, true, false, List, [], ◌∷◌, length, All, Option, None, Result, Ok, Err}
+use Rattle.std.specs.Prelude.{◌≡◌, ◌≢◌, ◌⊎◌, ℕ, Bool, true, false, List, Option, None}
 use Rattle.sqz_image.specs.declared.fault.Fault.{Fault}
 use Rattle.sqz_image.specs.Devices.{SourceState, new_source}
 use Rattle.sqz_image.specs.Fronts.{ReadsEnough}
 use Rattle.sqz_image.specs.Objects.{SavedImage}
 use Rattle.sqz_image.specs.Refusals.{Holds, IsUnreadable}
 use Rattle.sqz_trace.specs.declared.weak.Weak.{Weak}
-use Rattle.sqz_trace.specs.Faults.{first_fault}
 use Rattle.sqz_trace.specs.Reachability.{IsReachability}
 use Rattle.sqz_repair.specs.Repairs.{HasFirstFault, IsSound}
 use Rattle.sqz_look_check.specs.Warned.{HasFindings}
-use Rattle.sqz_look_files.specs.declared.failure.Failure.{Failure}
-use Rattle.sqz_look_files.specs.declared.failure.Failure.TheVariants.{OutOfMemory, NotPrinted}
 use Rattle.sqz_look_files.specs.declared.loading.Loaded.{Loaded}
 use Rattle.sqz_look_files.specs.declared.loading.Loaded.TheVariants.{Image, Unreadable}
 

@@ -1,12 +1,13 @@
 use Rattle.std.proofs.Common.{ℕ, List, set, get_or, sym, ap, ◌∙◌}
 use Rattle.sqz_object.specs.Bytes.{words_of}
 use Rattle.sqz_dangling.specs.declared.patch.Patch.{Patch}
+use Rattle.sqz_dangling.specs.Patches.{nil_patch}
 use Rattle.sqz_dangling.proofs.PatchLemmas.{patched-take}
 use Rattle.sqz_dangling.proofs.writing.write_patches.Goals as goal
 
 -- the default of a read
 abbrev none : Patch
-none = record { word = 0; value = 0 }
+none = nil_patch 0 0
 
 pub loop-patch-preserved : goal.loop-patch-preserved
 loop-patch-preserved c =

@@ -1,6 +1,6 @@
-use Rattle.std.proofs.Common.{◌≡◌, ◌∙◌, refl, ap, inl, inr, arith}
+use Rattle.std.proofs.Common.{◌∙◌, refl, ap, inl, inr, arith}
 use Rattle.sqz_image.specs.Objects.{SavedImage}
-use Rattle.sqz_look_files.proofs.CheckLemmas.{IsChecked-image, StopsChecks-read}
+use Rattle.sqz_look_files.proofs.CheckLemmas.{IsChecked-image}
 use Rattle.sqz_look_files.proofs.checks.check_one.Goals as goal
 use Rattle.sqz_look_files.proofs.checks.check_one.Goals.{then-read, else-read}
 

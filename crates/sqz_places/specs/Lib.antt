@@ -1,0 +1,5 @@
+pub mod Bytes
+pub mod Words
+pub mod Faults
+pub mod Near
+pub mod Unread
