@@ -30,6 +30,7 @@ PROMISES = {
     "4. parallel marking": ["sqz_marks/Lawful", "sqz_marks/Core"],
     "5. kept objects": ["sqz_tool/Correspondence"],
     "`check`": ["sqz_answers/Findings"],
+    "`check`: where faults are": ["sqz_places/Faults", "sqz_places/Unread", "sqz_places/Near"],
     "`check --strict`": ["sqz_strict/Findings"],
     "`census`": ["sqz_answers/Histograms"],
     "`census --retained`": ["sqz_answers/RetainedHistograms"],
