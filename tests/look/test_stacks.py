@@ -33,7 +33,7 @@ class StacksTest(LookTest):
         self.assertEqual([context["block"] for context in contexts], [True, False, True, False])
         self.assertEqual([context["pc"] for context in contexts], [-1, 5, 17, 3])
         receivers = [context["receiver"] for context in contexts]
-        self.assertEqual([receivers[0], receivers[1]], [None, 7])
+        self.assertEqual(receivers[:2], [None, 7])
         self.assertEqual([row["meets"] is None for row in rows[:2]], [True, False])
 
     def test_text(self):

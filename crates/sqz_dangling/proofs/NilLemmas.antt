@@ -16,11 +16,11 @@ use Rattle.sqz_image.proofs.HeapLemmas.{stands_at}
 use Rattle.sqz_trace.specs.Graph.{is_marked}
 use Rattle.sqz_trace.specs.Slots.{traced, class_slots, field_slots, slots}
 use Rattle.sqz_trace.proofs.SlotLemmas.{traced_inside}
+use Rattle.sqz_places.specs.Words.{slot_index}
 use Rattle.sqz_dangling.specs.declared.patch.Patch.{Patch}
 use Rattle.sqz_dangling.specs.declared.nil_error.NilError.{NilError}
 use Rattle.sqz_dangling.specs.declared.nil_error.NilError.TheVariants.{OutOfMemory, NoNil, NoSpecialObjects}
 use Rattle.sqz_dangling.specs.Dangling.{is_untraceable, dangles, dangling_among, dangling_slots, nil_address}
-use Rattle.sqz_places.specs.Words.{slot_index}
 use Rattle.sqz_dangling.specs.Patches.{slot_patch, free_patch, patches_of, patches_at, patches_for, dangling_of}
 use Rattle.sqz_dangling.specs.Patches.{NothingDangles, IsNilError}
 use Rattle.sqz_dangling.specs.Pushed.{nil_or_zero, IsPushError}

@@ -10,11 +10,11 @@ use Rattle.sqz_image.specs.declared.slot.Slot.TheVariants.{Field}
 use Rattle.sqz_image.specs.Objects.{Memory, Object}
 use Rattle.sqz_trace.specs.Slots.{traced, field_slots}
 use Rattle.sqz_trace.proofs.SlotLemmas.{slot_word-field, field_slots-append, fields-push}
+use Rattle.sqz_places.specs.Words.{slot_index}
 use Rattle.sqz_dangling.specs.declared.patch.Patch.{Patch}
 use Rattle.sqz_dangling.specs.declared.nil_error.NilError.{NilError}
 use Rattle.sqz_dangling.specs.declared.nil_error.NilError.TheVariants.{OutOfMemory, NoNil, NoSpecialObjects}
 use Rattle.sqz_dangling.specs.Dangling.{is_dangling, is_dangling_word, dangles, dangling_among}
-use Rattle.sqz_places.specs.Words.{slot_index}
 use Rattle.sqz_dangling.specs.Patches.{nil_patch, slot_patch, nil_word}
 use Rattle.sqz_dangling.specs.Pushed.{nil_or_zero, ArePushed, IsPushError, IsMissing}
 

@@ -29,6 +29,7 @@ pub struct Frame {
     pub is_block: bool,
     /// The program counter: a byte of the method, counted from 1.
     pub pc: Option<i32>,
+    /// The receiver of the method.
     pub receiver: Option<Receiver>,
 }
 
