@@ -47,10 +47,11 @@ PROMISES = {
     "`mend`": ["sqz_mend/Recovery"],
     "`mend --nil`": ["sqz_repair/Repairs"],
     "instructions of `code`": ["sqz_methods/Parts", "sqz_code/Instructions"],
-    "`senders`, `code --unsent`": ["sqz_selectors/Mentions", "sqz_selectors/Picks"],
+    "`senders`, `code --unsent`": ["sqz_selectors/Mentions", "sqz_names/Picks"],
     "`stacks`": ["sqz_stacks/Processes", "sqz_stacks/Stacks", "sqz_stacks/Frames"],
     "`find`": ["sqz_strings/Matches", "sqz_referrers/FirstReferrers"],
-    "labels": ["sqz_names/Labels"],
+    "labels": ["sqz_names/Labels", "sqz_names/Unlabelled"],
+    "words that are names": ["sqz_names/Names", "sqz_names/Picks"],
 }
 
 

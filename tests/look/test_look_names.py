@@ -242,6 +242,31 @@ class ArgumentsTest(LookTest):
         self.assert_shown(address, "Spare")
 
 
+class ArrowsTest(LookTest):
+    """The first `>>` of a name ends the name of the class; a label may have more of them."""
+
+    def asked(self, *methods):
+        """The address that a name with two `>>` stands for, and those of these methods by class."""
+        image = NamedImage()
+        for a_class, selector in methods:
+            image.add_class(a_class, "Object", selectors=(selector,))
+        data = image.file()
+        self.write(FILE, data)
+        names = Asking(Image.read(data)[0], FILE).answers.names
+        outcome = look("show", "--json", FILE, "Odd>>at>>put:", folder=self.folder)
+        (row,) = rows_of(self.printed_by(outcome))
+        its = {names.name(a_class): it for it, (a_class, _) in names.methods.items()}
+        return row["address"], {name: names.address(it) for name, it in its.items()}
+
+    def test_the_class_before_the_first_arrows(self):
+        found, methods = self.asked(("Odd>>at", "put:"), ("Odd", "at>>put:"))
+        self.assertEqual(found, methods["Odd"])
+
+    def test_only_a_label(self):
+        found, methods = self.asked(("Odd>>at", "put:"))
+        self.assertEqual(found, methods["Odd>>at"])
+
+
 def integer(number):
     """The word of a SmallInteger."""
     return number << 1 & 0xFFFFFFFF | 1

@@ -1,6 +1,6 @@
 -- Which objects are classes, and which of them have a name of their own.
 -- Serves `classes::classes_in` and `labels::Names::class_label`.
-use Rattle.std.proofs.Common.{◌≡◌, ℕ, zero, suc, Bool, true, false, List, Option, Some, None, set, length}
+use Rattle.std.proofs.Common.{◌≡◌, ℕ, zero, suc, Bool, true, false, List, Option, Some, None, set}
 use Rattle.std.proofs.Common.{refl, sym, ap, subst, ◌∙◌, inl, inr, true≢false}
 use Rattle.std.proofs.Math.Logic.{∥∥₁_map}
 use Rattle.std.proofs.lemmas.List.{length-replicate, length-set}
@@ -23,7 +23,8 @@ use Rattle.sqz_trace.proofs.MarkingLemmas.{is_marked-set}
 use Rattle.sqz_trace.proofs.TargetLemmas.{named_among-more}
 use Rattle.sqz_histogram.specs.Names.{held_name, known_class_name, name_by, text_in}
 use Rattle.sqz_names.specs.Fields.{instance_field, name_field}
-use Rattle.sqz_names.specs.Structures.{has_bytes, has_own_name, AreClasses, IsClass, IsMetaclass}
+use Rattle.sqz_names.specs.Structures.{has_bytes, has_own_name, IsClass, IsMetaclass, IsNamedInstanceOf}
+use Rattle.sqz_names.specs.ClassSets.{IsClassSet}
 use Rattle.sqz_names.proofs.LayoutLemmas.{is_byte_layout-text, strong-le}
 
 -- the empty set has no object
@@ -32,25 +33,21 @@ is_marked-none zero object = refl
 is_marked-none (suc count) zero = refl
 is_marked-none (suc count) (suc object) = is_marked-none count object
 
--- a flag per object; the objects of this set are classes
-pub record IsClassSet (memory : Memory) (weak : Weak) (set' : List Bool) : Type 0 where
-  pub sized : length set' ≡ object_count memory
-  pub classes : AreClasses memory weak set'
-
 module _ (memory : Memory) (weak : Weak) where
-  AreClasses-none : (count : ℕ) → AreClasses memory weak (replicate count false)
-  AreClasses-none count class is = absurd (true≢false (sym is ∙ is_marked-none count class))
+  set-none : (count class : ℕ) → is_marked (replicate count false) class ≡ true → IsClass memory weak class
+  set-none count class is = absurd (true≢false (sym is ∙ is_marked-none count class))
 
   pub IsClassSet-none : IsClassSet memory weak (replicate (object_count memory) false)
   IsClassSet-none = record {
     sized = length-replicate (object_count memory) false;
-    classes = AreClasses-none (object_count memory);
+    classes = set-none (object_count memory);
   }
 
   -- one class more
-  AreClasses-more : (set' : List Bool) (class : ℕ) → AreClasses memory weak set' → IsClass memory weak class
-      → AreClasses memory weak (set set' class true)
-  AreClasses-more set' class are is other marked =
+  set-more : (set' : List Bool) (class : ℕ) → ((other : ℕ) → is_marked set' other ≡ true → IsClass memory weak other)
+      → IsClass memory weak class
+      → (other : ℕ) → is_marked (set set' class true) other ≡ true → IsClass memory weak other
+  set-more set' class are is other marked =
       elim (is_marked-set set' class other marked) [
         | inl same ↦ subst (λ (it : ℕ). IsClass memory weak it) (sym same) is
         | inr old ↦ are other old
@@ -60,7 +57,7 @@ module _ (memory : Memory) (weak : Weak) where
       → IsClassSet memory weak (set set' class true)
   IsClassSet-more set' class are is = record {
     sized = length-set set' class true ∙ are.sized;
-    classes = AreClasses-more set' class are.classes is;
+    classes = set-more set' class are.classes is;
   }
 
   -- the class of a marked object
@@ -79,11 +76,8 @@ module _ (memory : Memory) (weak : Weak) where
       }))
 
   -- the only instance of a metaclass
-  pub IsClass-instance : (class metaclass : ℕ) → class_of memory weak (chunk_words memory class) ≡ Some metaclass
-      → target memory metaclass (Field instance_field) ≡ Some class → has_own_name memory class ≡ true
-      → IsClass memory weak class
-  IsClass-instance class metaclass is held named =
-      ∣ inr (record { metaclass = metaclass; is_class = is; is_instance = held; is_named = named }) ∣₁
+  pub IsClass-instance : (metaclass class : ℕ) → IsNamedInstanceOf memory weak metaclass class → IsClass memory weak class
+  IsClass-instance metaclass class is = ∣ inr (record { metaclass = metaclass; is = is }) ∣₁
 
   -- only the fields of weak objects can be weak
   has_weak_layout : (chunk : List ℕ) → is_weak weak chunk ≡ true → is_weak_layout (layout chunk) ≡ true

@@ -1,5 +1,9 @@
 pub mod Fields
 pub mod Structures
+pub mod ClassSets
 pub mod Known
 pub mod Labels
 pub mod Names
+pub mod Unlabelled
+pub mod NameLists
+pub mod Picks

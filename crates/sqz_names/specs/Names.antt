@@ -1,5 +1,5 @@
 -- The methods and variables of an image, as they are listed.
-use Rattle.std.specs.Prelude.{◌≡◌, ◌<◌, ℕ, Bool, true, List, ◌++◌, codes, All, Option, Some, IfSome}
+use Rattle.std.specs.Prelude.{◌≡◌, ◌<◌, ◌≤◌, ℕ, Bool, true, List, ◌++◌, length, codes, All, Contains, Option, Some, IfSome}
 use Rattle.sqz_image.specs.declared.slot.Slot.TheVariants.{Field}
 use Rattle.sqz_image.specs.Objects.{Memory, object_count}
 use Rattle.sqz_trace.specs.declared.weak.Weak.{Weak}
@@ -20,6 +20,16 @@ pub record IsMethodName (memory : Memory) (weak : Weak) (name : MethodName) : Ty
   pub of_class : IsClass memory weak name.class
   pub is : IsMethodOf memory name.class name.selector name.method
 
+-- a list has a method under a selector, as one of some class
+pub record ListsMethod (names : List MethodName) (selector method : ℕ) : Type 0 where
+  pub class : ℕ
+  pub has : Contains names (record { method = method; class = class; selector = selector })
+
+-- a list has all methods of a class
+abbrev pub ListsMethodsOf : Memory → List MethodName → ℕ → Type 0
+ListsMethodsOf memory names class =
+    (selector method : ℕ) → IsMethodOf memory class selector method → ∥ ListsMethod names selector method ∥₁
+
 -- methods of classes that pass a test
 abbrev pub AreOfClasses : (ℕ → Bool) → List MethodName → Type 0
 AreOfClasses test names = All (λ name. test name.class ≡ true) names
@@ -34,6 +44,25 @@ pub record IsVariableName (memory : Memory) (weak : Weak) (name : VariableName) 
   pub key_inside : name.key < object_count memory
   pub of_class : IsOwner memory weak name.class
   pub is : IsVariable memory name.class name.association name.key
+
+-- a list has a variable, as one of some class or as a global one
+pub record ListsVariable (names : List VariableName) (association key : ℕ) : Type 0 where
+  pub class : Option ℕ
+  pub has : Contains names (record { association = association; class = class; key = key })
+
+-- a list has all class variables of a class, or all global variables
+abbrev pub ListsVariablesOf : Memory → List VariableName → Option ℕ → Type 0
+ListsVariablesOf memory names class =
+    (association key : ℕ) → IsVariable memory class association key → ∥ ListsVariable names association key ∥₁
+
+-- a list has the methods of all classes
+abbrev pub ListsMethods : Memory → Weak → List MethodName → Type 0
+ListsMethods memory weak names =
+    (class : ℕ) → class < object_count memory → IsClass memory weak class → ListsMethodsOf memory names class
+
+-- a list has the global variables, and the class variables of all classes
+abbrev pub ListsVariables : Memory → Weak → List VariableName → Type 0
+ListsVariables memory weak names = (class : Option ℕ) → IsOwner memory weak class → ListsVariablesOf memory names class
 
 -- the class whose variables a dictionary has, or none if it has the global variables
 pub record HasDictionary (memory : Memory) (weak : Weak) (dictionary : ℕ) : Type 0 where
@@ -80,14 +109,15 @@ pub record IsMethodUnder (memory : Memory) (weak : Weak) (class_text selector_te
   pub spelled : HasText memory selector_text selector
   pub is : IsMethodOf memory class selector method
 
--- the objects of this set are such methods
-abbrev pub AreMethodsUnder : Memory → Weak → List ℕ → List ℕ → List Bool → Type 0
-AreMethodsUnder memory weak class_text selector_text set =
-    (method : ℕ) → is_marked set method ≡ true → ∥ IsMethodUnder memory weak class_text selector_text method ∥₁
+-- the objects of this set are the methods of the classes with a name under a selector
+pub record AreMethodsUnder (memory : Memory) (weak : Weak) (class_text selector_text : List ℕ) (set : List Bool) : Type 0 where
+  pub sound : (method : ℕ) → is_marked set method ≡ true → ∥ IsMethodUnder memory weak class_text selector_text method ∥₁
+  pub complete : (method : ℕ) → IsMethodUnder memory weak class_text selector_text method → is_marked set method ≡ true
 
--- a method with this name: the name of its class, `>>` and its selector
+-- a method with this name: the name of its class, `>>` and its selector, where `>>` is the first one
 pub record IsMethodNamed (memory : Memory) (weak : Weak) (name : List ℕ) (method : ℕ) : Type 0 where
   pub class_text : List ℕ
   pub selector_text : List ℕ
   pub split : name ≡ class_text ++ (codes ">>" ++ selector_text)
+  pub is_first : (before after : List ℕ) → name ≡ before ++ (codes ">>" ++ after) → length class_text ≤ length before
   pub is : IsMethodUnder memory weak class_text selector_text method

@@ -1,12 +1,12 @@
 -- What the structures of an image state: its classes, methods and variables.
-use Rattle.std.specs.Prelude.{◌≡◌, ◌⊎◌, ◌+◌, ℕ, Bool, true, false, List, Option, Some, None}
+use Rattle.std.specs.Prelude.{◌≡◌, ◌⊎◌, ◌+◌, ◌<◌, ℕ, Bool, true, false, List, Option, Some, None}
 use Rattle.std.specs.Prelude.{option_map, option_and_then}
 use Rattle.sqz_object.specs.declared.layout.Layout.{Layout}
 use Rattle.sqz_object.specs.declared.layout.Layout.TheVariants.{Bytes, Method}
 use Rattle.sqz_object.specs.Chunk.{fields}
 use Rattle.sqz_object.specs.Layout.{layout}
 use Rattle.sqz_image.specs.declared.slot.Slot.TheVariants.{Field}
-use Rattle.sqz_image.specs.Objects.{Memory, chunk_words, find}
+use Rattle.sqz_image.specs.Objects.{Memory, object_count, chunk_words, find}
 use Rattle.sqz_trace.specs.declared.weak.Weak.{Weak}
 use Rattle.sqz_trace.specs.Graph.{IsReachable, is_marked}
 use Rattle.sqz_trace.specs.Reachability.{graph_from}
@@ -70,12 +70,16 @@ pub record IsClassOfLive (memory : Memory) (weak : Weak) (class : ℕ) : Type 0 
   pub live : IsLive memory weak instance
   pub is_class : class_of memory weak (chunk_words memory instance) ≡ Some class
 
--- the only instance of a metaclass, with a name of its own
-pub record IsNamedInstance (memory : Memory) (weak : Weak) (class : ℕ) : Type 0 where
-  pub metaclass : ℕ
+-- the only instance of this metaclass, with a name of its own
+pub record IsNamedInstanceOf (memory : Memory) (weak : Weak) (metaclass class : ℕ) : Type 0 where
   pub is_class : class_of memory weak (chunk_words memory class) ≡ Some metaclass
   pub is_instance : target memory metaclass (Field instance_field) ≡ Some class
   pub is_named : has_own_name memory class ≡ true
+
+-- the only instance of a metaclass, with a name of its own
+pub record IsNamedInstance (memory : Memory) (weak : Weak) (class : ℕ) : Type 0 where
+  pub metaclass : ℕ
+  pub is : IsNamedInstanceOf memory weak metaclass class
 
 -- an object is a class if it is the class of a live object, or the only instance of a metaclass with
 -- a name of its own
@@ -89,24 +93,29 @@ pub record IsMetaclass (memory : Memory) (class : ℕ) : Type 0 where
   pub is_named : has_own_name memory instance ≡ true
   pub is_unnamed : has_own_name memory class ≡ false
 
--- the objects of this set are classes
-abbrev pub AreClasses : Memory → Weak → List Bool → Type 0
-AreClasses memory weak set = (class : ℕ) → is_marked set class ≡ true → IsClass memory weak class
+-- the objects of this set are the classes
+pub record AreClasses (memory : Memory) (weak : Weak) (set : List Bool) : Type 0 where
+  pub sound : (class : ℕ) → is_marked set class ≡ true → IsClass memory weak class
+  pub complete : (class : ℕ) → class < object_count memory → IsClass memory weak class → is_marked set class ≡ true
 
 -- ---- methods
 
--- the place of a method in the method dictionary of a class: the selector is among the fields of the
--- dictionary, and the method at the same place in the dictionary's array of methods
-pub record HasMethod (memory : Memory) (class selector method : ℕ) : Type 0 where
-  pub dictionary : ℕ
+-- the place of a method in a method dictionary: the selector is among the fields of the dictionary,
+-- and the method at the same place in the dictionary's array of methods
+pub record IsMethodIn (memory : Memory) (dictionary selector method : ℕ) : Type 0 where
   pub methods : ℕ
   pub place : ℕ
-  pub has_dictionary : target memory class (Field method_dictionary_field) ≡ Some dictionary
   pub has_methods : target memory dictionary (Field methods_field) ≡ Some methods
   pub has_selector : target memory dictionary (Field (first_selector_field + place)) ≡ Some selector
   pub has_method : target memory methods (Field place) ≡ Some method
   pub is_text : is_bytes memory selector ≡ true
   pub is_compiled : is_method memory method ≡ true
+
+-- a method in the method dictionary of a class
+pub record HasMethod (memory : Memory) (class selector method : ℕ) : Type 0 where
+  pub dictionary : ℕ
+  pub has_dictionary : target memory class (Field method_dictionary_field) ≡ Some dictionary
+  pub is_in : IsMethodIn memory dictionary selector method
 
 -- the method of a class under a selector
 abbrev pub IsMethodOf : Memory → ℕ → ℕ → ℕ → Type 0
@@ -128,15 +137,19 @@ abbrev pub associations_of : Memory → Option ℕ → Option ℕ
 associations_of memory class =
     option_and_then (λ dictionary. target memory dictionary (Field associations_field)) (dictionary_of memory class)
 
--- a variable of a dictionary: its association is in the array of the dictionary's associations, and
--- its key is a byte object
-pub record IsVariableIn (memory : Memory) (dictionary association key : ℕ) : Type 0 where
-  pub associations : ℕ
+-- the place of a variable in an array of associations: its association is an element, and its key is
+-- a byte object
+pub record IsVariableAmong (memory : Memory) (array association key : ℕ) : Type 0 where
   pub place : ℕ
-  pub has_associations : target memory dictionary (Field associations_field) ≡ Some associations
-  pub has_association : target memory associations (Field place) ≡ Some association
+  pub has_association : target memory array (Field place) ≡ Some association
   pub has_key : target memory association (Field key_field) ≡ Some key
   pub is_text : is_bytes memory key ≡ true
+
+-- a variable of a dictionary: it is in the array of the dictionary's associations
+pub record IsVariableIn (memory : Memory) (dictionary association key : ℕ) : Type 0 where
+  pub associations : ℕ
+  pub has_associations : target memory dictionary (Field associations_field) ≡ Some associations
+  pub is_among : IsVariableAmong memory associations association key
 
 -- a class variable of a class, or a global variable
 pub record HasVariable (memory : Memory) (class : Option ℕ) (association key : ℕ) : Type 0 where

@@ -1,8 +1,10 @@
 //! The classes of an image.
 
-ghost use Rattle.std.specs.Prelude.{◌≡◌, ◌<◌, length, IfOk, IfSome};
+ghost use Rattle.std.specs.Prelude.{◌≡◌, ◌<◌, ℕ, length, true, IfOk, IfSome, Some};
 ghost use Rattle.sqz_image.specs.Objects.{object_count};
-ghost use Rattle.sqz_names.specs.Structures.{has_own_name, AreClasses, IsClass};
+ghost use Rattle.sqz_trace.specs.Graph.{is_marked};
+ghost use Rattle.sqz_names.specs.ClassSets.{HasClassesOf, HasNamedInstances, IsClassSet};
+ghost use Rattle.sqz_names.specs.Structures.{has_own_name, AreClasses, IsNamedInstanceOf};
 
 use crate::bytes::is_bytes;
 use crate::fields::{INSTANCE, NAME};
@@ -40,12 +42,16 @@ pub(crate) fn classes_in(alloc: Global, live: &Live<'_>) -> Result<ObjectSet, Al
 /// Adds to some classes the instances that the metaclasses among the classes of objects state.
 fn add_instances(its_classes: &ObjectClasses<'_>, of_objects: &ObjectSet, classes: &mut ObjectSet)
     requires of_objects { length of_objects.now ≡ object_count its_classes.now.graph.heap.now }
-    requires sized { length classes.old ≡ object_count its_classes.now.graph.heap.now }
-    requires classes { AreClasses its_classes.now.graph.heap.now its_classes.now.graph.weak
+    requires all { HasClassesOf its_classes.now.graph.heap.now its_classes.now.graph.weak
+        (λ object. Unit {0}) (object_count its_classes.now.graph.heap.now) of_objects.now }
+    requires old { IsClassSet its_classes.now.graph.heap.now its_classes.now.graph.weak
         classes.old }
-    ensures sized { length classes.new ≡ object_count its_classes.now.graph.heap.now }
-    ensures classes { AreClasses its_classes.now.graph.heap.now its_classes.now.graph.weak
+    ensures new { IsClassSet its_classes.now.graph.heap.now its_classes.now.graph.weak
         classes.new }
+    ensures keeps { (object : ℕ) → is_marked classes.old object ≡ true
+        → is_marked classes.new object ≡ true }
+    ensures instances { HasNamedInstances its_classes.now.graph.heap.now
+        its_classes.now.graph.weak classes.new }
 {
     for class in 0..its_classes.graph.heap.len() {
         if of_objects.contains(class)
@@ -59,8 +65,10 @@ fn add_instances(its_classes: &ObjectClasses<'_>, of_objects: &ObjectSet, classe
 /// Returns the instance that a metaclass states, if it is one and has a name of its own.
 fn named_instance(classes: &ObjectClasses<'_>, class: ObjectIndex) -> Option<ObjectIndex>
     requires { class < object_count classes.now.graph.heap.now }
-    ensures class { IfSome result
-        (IsClass classes.now.graph.heap.now classes.now.graph.weak) }
+    ensures sound { IfSome result (IsNamedInstanceOf classes.now.graph.heap.now
+        classes.now.graph.weak class) }
+    ensures complete { (instance : ℕ) → IsNamedInstanceOf classes.now.graph.heap.now
+        classes.now.graph.weak class instance → result ≡ Some instance }
     ensures inside { IfSome result (λ instance.
         instance < object_count classes.now.graph.heap.now) }
 {

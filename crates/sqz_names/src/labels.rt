@@ -1,9 +1,12 @@
 //! What an object is to a Smalltalker.
 
-ghost use Rattle.std.specs.Prelude.{◌≡◌, ◌<◌, IfOk, IfSome, IsTrue};
+ghost use Rattle.std.specs.Prelude.{◌≡◌, ◌<◌, IfOk, IfSome, IsTrue, None};
 ghost use Rattle.sqz_image.specs.Objects.{object_count};
+ghost use Rattle.sqz_names.specs.declared.known.Known.{Known};
+ghost use Rattle.sqz_names.specs.declared.label.Label.TheVariants.{Other};
 ghost use Rattle.sqz_names.specs.Known.{IsKnown};
 ghost use Rattle.sqz_names.specs.Labels.{IsInside, IsLabel};
+ghost use Rattle.sqz_names.specs.Unlabelled.{IsNoneNamed, IsNoNamedClass, IsNoText, IsUnlabelled};
 
 use crate::bytes::is_bytes;
 use crate::class_names::class_name_of;
@@ -19,13 +22,15 @@ use std::alloc::AllocError;
 impl Names<'_> {
     /// Returns what an object is to a Smalltalker. A label that is given is what the image's
     /// structures state; an object that fits several has the first of them, in the order of
-    /// `Label`.
+    /// `Label`, and one that fits none is `Label::Other`.
     pub fn label_of(&self, object: ObjectIndex) -> Result<Label, AllocError>
         requires { object < object_count self.now.graph.heap.now }
         ensures label { IfOk result (λ label.
             IsLabel self.now.graph.heap.now self.now.graph.weak object label) }
         ensures inside { IfOk result (λ label.
             IsInside (object_count self.now.graph.heap.now) label) }
+        ensures complete { IfOk result (λ label. label ≡ Other
+            → IsUnlabelled self.now.graph.heap.now self.now.graph.weak object) }
     {
         if object == self.graph.heap.special() {
             return Ok(Label::SpecialObjects);
@@ -45,8 +50,10 @@ impl Names<'_> {
     /// Returns which of the objects that every image has an object is.
     fn known(&self, object: ObjectIndex) -> Result<Option<Known>, AllocError>
         requires { object < object_count self.now.graph.heap.now }
-        ensures { IfOk result (λ known. IfSome known (λ known.
+        ensures sound { IfOk result (λ found. IfSome found (λ known.
             IsKnown self.now.graph.heap.now self.now.graph.weak known object)) }
+        ensures complete { IfOk result (λ found. found ≡ None → (known : Known)
+            → IsKnown self.now.graph.heap.now self.now.graph.weak known object → ⊥) }
     {
         for known in Known::ALL {
             if self.is_known(known, object)? {
@@ -59,8 +66,10 @@ impl Names<'_> {
     /// Returns whether an object is this one of the objects that every image has.
     fn is_known(&self, known: Known, object: ObjectIndex) -> Result<bool, AllocError>
         requires { object < object_count self.now.graph.heap.now }
-        ensures { IfOk result (λ is. IsTrue is
+        ensures sound { IfOk result (λ is. IsTrue is
             → IsKnown self.now.graph.heap.now self.now.graph.weak known object) }
+        ensures complete { IfOk result (λ is.
+            IsKnown self.now.graph.heap.now self.now.graph.weak known object → IsTrue is) }
     {
         let heap = self.graph.heap;
         if field_target(heap, heap.special(), known.field()) != Some(object) {
@@ -79,6 +88,9 @@ impl Names<'_> {
             (IsLabel self.now.graph.heap.now self.now.graph.weak object)) }
         ensures inside { IfOk result (λ label. IfSome label
             (IsInside (object_count self.now.graph.heap.now))) }
+        ensures named { IfOk result (λ label. IfSome label (λ label. label ≡ Other → ⊥)) }
+        ensures complete { IfOk result (λ label. label ≡ None
+            → IsNoNamedClass self.now.graph.heap.now self.now.graph.weak object) }
     {
         if !self.is_class(object) {
             return Ok(None);
@@ -98,6 +110,9 @@ impl Names<'_> {
         ensures label { IfSome result
             (IsLabel self.now.graph.heap.now self.now.graph.weak object) }
         ensures inside { IfSome result (IsInside (object_count self.now.graph.heap.now)) }
+        ensures named { IfSome result (λ label. label ≡ Other → ⊥) }
+        ensures complete { result ≡ None
+            → IsNoneNamed self.now.graph.heap.now self.now.graph.weak object }
     {
         if let Some(name) = self.method_name(object) {
             let (class, selector) = (name.class, name.selector);
@@ -118,6 +133,8 @@ impl Names<'_> {
             IsLabel self.now.graph.heap.now self.now.graph.weak object label) }
         ensures inside { IfOk result (λ label.
             IsInside (object_count self.now.graph.heap.now) label) }
+        ensures complete { IfOk result (λ label. label ≡ Other
+            → IsNoText self.now.graph.heap.now self.now.graph.weak object) }
     {
         if !is_bytes(self.graph.heap, object) {
             return Ok(Label::Other);

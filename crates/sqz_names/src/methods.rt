@@ -1,12 +1,14 @@
 //! The methods that classes have.
 
-ghost use Rattle.std.specs.Prelude.{◌≡◌, ◌<◌, ℕ, [], length, All, Bool, IfOk, Some, true};
+ghost use Rattle.std.specs.Prelude.{◌≡◌, ◌<◌, ℕ, [], length, All, Bool, Contains, IfOk, Some, true};
 ghost use Rattle.sqz_image.specs.declared.slot.Slot.TheVariants.{Field};
 ghost use Rattle.sqz_image.specs.Objects.{object_count};
 ghost use Rattle.sqz_trace.specs.Targets.{target};
 ghost use Rattle.sqz_names.specs.Fields.{method_dictionary_field};
 ghost use Rattle.sqz_names.specs.Structures.{IsClass};
-ghost use Rattle.sqz_names.specs.Names.{AreOfClasses, IsMethodName};
+ghost use Rattle.sqz_names.specs.declared.method_name.MethodName.{MethodName};
+ghost use Rattle.sqz_names.specs.NameLists.{ListsDictionaries, ListsDictionary};
+ghost use Rattle.sqz_names.specs.Names.{AreOfClasses, IsMethodName, ListsMethodsOf};
 
 use crate::bytes::{is_bytes, is_method};
 use crate::fields::{FIRST_SELECTOR, METHOD_DICTIONARY, METHODS};
@@ -27,6 +29,7 @@ pub(crate) struct MethodsFound<'a> {
     pub(crate) names: Vec<MethodName>,
     ghost one_each: { length dictionaries ≡ object_count graph.heap.now },
     ghost are_methods: { All (IsMethodName graph.heap.now graph.weak) names.items },
+    ghost are_all: { ListsDictionaries graph.heap.now dictionaries names.items },
 }
 
 impl<'a> MethodsFound<'a> {
@@ -50,14 +53,19 @@ impl<'a> MethodsFound<'a> {
         ensures graph { self.new.graph ≡ self.old.graph }
         ensures classes { (test : ℕ → Bool) → test class ≡ true
             → AreOfClasses test self.old.names.items → AreOfClasses test self.new.names.items }
+        ensures keeps { (name : MethodName) → Contains self.old.names.items name
+            → Contains self.new.names.items name }
+        ensures all { IfOk result (λ unit.
+            ListsMethodsOf self.old.graph.heap.now self.new.names.items class) }
     {
         let Some(dictionary) = field_target(self.graph.heap, class, METHOD_DICTIONARY) else {
             return Ok(());
         };
-        if !self.dictionaries.insert(dictionary) {
-            return Ok(());
+        if !self.dictionaries.contains(dictionary) {
+            push_methods(self.graph, class, dictionary, &mut self.names)?;
+            self.dictionaries.insert(dictionary);
         }
-        push_methods(self.graph, class, dictionary, &mut self.names)
+        Ok(())
     }
 }
 
@@ -77,6 +85,10 @@ fn push_methods(
     ensures methods { All (IsMethodName graph.entry.heap.now graph.entry.weak) found.new.items }
     ensures classes { (test : ℕ → Bool) → test class ≡ true
         → AreOfClasses test found.old.items → AreOfClasses test found.new.items }
+    ensures keeps { (name : MethodName) → Contains found.old.items name
+        → Contains found.new.items name }
+    ensures all { IfOk result (λ unit.
+        ListsDictionary graph.entry.heap.now dictionary found.new.items) }
 {
     let heap = graph.heap;
     let Some(methods) = field_target(heap, dictionary, METHODS) else {

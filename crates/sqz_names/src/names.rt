@@ -1,11 +1,13 @@
 //! The names of an image.
 
-ghost use Rattle.std.specs.Prelude.{◌≡◌, ◌<◌, length, All, IfOk, IsTrue, true};
+ghost use Rattle.std.specs.Prelude.{◌≡◌, ◌<◌, ℕ, length, All, IfOk, IsTrue, true};
+ghost use Rattle.std.specs.List.Sorted.{IsNonDecreasingBy};
 ghost use Rattle.std.proofs.Props.{props};
 ghost use Rattle.sqz_image.specs.Objects.{object_count};
 ghost use Rattle.sqz_trace.specs.Graph.{is_marked};
 ghost use Rattle.sqz_names.specs.Structures.{AreClasses, IsClass};
-ghost use Rattle.sqz_names.specs.Names.{AreOfClasses, IsMethodName, IsVariableName};
+ghost use Rattle.sqz_names.specs.Names.{AreOfClasses, IsMethodName, IsVariableName, ListsMethods};
+ghost use Rattle.sqz_names.specs.Names.{ListsMethodsOf, ListsVariables};
 
 use crate::class_names::{name_of_class, name_of_class_of};
 use crate::classes::classes_in;
@@ -34,6 +36,10 @@ pub struct Names<'a> {
     ghost are_classes: { AreClasses graph.heap.now graph.weak classes },
     ghost are_methods: { All (IsMethodName graph.heap.now graph.weak) methods.items },
     ghost are_variables: { All (IsVariableName graph.heap.now graph.weak) variables.items } by { Prim.hlevel props },
+    ghost methods_in_order: { IsNonDecreasingBy (λ name. name.method) methods.items },
+    ghost variables_in_order: { IsNonDecreasingBy (λ name. name.association) variables.items } by { Prim.hlevel props },
+    ghost all_methods: { ListsMethods graph.heap.now graph.weak methods.items },
+    ghost all_variables: { ListsVariables graph.heap.now graph.weak variables.items } by { Prim.hlevel props },
 }
 
 impl<'a> Names<'a> {
@@ -72,6 +78,10 @@ impl<'a> Names<'a> {
             All (IsMethodName self.now.graph.heap.now self.now.graph.weak) found.items) }
         ensures marked { IfOk result (λ found.
             AreOfClasses (is_marked marks.now) found.items) }
+        ensures all { IfOk result (λ found. (class : ℕ) → class < object_count self.now.graph.heap.now
+            → IsClass self.now.graph.heap.now self.now.graph.weak class
+            → is_marked marks.now class ≡ true
+            → ListsMethodsOf self.now.graph.heap.now found.items class) }
     {
         let mut methods = MethodsFound::none(self.alloc, self.graph)?;
         for class in 0..self.graph.heap.len() {
@@ -85,7 +95,9 @@ impl<'a> Names<'a> {
     /// Returns the global variables and the class variables, by the address of the association. An
     /// association that is in several arrays occurs once for each.
     pub fn variables(&self) -> &[VariableName]
-        ensures { All (IsVariableName self.now.graph.heap.now self.now.graph.weak) result.now }
+        ensures variables { All (IsVariableName self.now.graph.heap.now self.now.graph.weak)
+            result.now }
+        ensures all { ListsVariables self.now.graph.heap.now self.now.graph.weak result.now }
     {
         &self.variables
     }
@@ -93,7 +105,10 @@ impl<'a> Names<'a> {
     /// Returns whether the object is a class.
     pub fn is_class(&self, object: ObjectIndex) -> bool
         requires { object < object_count self.now.graph.heap.now }
-        ensures { IsTrue result → IsClass self.now.graph.heap.now self.now.graph.weak object }
+        ensures sound { IsTrue result
+            → IsClass self.now.graph.heap.now self.now.graph.weak object }
+        ensures complete { IsClass self.now.graph.heap.now self.now.graph.weak object
+            → IsTrue result }
     {
         self.classes.contains(object)
     }

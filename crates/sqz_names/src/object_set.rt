@@ -4,6 +4,7 @@ ghost use Rattle.std.specs.Prelude.{◌≡◌, ◌<◌, false, length, not, repl
 ghost use Rattle.std.specs.Prelude.{slice_set, All, IfOk};
 ghost use Rattle.sqz_image.specs.Objects.{object_count};
 ghost use Rattle.sqz_trace.specs.Graph.{is_marked};
+ghost use Rattle.sqz_names.specs.Picks.{AreObjectsThat};
 
 use sqz_image::Heap;
 use sqz_object::ObjectIndex;
@@ -58,7 +59,7 @@ impl ObjectSet {
         ensures inside { IfOk result (λ found.
             All (λ object. object < object_count heap.now) found.items) }
         ensures members { IfOk result (λ found.
-            All (λ object. is_marked self.now object ≡ true) found.items) }
+            AreObjectsThat heap.now (λ object. is_marked self.now object ≡ true) found.items) }
     {
         let mut found = Vec::new(alloc);
         for object in 0..heap.len() {

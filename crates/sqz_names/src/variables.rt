@@ -1,10 +1,12 @@
 //! Global variables and class variables.
 
-ghost use Rattle.std.specs.Prelude.{◌≡◌, ◌<◌, length, All, IfOk, IfSome, Some};
+ghost use Rattle.std.specs.Prelude.{◌≡◌, ◌<◌, length, All, Contains, IfOk, IfSome, Some};
 ghost use Rattle.std.proofs.Props.{props};
 ghost use Rattle.sqz_image.specs.Objects.{object_count};
 ghost use Rattle.sqz_names.specs.Structures.{associations_of, dictionary_of};
-ghost use Rattle.sqz_names.specs.Names.{IsOwner, IsVariableName};
+ghost use Rattle.sqz_names.specs.declared.variable_name.VariableName.{VariableName};
+ghost use Rattle.sqz_names.specs.NameLists.{ListsArray, ListsArrays};
+ghost use Rattle.sqz_names.specs.Names.{IsOwner, IsVariableName, ListsVariablesOf};
 
 use crate::bytes::is_bytes;
 use crate::fields::{ASSOCIATIONS, CLASS_VARIABLES, GLOBALS, KEY};
@@ -47,6 +49,7 @@ pub(crate) struct VariablesFound<'a> {
     pub(crate) names: Vec<VariableName>,
     ghost one_each: { length arrays ≡ object_count graph.heap.now },
     ghost are_variables: { All (IsVariableName graph.heap.now graph.weak) names.items } by { Prim.hlevel props },
+    ghost are_all: { ListsArrays graph.heap.now arrays names.items },
 }
 
 impl<'a> VariablesFound<'a> {
@@ -65,15 +68,20 @@ impl<'a> VariablesFound<'a> {
     /// dictionary, unless those of its array were added before.
     pub(crate) fn add(&mut self, class: Option<ObjectIndex>) -> Result<(), AllocError>
         requires { IsOwner self.old.graph.heap.now self.old.graph.weak class }
-        ensures { self.new.graph ≡ self.old.graph }
+        ensures graph { self.new.graph ≡ self.old.graph }
+        ensures keeps { (name : VariableName) → Contains self.old.names.items name
+            → Contains self.new.names.items name }
+        ensures all { IfOk result (λ unit.
+            ListsVariablesOf self.old.graph.heap.now self.new.names.items class) }
     {
         let Some(array) = associations_of(self.graph.heap, class) else {
             return Ok(());
         };
-        if !self.arrays.insert(array) {
-            return Ok(());
+        if !self.arrays.contains(array) {
+            push_variables(self.graph, class, array, &mut self.names)?;
+            self.arrays.insert(array);
         }
-        push_variables(self.graph, class, array, &mut self.names)
+        Ok(())
     }
 }
 
@@ -89,7 +97,11 @@ fn push_variables(
     requires array { associations_of graph.heap.now class ≡ Some array }
     requires inside { array < object_count graph.heap.now }
     requires variables { All (IsVariableName graph.heap.now graph.weak) found.old.items }
-    ensures { All (IsVariableName graph.entry.heap.now graph.entry.weak) found.new.items }
+    ensures variables { All (IsVariableName graph.entry.heap.now graph.entry.weak)
+        found.new.items }
+    ensures keeps { (name : VariableName) → Contains found.old.items name
+        → Contains found.new.items name }
+    ensures all { IfOk result (λ unit. ListsArray graph.entry.heap.now array found.new.items) }
 {
     let heap = graph.heap;
     for field in 0..heap.fields(array) {

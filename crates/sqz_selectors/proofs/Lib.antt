@@ -1,3 +1,3 @@
-mod PickLemmas
+mod JoinLemmas
 mod MentionLemmas
 mod UnimplementedLemmas

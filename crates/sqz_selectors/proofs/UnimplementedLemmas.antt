@@ -11,7 +11,7 @@ use Rattle.sqz_names.specs.Names.{IsMethodName}
 use Rattle.sqz_selectors.specs.declared.unimplemented.Unimplemented.{Unimplemented}
 use Rattle.sqz_selectors.specs.Mentions.{AreSent}
 use Rattle.sqz_selectors.specs.Unimplemented.{AreUnimplementedIn, AreUnimplemented, unimplemented_in}
-use Rattle.sqz_selectors.proofs.PickLemmas.{AreJoined-take-push}
+use Rattle.sqz_selectors.proofs.JoinLemmas.{AreJoined-take-push}
 
 -- what was found in some methods
 pub record AreFound (memory : Memory) (weak : Weak) (implemented : List Bool) (names : List MethodName) (found : List Unimplemented) : Type 0 where

@@ -1,4 +1,3 @@
-pub mod Picks
+pub mod Joins
 pub mod Mentions
 pub mod Unimplemented
-pub mod Spelled

@@ -12,7 +12,7 @@ use Rattle.sqz_code.specs.declared.operation.Operation.TheVariants.{Send, SendSu
 use Rattle.sqz_code.specs.declared.instruction.Instruction.{Instruction}
 use Rattle.sqz_code.specs.Instructions.{IsDecodingOf}
 use Rattle.sqz_methods.specs.Parts.{bytecodes_in, literals_in}
-use Rattle.sqz_selectors.specs.Picks.{AreJoined}
+use Rattle.sqz_selectors.specs.Joins.{AreJoined}
 
 -- the field of the special objects array that points to the array of special selectors
 abbrev pub special_selectors_field : ℕ

@@ -5,7 +5,7 @@ use Rattle.sqz_trace.specs.Graph.{is_marked}
 use Rattle.sqz_names.specs.declared.method_name.MethodName.{MethodName}
 use Rattle.sqz_selectors.specs.declared.unimplemented.Unimplemented.{Unimplemented}
 use Rattle.sqz_selectors.specs.Mentions.{AreSent}
-use Rattle.sqz_selectors.specs.Picks.{AreJoined}
+use Rattle.sqz_selectors.specs.Joins.{AreJoined}
 
 -- those of the selectors that a method sends which are not marked, each with the method
 abbrev pub unimplemented_in : List Bool → MethodName → List ℕ → List Unimplemented

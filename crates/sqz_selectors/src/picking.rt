@@ -5,8 +5,8 @@ ghost use Rattle.sqz_image.specs.Objects.{object_count};
 ghost use Rattle.sqz_trace.specs.Avoiding.{MarksListed};
 ghost use Rattle.sqz_trace.specs.Graph.{is_marked};
 ghost use Rattle.sqz_names.specs.Names.{IsMethodName};
+ghost use Rattle.sqz_names.specs.Picks.{ArePicked};
 ghost use Rattle.sqz_selectors.specs.Mentions.{AreMentionMarks, MentionsOne};
-ghost use Rattle.sqz_selectors.specs.Picks.{ArePicked};
 
 use crate::mentions::mentioned_by;
 use sqz_image::Heap;

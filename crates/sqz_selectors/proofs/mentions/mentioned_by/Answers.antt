@@ -1,6 +1,6 @@
 use Rattle.std.proofs.Common.{◌++◌, ◌∷◌, [], List, ℕ, ap, sym, ◌∙◌}
 use Rattle.sqz_trace.specs.Targets.{named_by}
-use Rattle.sqz_selectors.proofs.PickLemmas.{filter_map-some, filter_map-none}
+use Rattle.sqz_selectors.proofs.JoinLemmas.{filter_map-some, filter_map-none}
 use Rattle.sqz_selectors.proofs.mentions.mentioned_by.Goals as goal
 
 pub loop-word-preserved-in_ok-push : goal.loop-word-preserved-in_ok-push

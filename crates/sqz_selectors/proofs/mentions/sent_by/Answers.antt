@@ -2,7 +2,7 @@ use Rattle.std.proofs.Common.{◌<◌, ◌++◌, ◌∷◌, [], List, ℕ, ap, s
 use Rattle.std.proofs.lemmas.List.Elements.{All-push}
 use Rattle.sqz_image.specs.Objects.{object_count}
 use Rattle.sqz_selectors.specs.Mentions.{selector_of}
-use Rattle.sqz_selectors.proofs.PickLemmas.{filter_map-take-some, filter_map-take-none}
+use Rattle.sqz_selectors.proofs.JoinLemmas.{filter_map-take-some, filter_map-take-none}
 use Rattle.sqz_selectors.proofs.mentions.sent_by.Goals.{in-Some+in_ok-push, in_default}
 use Rattle.sqz_selectors.proofs.mentions.sent_by.Goals as goal
 

@@ -1,6 +1,6 @@
 use Rattle.std.proofs.Common.{◌+◌, ◌++◌, List, ℕ, take, ap, sym, subst, ◌∙◌}
 use Rattle.sqz_selectors.specs.Mentions.{AreAllMentioned, AreMentioned}
-use Rattle.sqz_selectors.proofs.PickLemmas.{AreJoined-take-push}
+use Rattle.sqz_selectors.proofs.JoinLemmas.{AreJoined-take-push}
 use Rattle.sqz_selectors.proofs.picking.mark_mentioned.Goals as goal
 
 pub loop-name-preserved : goal.loop-name-preserved

@@ -2,7 +2,7 @@ use Rattle.std.proofs.Common.{◌≡◌, true}
 use Rattle.std.proofs.lemmas.List.Elements.{All-push}
 use Rattle.sqz_names.specs.Names.{IsMethodName}
 use Rattle.sqz_selectors.specs.Mentions.{MentionsOne}
-use Rattle.sqz_selectors.proofs.PickLemmas.{ArePicked-take-push, ArePicked-take-skip}
+use Rattle.sqz_names.proofs.PickLemmas.{ArePicked-take-push, ArePicked-take-skip}
 use Rattle.sqz_selectors.proofs.picking.senders_of.Goals.{then-branch+in_ok-push, else-branch}
 use Rattle.sqz_selectors.proofs.picking.senders_of.Goals as goal
 

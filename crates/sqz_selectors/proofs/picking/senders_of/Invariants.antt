@@ -1,7 +1,7 @@
 use Rattle.std.proofs.Common.{All, take}
 use Rattle.sqz_names.specs.Names.{IsMethodName}
 use Rattle.sqz_selectors.specs.Mentions.{MentionsOne}
-use Rattle.sqz_selectors.specs.Picks.{ArePicked}
+use Rattle.sqz_names.specs.Picks.{ArePicked}
 use Rattle.sqz_selectors.proofs.picking.senders_of.Given as goal
 
 abbrev pub invariant-loop-name : goal.invariant-loop-name

@@ -1,10 +1,8 @@
-use Rattle.std.proofs.Common.{◌≡◌, ◌<◌, ◌++◌, ◌∷◌, [], true, List, ℕ, sym, subst, arith}
-use Rattle.std.specs.List.{range_with_len}
+use Rattle.std.proofs.Common.{◌≡◌, ◌<◌, true, arith}
 use Rattle.std.proofs.lemmas.List.Elements.{All-push}
 use Rattle.sqz_image.specs.Objects.{object_count}
 use Rattle.sqz_names.specs.Structures.{HasText}
-use Rattle.sqz_selectors.specs.Picks.{ArePicked}
-use Rattle.sqz_selectors.proofs.PickLemmas.{ArePicked-push, ArePicked-skip, range_with_len-more}
+use Rattle.sqz_names.proofs.PickLemmas.{ArePicked-range-push, ArePicked-range-skip}
 use Rattle.sqz_selectors.proofs.spelling.spelled.Goals.{then-branch+in_ok-push, else-branch}
 use Rattle.sqz_selectors.proofs.spelling.spelled.Goals as goal
 
@@ -16,16 +14,14 @@ loop-object-preserved c =
     elim c.if-branch.branch [
       | then-branch+in_ok-push w ↦
           rw (w.found-is, w.in_ok-push.ensures.items) (
-            subst (λ (l : List ℕ). ArePicked P l (c.loop-object.found.items ++ object ∷ [])) (sym (range_with_len-more object))
-                (ArePicked-push P object (range_with_len 0 object) c.loop-object.found.items c.loop-object.invariant.0
-                (c.in_ok-spells.ensures.sound w.if-branch.true)),
+            ArePicked-range-push P object c.loop-object.found.items c.loop-object.invariant.0
+                (c.in_ok-spells.ensures.sound w.if-branch.true),
             All-push (λ it. it < object_count c.args.heap.now) c.loop-object.found.items object c.loop-object.invariant.1 inside,
           )
       | else-branch w ↦
           rw w.found-is (
-            subst (λ (l : List ℕ). ArePicked P l c.loop-object.found.items) (sym (range_with_len-more object))
-                (ArePicked-skip P object (range_with_len 0 object) c.loop-object.found.items c.loop-object.invariant.0
-                (λ has. let yes : c.in_ok-spells.field-0 ≡ true = c.in_ok-spells.ensures.complete has in absurd cc)),
+            ArePicked-range-skip P object c.loop-object.found.items c.loop-object.invariant.0
+                (λ has. let yes : c.in_ok-spells.field-0 ≡ true = c.in_ok-spells.ensures.complete has in absurd cc),
             c.loop-object.invariant.1,
           )
     ]

@@ -1,8 +1,8 @@
 use Rattle.std.proofs.Common.{◌<◌, All}
+use Rattle.std.specs.List.{range_with_len}
 use Rattle.sqz_image.specs.Objects.{object_count}
 use Rattle.sqz_names.specs.Structures.{HasText}
-use Rattle.std.specs.List.{range_with_len}
-use Rattle.sqz_selectors.specs.Picks.{ArePicked}
+use Rattle.sqz_names.specs.Picks.{ArePicked}
 use Rattle.sqz_selectors.proofs.spelling.spelled.Given as goal
 
 abbrev pub invariant-loop-object : goal.invariant-loop-object

@@ -7,7 +7,7 @@ pub returns-else-has_own_name-clause-label : goal.returns-else-has_own_name-clau
 returns-else-has_own_name-clause-label c =
     let is : c.is_class.result ≡ true = search rules in
     let known : is_some c.in_ok-known_class_name.field-0 ≡ true = search rules in (
-      c.is_class.ensures is,
+      c.is_class.ensures.sound is,
       IsMetaclass-known c.args.self.now.graph.heap.now c.args.self.now.graph.weak c.args.object
           (ap is_some (sym c.in_ok-known_class_name.ensures) ∙ is_some-map _ _ ∙ known)
           (sym c.has_own_name.ensures ∙ c.if-has_own_name.false),

@@ -1,10 +1,13 @@
-use Rattle.std.proofs.Common.{◌≡◌}
+use Rattle.std.proofs.Common.{◌≡◌, ◌<◌, ℕ, true}
 use Rattle.sqz_trace.specs.Graph.{is_marked}
-use Rattle.sqz_names.specs.Names.{AreOfClasses}
+use Rattle.sqz_names.specs.Structures.{IsClass}
+use Rattle.sqz_names.specs.Names.{AreOfClasses, ListsMethodsOf}
 use Rattle.sqz_names.proofs.names.Names.methods_of_marked.Given as goal
 
 abbrev pub invariant-loop-class : goal.invariant-loop-class
 invariant-loop-class l = record {
   graph : l.methods.graph ≡ l.self.graph;
   marked : AreOfClasses (is_marked l.marks) l.methods.names.items;
+  all : (class : ℕ) → class < l.class → IsClass l.self.graph.heap.now l.self.graph.weak class → is_marked l.marks class ≡ true
+      → ListsMethodsOf l.self.graph.heap.now l.methods.names.items class;
 }
