@@ -1,7 +1,7 @@
 -- Which objects are classes, and which of them have a name of their own.
 -- Serves `classes::classes_in` and `labels::Names::class_label`.
 use Rattle.std.proofs.Common.{◌≡◌, ℕ, zero, suc, Bool, true, false, List, Option, Some, None, set}
-use Rattle.std.proofs.Common.{refl, sym, ap, subst, ◌∙◌, inl, inr, true≢false}
+use Rattle.std.proofs.Common.{refl, sym, ap, ◌∙◌, inl, inr, true≢false}
 use Rattle.std.proofs.Math.Logic.{∥∥₁_map}
 use Rattle.std.proofs.lemmas.List.{length-replicate, length-set}
 use Rattle.std.proofs.lemmas.Option.{none-some, option_and_then_some}
@@ -19,12 +19,12 @@ use Rattle.sqz_trace.specs.Reachability.{IsReachability}
 use Rattle.sqz_trace.specs.Slots.{traced}
 use Rattle.sqz_trace.specs.Strong.{class_of, fixed_by, is_weak, strong}
 use Rattle.sqz_trace.specs.Targets.{target}
-use Rattle.sqz_trace.proofs.MarkingLemmas.{is_marked-set}
 use Rattle.sqz_trace.proofs.TargetLemmas.{named_among-more}
 use Rattle.sqz_histogram.specs.Names.{held_name, known_class_name, name_by, text_in}
 use Rattle.sqz_names.specs.Fields.{instance_field, name_field}
 use Rattle.sqz_names.specs.Structures.{has_bytes, has_own_name, IsClass, IsMetaclass, IsNamedInstanceOf}
 use Rattle.sqz_names.specs.ClassSets.{IsClassSet}
+use Rattle.sqz_names.proofs.ClassSetLemmas.{is_marked-more}
 use Rattle.sqz_names.proofs.LayoutLemmas.{is_byte_layout-text, strong-le}
 
 -- the empty set has no object
@@ -44,20 +44,11 @@ module _ (memory : Memory) (weak : Weak) where
   }
 
   -- one class more
-  set-more : (set' : List Bool) (class : ℕ) → ((other : ℕ) → is_marked set' other ≡ true → IsClass memory weak other)
-      → IsClass memory weak class
-      → (other : ℕ) → is_marked (set set' class true) other ≡ true → IsClass memory weak other
-  set-more set' class are is other marked =
-      elim (is_marked-set set' class other marked) [
-        | inl same ↦ subst (λ (it : ℕ). IsClass memory weak it) (sym same) is
-        | inr old ↦ are other old
-      ]
-
   pub IsClassSet-more : (set' : List Bool) (class : ℕ) → IsClassSet memory weak set' → IsClass memory weak class
       → IsClassSet memory weak (set set' class true)
   IsClassSet-more set' class are is = record {
     sized = length-set set' class true ∙ are.sized;
-    classes = set-more set' class are.classes is;
+    classes = is_marked-more (λ (it : ℕ). IsClass memory weak it) set' class are.classes is;
   }
 
   -- the class of a marked object

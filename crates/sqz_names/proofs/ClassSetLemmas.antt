@@ -31,7 +31,7 @@ is_marked-more P set' object each is x marked =
     ]
 
 module _ (memory : Memory) (weak : Weak) where
-  -- the set has the class of each object that a metaclass among the first `seen` objects states
+  -- the set has each instance that a metaclass among the first `seen` objects states
   abbrev pub HasInstancesOf : List Bool → ℕ → List Bool → Type 0
   HasInstancesOf of_objects seen set' =
       (metaclass class : ℕ) → metaclass < seen → is_marked of_objects metaclass ≡ true
@@ -64,7 +64,7 @@ module _ (memory : Memory) (weak : Weak) where
         ]
 
   module _ (of_objects : List Bool) (seen : ℕ) (set' : List Bool) (has : HasInstancesOf of_objects seen set') where
-    -- one object more, which states an instance that is added
+    -- one metaclass more, whose instance is added
     pub HasInstancesOf-add : (instance : ℕ) → instance < length set'
         → ((class : ℕ) → IsNamedInstanceOf memory weak seen class → instance ≡ class)
         → HasInstancesOf of_objects (seen + 1) (set set' instance true)

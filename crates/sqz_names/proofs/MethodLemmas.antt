@@ -1,10 +1,10 @@
 -- Lists of methods, and methods with a name.
--- Serves `methods`, `names::Names::methods_of_marked` and `lookup`.
-use Rattle.std.proofs.Common.{◌≡◌, ◌++◌, [], ◌∷◌, ℕ, ◌+◌, ◌-◌, ◌<◌, ◌≤◌, Bool, true, false, true≢false, not, List, Contains, set, length, take, drop, replicate, None, Some}
+-- Serves `methods`, `names`, `labels::Names::known` and `lookup`.
+use Rattle.std.proofs.Common.{◌≡◌, ◌++◌, [], ◌∷◌, ℕ, ◌+◌, ◌-◌, ◌<◌, ◌≤◌, Bool, true, false, true≢false, List, Contains, set, length, take, replicate, None, Some}
 use Rattle.std.proofs.Common.{refl, sym, ap, subst, ◌∙◌, inl, inr, arith}
 use Rattle.std.proofs.Math.Logic.{∥∥₁_elim, ∥∥₁_map, ∥∥₁_prop}
 use Rattle.std.proofs.lemmas.Bool.{cases_lt}
-use Rattle.std.proofs.lemmas.List.{drop_at, take_at}
+use Rattle.std.proofs.lemmas.List.{append_cancel_left, take_at}
 use Rattle.std.proofs.lemmas.List.Elements.{Contains-append_left, Contains-push}
 use Rattle.std.proofs.lemmas.Option.{none-some, same_Some}
 use Rattle.std.proofs.lemmas.Slice.Eq.{bytes_eq-Decides}
@@ -26,10 +26,6 @@ use Rattle.sqz_names.specs.Names.{IsMethodName, IsMethodUnder, IsMethodNamed, Li
 use Rattle.sqz_names.specs.NameLists.{ListsDictionaries, ListsDictionary}
 use Rattle.sqz_names.proofs.ClassLemmas.{is_marked-none}
 use Rattle.sqz_names.proofs.ClassSetLemmas.{is_marked-more}
-
-pub is_true-not : (test : Bool) → not test ≡ false → test ≡ true
-is_true-not true is = refl
-is_true-not false is = absurd (true≢false is)
 
 -- what holds of the numbers below one and of itself holds of those below the next
 pub below-more : (P : ℕ → Type 0) (n : ℕ) → ((x : ℕ) → x < n → P x) → P n → (x : ℕ) → x < n + 1 → P x
@@ -149,11 +145,8 @@ same_parts : (between xs ys zs ws : List ℕ) → length xs ≡ length zs → xs
 same_parts between xs ys zs ws same all =
     let firsts : xs ≡ zs =
     sym (take_at xs (between ++ ys) (length xs) refl) ∙ ap (take (length xs)) all ∙ take_at zs (between ++ ws) (length xs) (sym same) in
-    let rests : between ++ ys ≡ between ++ ws =
-    sym (drop_at xs (between ++ ys) (length xs) refl) ∙ ap (drop (length xs)) all ∙ drop_at zs (between ++ ws) (length xs) (sym same) in (
-      firsts,
-      sym (drop_at between ys (length between) refl) ∙ ap (drop (length between)) rests ∙ drop_at between ws (length between) refl,
-    )
+    let rests = all ∙ ap (λ (front : List ℕ). front ++ (between ++ ws)) (sym firsts) in
+    (firsts, append_cancel_left between ys ws (append_cancel_left xs (between ++ ys) (between ++ ws) rests))
 
 module _ (memory : Memory) (weak : Weak) where
   -- a method of a class with this name under this selector

@@ -5,8 +5,8 @@ ghost use Rattle.std.specs.Str.{bytes_eq};
 ghost use Rattle.sqz_image.specs.Objects.{object_count};
 ghost use Rattle.sqz_histogram.specs.Names.{class_name};
 ghost use Rattle.sqz_names.specs.Names.{AreMethodsUnder, AreOfClasses, IsClassNamed};
-ghost use Rattle.sqz_names.specs.Names.{IsMethodName, IsMethodNamed, IsVariableName, ListsMethodsOf};
-ghost use Rattle.sqz_names.specs.Names.{IsOwner};
+ghost use Rattle.sqz_names.specs.Names.{IsMethodName, IsMethodNamed, IsOwner, IsVariableName};
+ghost use Rattle.sqz_names.specs.Names.{ListsMethodsOf};
 ghost use Rattle.sqz_names.specs.Picks.{AreObjectsThat};
 ghost use Rattle.sqz_names.specs.Structures.{IsClass, IsMethodOf, IsVariable};
 

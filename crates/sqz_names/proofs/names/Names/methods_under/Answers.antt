@@ -1,5 +1,6 @@
 use Rattle.std.proofs.Common.{◌≡◌, ◌<◌, ℕ, List, true, true≢false, length, get_or, set, All, sym, ap, subst, inl, inr, ◌∙◌, arith}
 use Rattle.std.proofs.Math.Logic.{∥∥₁_elim}
+use Rattle.std.proofs.lemmas.Bool.{not-false}
 use Rattle.std.proofs.lemmas.List.{get_or_default, length-replicate, length-set}
 use Rattle.std.proofs.lemmas.List.Elements.{All-same}
 use Rattle.std.specs.Str.{bytes_eq}
@@ -13,7 +14,7 @@ use Rattle.sqz_names.specs.Structures.{HasText}
 use Rattle.sqz_names.specs.Names.{AreOfClasses, IsMethodName, IsMethodUnder}
 use Rattle.sqz_names.proofs.ClassLemmas.{is_marked-none}
 use Rattle.sqz_names.proofs.ClassSetLemmas.{is_marked-added, is_marked-more}
-use Rattle.sqz_names.proofs.MethodLemmas.{below-more, is_true-not, IsMethodUnder-listed}
+use Rattle.sqz_names.proofs.MethodLemmas.{below-more, IsMethodUnder-listed}
 use Rattle.sqz_names.proofs.names.Names.methods_under.Goals as goal
 use Rattle.sqz_names.proofs.names.Names.methods_under.Goals.{then-is_new+in_ok-spells+then-branch, else-is_new, then-contains, else-contains}
 use Rattle.sqz_names.proofs.names.Names.methods_under.Goals.{else-is_new-via-then-is_new+in_ok-spells+else-branch, else-is_new-via-else-is_new}
@@ -88,7 +89,7 @@ loop-method-preserved c =
                   absurd (true≢false (sym (v.in_ok-spells.ensures.complete (subst (HasText memory c.args.selector.now) same has))
                   ∙ v.if-branch.false))
               | else-is_new-via-else-is_new v ↦
-                  let before = is_true-not _ (sym c.insert-is_new.ensures.new ∙ v.if-is_new.false) in
+                  let before = not-false _ (sym c.insert-is_new.ensures.new ∙ v.if-is_new.false) in
                   so_far.all_spelled selector (subst (λ (it : ℕ). is_marked c.loop-method.compared it ≡ true) (sym same) before) has
             ]
             | inr before ↦ so_far.all_spelled selector before has
