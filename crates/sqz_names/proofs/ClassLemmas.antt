@@ -24,7 +24,7 @@ use Rattle.sqz_histogram.specs.Names.{held_name, known_class_name, name_by, text
 use Rattle.sqz_names.specs.Fields.{instance_field, name_field}
 use Rattle.sqz_names.specs.Structures.{has_bytes, has_own_name, IsClass, IsMetaclass, IsNamedInstanceOf}
 use Rattle.sqz_names.specs.ClassSets.{IsClassSet}
-use Rattle.sqz_names.proofs.ClassSetLemmas.{is_marked-more}
+use Rattle.sqz_trace.proofs.MarkingLemmas.{is_marked-more}
 use Rattle.sqz_names.proofs.LayoutLemmas.{is_byte_layout-text, strong-le}
 
 -- the empty set has no object

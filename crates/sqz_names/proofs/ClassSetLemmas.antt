@@ -1,10 +1,9 @@
 -- Sets to which objects are added, one after the other.
 -- Serves `classes`, `methods`, `variables` and `lookup`.
-use Rattle.std.proofs.Common.{◌≡◌, ℕ, ◌+◌, ◌<◌, Bool, true, false, List, set, length, Some}
+use Rattle.std.proofs.Common.{◌≡◌, ℕ, ◌+◌, ◌<◌, Bool, true, List, set, length, Some}
 use Rattle.std.proofs.Common.{sym, ap, subst, ◌∙◌, inl, inr, arith}
 use Rattle.std.proofs.Math.Logic.{∥∥₁_elim}
 use Rattle.std.proofs.lemmas.Bool.{cases_lt}
-use Rattle.std.proofs.lemmas.List.{get_or-set_same}
 use Rattle.std.proofs.lemmas.Option.{same_Some}
 use mathlib.Core.Bool.{Bool-set}
 use Rattle.sqz_image.specs.Objects.{Memory, object_count, chunk_words}
@@ -13,22 +12,9 @@ use Rattle.sqz_trace.specs.Graph.{IsReachable, is_marked}
 use Rattle.sqz_trace.specs.Reachability.{IsReachability, graph_from}
 use Rattle.sqz_trace.specs.Strong.{class_of}
 use Rattle.sqz_trace.proofs.MarkedLemmas.{is_marked-inside}
-use Rattle.sqz_trace.proofs.MarkingLemmas.{is_marked-keeps, is_marked-set}
+use Rattle.sqz_trace.proofs.MarkingLemmas.{is_marked-added, is_marked-keeps}
 use Rattle.sqz_names.specs.Structures.{AreClasses, IsLive, IsNamedInstanceOf}
 use Rattle.sqz_names.specs.ClassSets.{HasClassesOf, HasNamedInstances, IsClassSet}
-
--- an object that is added to a set is in it
-pub is_marked-added : (marks : List Bool) (object : ℕ) → object < length marks → is_marked (set marks object true) object ≡ true
-is_marked-added marks object inside = get_or-set_same marks object true false inside
-
--- what holds of each object of a set holds after one more, if it holds of that one
-pub is_marked-more : (P : ℕ → Type 0) (set' : List Bool) (object : ℕ) → ((x : ℕ) → is_marked set' x ≡ true → P x)
-    → P object → (x : ℕ) → is_marked (set set' object true) x ≡ true → P x
-is_marked-more P set' object each is x marked =
-    elim (is_marked-set set' object x marked) [
-      | inl same ↦ subst P (sym same) is
-      | inr old ↦ each x old
-    ]
 
 module _ (memory : Memory) (weak : Weak) where
   -- the set has each instance that a metaclass among the first `seen` objects states

@@ -3,5 +3,7 @@ pub mod ClassLemmas
 pub mod ClassSetLemmas
 pub mod PickLemmas
 pub mod SearchLemmas
+mod LabelLemmas
+mod TextLemmas
 pub mod VariableLemmas
 pub mod MethodLemmas

@@ -25,7 +25,7 @@ use Rattle.sqz_names.specs.Structures.{HasText, IsMethodIn}
 use Rattle.sqz_names.specs.Names.{IsMethodName, IsMethodUnder, IsMethodNamed, ListsMethod, ListsMethodsOf}
 use Rattle.sqz_names.specs.NameLists.{ListsDictionaries, ListsDictionary}
 use Rattle.sqz_names.proofs.ClassLemmas.{is_marked-none}
-use Rattle.sqz_names.proofs.ClassSetLemmas.{is_marked-more}
+use Rattle.sqz_trace.proofs.MarkingLemmas.{is_marked-more}
 
 -- what holds of the numbers below one and of itself holds of those below the next
 pub below-more : (P : ℕ → Type 0) (n : ℕ) → ((x : ℕ) → x < n → P x) → P n → (x : ℕ) → x < n + 1 → P x

@@ -22,7 +22,7 @@ use Rattle.sqz_names.specs.Names.{IsElement, ListsVariable, ListsVariables, List
 use Rattle.sqz_names.specs.NameLists.{ListsArray, ListsArrays}
 use Rattle.sqz_names.specs.Structures.{is_bytes, dictionary_of, associations_of, HasVariable, IsClass, IsVariable, IsVariableAmong}
 use Rattle.sqz_names.proofs.ClassLemmas.{is_marked-none}
-use Rattle.sqz_names.proofs.ClassSetLemmas.{is_marked-more}
+use Rattle.sqz_trace.proofs.MarkingLemmas.{is_marked-more}
 
 module _ (memory : Memory) (class : Option ℕ) (association key : ℕ) where
   -- the array of the associations, by their dictionary

@@ -4,6 +4,7 @@ pub mod ClassSets
 pub mod Known
 pub mod Labels
 pub mod Names
-pub mod Unlabelled
+pub mod LabelOrder
 pub mod NameLists
 pub mod Picks
+pub mod Texts

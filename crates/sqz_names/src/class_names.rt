@@ -1,8 +1,12 @@
 //! The names of classes.
 
 ghost use Rattle.std.specs.Prelude.{◌≡◌, ◌<◌, IfOk, option_map};
+ghost use Rattle.std.specs.Str.{IsAscii};
+ghost use Rattle.std.specs.String.{string_bytes};
 ghost use Rattle.sqz_image.specs.Objects.{object_count};
+ghost use Rattle.sqz_histogram.specs.Names.{class_name};
 ghost use Rattle.sqz_names.specs.Structures.{class_name_of};
+ghost use Rattle.sqz_names.specs.Texts.{shown_class_name};
 
 use sqz_histogram::{class_name, compact_name};
 use sqz_object::{ObjectIndex, base_of};
@@ -17,6 +21,8 @@ pub fn name_of_class_of(
     object: ObjectIndex,
 ) -> Result<String, AllocError>
     requires { object < object_count graph.heap.now }
+    ensures { IfOk result (λ name. string_bytes name
+        ≡ shown_class_name graph.entry.heap.now graph.entry.weak object) }
 {
     match class_name_of(alloc, graph, object)? {
         Some(name) => ascii(alloc, &name),
@@ -34,6 +40,8 @@ pub fn name_of_class(
     class: ObjectIndex,
 ) -> Result<String, AllocError>
     requires { class < object_count graph.heap.now }
+    ensures { IfOk result (λ name. string_bytes name
+        ≡ class_name graph.entry.heap.now graph.entry.weak class) }
 {
     let name = class_name(alloc, graph, class)?;
     ascii(alloc, &name)
@@ -57,7 +65,10 @@ pub(crate) fn class_name_of(
 }
 
 /// Returns ASCII characters as a string.
-fn ascii(alloc: Global, characters: &[u8]) -> Result<String, AllocError> {
+fn ascii(alloc: Global, characters: &[u8]) -> Result<String, AllocError>
+    ensures { IsAscii characters.now
+        → IfOk result (λ text. string_bytes text ≡ characters.now) }
+{
     let mut text = String::new(alloc);
     for character in characters {
         text.push(char::from(*character))?;

@@ -2,6 +2,7 @@
 
 ghost use Rattle.std.specs.Prelude.{◌≡◌};
 ghost use Rattle.sqz_names.specs.Known.{known_class, known_field};
+ghost use Rattle.sqz_names.specs.Texts.{known_name};
 
 use crate::fields::{FALSE, GLOBALS, NIL, TRUE};
 
@@ -47,7 +48,9 @@ impl Known {
     }
 
     /// Returns the name of the object.
-    pub fn name(self) -> &'static str {
+    pub fn name(self) -> &'static str
+        ensures { result.now ≡ known_name self }
+    {
         match self {
             Known::Nil => "nil",
             Known::False => "false",

@@ -1,7 +1,12 @@
 //! The text of a label.
 
-ghost use Rattle.std.specs.Prelude.{◌<◌};
+ghost use Rattle.std.specs.Prelude.{◌≡◌, ◌<◌, ◌++◌, map, take, IfOk};
+ghost use Rattle.std.specs.List.{concat};
+ghost use Rattle.std.specs.String.{string_bytes};
 ghost use Rattle.sqz_image.specs.Objects.{object_count};
+ghost use Rattle.sqz_names.specs.declared.label.Label.TheVariants.{Other};
+ghost use Rattle.sqz_names.specs.Texts.{byte_text, dots, label_bytes, label_text, quoted_text_of};
+ghost use Rattle.sqz_names.specs.Texts.{shown, text_of, HasLabel};
 
 use crate::escape::push_escaped;
 use crate::formats::INDEXED;
@@ -19,6 +24,8 @@ impl Names<'_> {
     /// and its address.
     pub fn label(&self, object: ObjectIndex) -> Result<String, AllocError>
         requires { object < object_count self.now.graph.heap.now }
+        ensures { IfOk result (λ text. HasLabel self.now.graph.heap.now self.now.graph.weak
+            object (string_bytes text)) }
     {
         let alloc = self.alloc;
         match self.label_of(object)? {
@@ -70,6 +77,7 @@ impl Names<'_> {
     /// text of any other object is empty.
     pub fn text(&self, object: ObjectIndex) -> Result<String, AllocError>
         requires { object < object_count self.now.graph.heap.now }
+        ensures { IfOk result (λ text. string_bytes text ≡ text_of self.now.graph.heap.now object) }
     {
         self.shown(object, "", false)
     }
@@ -77,6 +85,8 @@ impl Names<'_> {
     /// Returns the first bytes of a string in quotes. A quote in it is doubled.
     fn quoted(&self, object: ObjectIndex) -> Result<String, AllocError>
         requires { object < object_count self.now.graph.heap.now }
+        ensures { IfOk result (λ text.
+            string_bytes text ≡ quoted_text_of self.now.graph.heap.now object) }
     {
         self.shown(object, "'", true)
     }
@@ -89,30 +99,77 @@ impl Names<'_> {
         doubles_quotes: bool,
     ) -> Result<String, AllocError>
         requires { object < object_count self.now.graph.heap.now }
+        ensures { IfOk result (λ text. string_bytes text ≡ shown (byte_text doubles_quotes)
+            quote.now (label_bytes self.now.graph.heap.now object)) }
     {
         let mut text = String::from_str(self.alloc, quote)?;
-        let chunk = self.graph.heap.object(object);
-        let bytes = first_bytes(self.alloc, self.graph.heap.order(), &chunk, MOST_BYTES + 1)?;
-        let bytes = bytes.unwrap_or(Vec::new(self.alloc));
-        for byte in bytes.iter().take(MOST_BYTES) {
-            if doubles_quotes && *byte == b'\'' {
-                text.push('\'')?;
-            }
-            push_escaped(&mut text, *byte)?;
-        }
+        let bytes = self.label_bytes(object)?;
+        push_bytes(&mut text, first(&bytes), doubles_quotes)?;
         text.push_str(quote)?;
-        if bytes.len() > MOST_BYTES {
-            text.push_str("..")?;
-        }
+        text.push_str(dots(&bytes))?;
         Ok(text)
+    }
+
+    /// Returns the first bytes of a byte object, up to one more than a label shows. None of any
+    /// other object.
+    fn label_bytes(&self, object: ObjectIndex) -> Result<Vec<u8>, AllocError>
+        requires { object < object_count self.now.graph.heap.now }
+        ensures { IfOk result (λ bytes.
+            bytes.items ≡ label_bytes self.now.graph.heap.now object) }
+    {
+        let (alloc, heap) = (self.alloc, self.graph.heap);
+        let bytes = first_bytes(alloc, heap.order(), &heap.object(object), MOST_BYTES + 1)?;
+        Ok(bytes.unwrap_or(Vec::new(alloc)))
     }
 
     /// Returns the name of the object's class and its address.
     fn class_and_address(&self, object: ObjectIndex) -> Result<String, AllocError>
         requires { object < object_count self.now.graph.heap.now }
+        ensures { IfOk result (λ text. string_bytes text
+            ≡ label_text self.now.graph.heap.now self.now.graph.weak object Other) }
     {
         let class = self.name_of_class_of(object)?;
         let address = self.graph.heap.address(object);
         format!(in self.alloc; "{class} {address:08x}")
     }
+}
+
+/// Returns the first bytes, as many as a label shows.
+fn first(bytes: &[u8]) -> &[u8]
+    ensures { result.now ≡ take 40 bytes.now }
+{
+    if bytes.len() > MOST_BYTES {
+        &bytes[..MOST_BYTES]
+    } else {
+        bytes
+    }
+}
+
+/// Returns two dots if there are more bytes than a label shows.
+fn dots(bytes: &[u8]) -> &'static str
+    ensures { result.now ≡ dots bytes.now }
+{
+    if bytes.len() > MOST_BYTES { ".." } else { "" }
+}
+
+/// Appends bytes as text, where a quote is doubled if `doubles_quotes` is set.
+fn push_bytes(text: &mut String, bytes: &[u8], doubles_quotes: bool) -> Result<(), AllocError>
+    ensures { IfOk result (λ done. string_bytes text.new
+        ≡ string_bytes text.old ++ concat (map (byte_text doubles_quotes) bytes.now)) }
+{
+    for byte in bytes {
+        push_byte(text, *byte, doubles_quotes)?;
+    }
+    Ok(())
+}
+
+/// Appends a byte as text, where a quote is doubled if `doubles_quotes` is set.
+fn push_byte(text: &mut String, byte: u8, doubles_quotes: bool) -> Result<(), AllocError>
+    ensures { IfOk result (λ done. string_bytes text.new
+        ≡ string_bytes text.old ++ byte_text doubles_quotes byte) }
+{
+    if doubles_quotes && byte == b'\'' {
+        text.push('\'')?;
+    }
+    push_escaped(text, byte)
 }

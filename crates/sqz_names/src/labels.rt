@@ -2,11 +2,10 @@
 
 ghost use Rattle.std.specs.Prelude.{◌≡◌, ◌<◌, IfOk, IfSome, IsTrue, None};
 ghost use Rattle.sqz_image.specs.Objects.{object_count};
-ghost use Rattle.sqz_names.specs.declared.known.Known.{Known};
-ghost use Rattle.sqz_names.specs.declared.label.Label.TheVariants.{Other};
 ghost use Rattle.sqz_names.specs.Known.{IsKnown};
 ghost use Rattle.sqz_names.specs.Labels.{IsInside, IsLabel};
-ghost use Rattle.sqz_names.specs.Unlabelled.{IsNoneNamed, IsNoNamedClass, IsNoText, IsUnlabelled};
+ghost use Rattle.sqz_names.specs.LabelOrder.{IsFirst, IsNoMethod, IsNoNamedClass};
+ghost use Rattle.sqz_names.specs.LabelOrder.{IsNoVariable, IsNotKnown, IsNotSpecial, IsTextLabel};
 
 use crate::bytes::is_bytes;
 use crate::class_names::class_name_of;
@@ -29,8 +28,8 @@ impl Names<'_> {
             IsLabel self.now.graph.heap.now self.now.graph.weak object label) }
         ensures inside { IfOk result (λ label.
             IsInside (object_count self.now.graph.heap.now) label) }
-        ensures complete { IfOk result (λ label. label ≡ Other
-            → IsUnlabelled self.now.graph.heap.now self.now.graph.weak object) }
+        ensures first { IfOk result
+            (IsFirst self.now.graph.heap.now self.now.graph.weak object) }
     {
         if object == self.graph.heap.special() {
             return Ok(Label::SpecialObjects);
@@ -52,8 +51,8 @@ impl Names<'_> {
         requires { object < object_count self.now.graph.heap.now }
         ensures sound { IfOk result (λ found. IfSome found (λ known.
             IsKnown self.now.graph.heap.now self.now.graph.weak known object)) }
-        ensures complete { IfOk result (λ found. found ≡ None → (known : Known)
-            → IsKnown self.now.graph.heap.now self.now.graph.weak known object → ⊥) }
+        ensures complete { IfOk result (λ found. found ≡ None
+            → IsNotKnown self.now.graph.heap.now self.now.graph.weak object) }
     {
         for known in Known::ALL {
             if self.is_known(known, object)? {
@@ -88,7 +87,10 @@ impl Names<'_> {
             (IsLabel self.now.graph.heap.now self.now.graph.weak object)) }
         ensures inside { IfOk result (λ label. IfSome label
             (IsInside (object_count self.now.graph.heap.now))) }
-        ensures named { IfOk result (λ label. IfSome label (λ label. label ≡ Other → ⊥)) }
+        ensures first { IsNotSpecial self.now.graph.heap.now object
+            → IsNotKnown self.now.graph.heap.now self.now.graph.weak object
+            → IfOk result (λ label. IfSome label
+            (IsFirst self.now.graph.heap.now self.now.graph.weak object)) }
         ensures complete { IfOk result (λ label. label ≡ None
             → IsNoNamedClass self.now.graph.heap.now self.now.graph.weak object) }
     {
@@ -110,9 +112,14 @@ impl Names<'_> {
         ensures label { IfSome result
             (IsLabel self.now.graph.heap.now self.now.graph.weak object) }
         ensures inside { IfSome result (IsInside (object_count self.now.graph.heap.now)) }
-        ensures named { IfSome result (λ label. label ≡ Other → ⊥) }
-        ensures complete { result ≡ None
-            → IsNoneNamed self.now.graph.heap.now self.now.graph.weak object }
+        ensures first { IsNotSpecial self.now.graph.heap.now object
+            → IsNotKnown self.now.graph.heap.now self.now.graph.weak object
+            → IsNoNamedClass self.now.graph.heap.now self.now.graph.weak object
+            → IfSome result (IsFirst self.now.graph.heap.now self.now.graph.weak object) }
+        ensures no_method { result ≡ None
+            → IsNoMethod self.now.graph.heap.now self.now.graph.weak object }
+        ensures no_variable { result ≡ None
+            → IsNoVariable self.now.graph.heap.now self.now.graph.weak object }
     {
         if let Some(name) = self.method_name(object) {
             let (class, selector) = (name.class, name.selector);
@@ -133,8 +140,8 @@ impl Names<'_> {
             IsLabel self.now.graph.heap.now self.now.graph.weak object label) }
         ensures inside { IfOk result (λ label.
             IsInside (object_count self.now.graph.heap.now) label) }
-        ensures complete { IfOk result (λ label. label ≡ Other
-            → IsNoText self.now.graph.heap.now self.now.graph.weak object) }
+        ensures text { IfOk result
+            (IsTextLabel self.now.graph.heap.now self.now.graph.weak object) }
     {
         if !is_bytes(self.graph.heap, object) {
             return Ok(Label::Other);

@@ -4,7 +4,10 @@ ghost use Rattle.std.specs.Prelude.{◌≡◌, ◌<◌, ℕ, length, All, IfOk, 
 ghost use Rattle.std.specs.List.Sorted.{IsNonDecreasingBy};
 ghost use Rattle.std.proofs.Props.{props};
 ghost use Rattle.sqz_image.specs.Objects.{object_count};
+ghost use Rattle.std.specs.String.{string_bytes};
 ghost use Rattle.sqz_trace.specs.Graph.{is_marked};
+ghost use Rattle.sqz_histogram.specs.Names.{class_name};
+ghost use Rattle.sqz_names.specs.Texts.{shown_class_name};
 ghost use Rattle.sqz_names.specs.Structures.{AreClasses, IsClass};
 ghost use Rattle.sqz_names.specs.Names.{AreOfClasses, IsMethodName, IsVariableName, ListsMethods};
 ghost use Rattle.sqz_names.specs.Names.{ListsMethodsOf, ListsVariables};
@@ -117,6 +120,8 @@ impl<'a> Names<'a> {
     /// the compact index if the object has no class.
     pub fn name_of_class_of(&self, object: ObjectIndex) -> Result<String, AllocError>
         requires { object < object_count self.now.graph.heap.now }
+        ensures { IfOk result (λ name. string_bytes name
+            ≡ shown_class_name self.now.graph.heap.now self.now.graph.weak object) }
     {
         name_of_class_of(self.alloc, self.graph, object)
     }
@@ -124,6 +129,8 @@ impl<'a> Names<'a> {
     /// Returns the name of a class as a class histogram prints it.
     pub fn name_of_class(&self, class: ObjectIndex) -> Result<String, AllocError>
         requires { class < object_count self.now.graph.heap.now }
+        ensures { IfOk result (λ name. string_bytes name
+            ≡ class_name self.now.graph.heap.now self.now.graph.weak class) }
     {
         name_of_class(self.alloc, self.graph, class)
     }

@@ -46,6 +46,19 @@ is_marked-keeps (mark ∷ marks) zero (suc j) e = e
 is_marked-keeps (mark ∷ marks) (suc i) zero e = e
 is_marked-keeps (mark ∷ marks) (suc i) (suc j) e = is_marked-keeps marks i j e
 
+-- an object that gets a mark is marked
+pub is_marked-added : (marks : List Bool) (i : ℕ) → i < length marks → is_marked (set marks i true) i ≡ true
+is_marked-added marks i inside = get_or-set_same marks i true false inside
+
+-- what holds of each marked object holds after a mark more, if it holds of the object that got the mark
+pub is_marked-more : (P : ℕ → Type 0) (marks : List Bool) (i : ℕ) → ((j : ℕ) → is_marked marks j ≡ true → P j)
+    → P i → (j : ℕ) → is_marked (set marks i true) j ≡ true → P j
+is_marked-more P marks i each is j marked =
+    elim (is_marked-set marks i j marked) [
+      | inl same ↦ subst P (sym same) is
+      | inr before ↦ each j before
+    ]
+
 is_marked-in_range : (marks : List Bool) (i : ℕ) → is_marked marks i ≡ true → i < length marks
 is_marked-in_range [] i e = absurd cc
 is_marked-in_range (mark ∷ marks) zero e = omega arith

@@ -13,7 +13,7 @@ use Rattle.sqz_names.specs.declared.method_name.MethodName.{MethodName}
 use Rattle.sqz_names.specs.Structures.{HasText}
 use Rattle.sqz_names.specs.Names.{AreOfClasses, IsMethodName, IsMethodUnder}
 use Rattle.sqz_names.proofs.ClassLemmas.{is_marked-none}
-use Rattle.sqz_names.proofs.ClassSetLemmas.{is_marked-added, is_marked-more}
+use Rattle.sqz_trace.proofs.MarkingLemmas.{is_marked-added, is_marked-more}
 use Rattle.sqz_names.proofs.MethodLemmas.{below-more, IsMethodUnder-listed}
 use Rattle.sqz_names.proofs.names.Names.methods_under.Goals as goal
 use Rattle.sqz_names.proofs.names.Names.methods_under.Goals.{then-is_new+in_ok-spells+then-branch, else-is_new, then-contains, else-contains}
