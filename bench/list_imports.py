@@ -50,8 +50,8 @@ PROMISES = {
     "`senders`, `code --unsent`": ["sqz_selectors/Mentions", "sqz_names/Picks"],
     "`stacks`": ["sqz_stacks/Processes", "sqz_stacks/Stacks", "sqz_stacks/Frames"],
     "`find`": ["sqz_strings/Matches", "sqz_referrers/FirstReferrers"],
-    "labels": ["sqz_names/Labels", "sqz_names/Unlabelled"],
-    "words that are names": ["sqz_names/Names", "sqz_names/Picks"],
+    "labels": ["sqz_names/Labels", "sqz_names/LabelOrder", "sqz_names/Texts"],
+    "words": ["sqz_words/Words"],
 }
 
 

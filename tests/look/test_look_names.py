@@ -204,6 +204,8 @@ class ArgumentsTest(LookTest):
             ("why", ("Nowhere", "class"), "no object is named Nowhere class"),
             ("refs", ("Point>>-",), "no object is named Point>>-; near: Point>>+, Point>>x"),
             ("show", ("123456789",), "no object is named 123456789"),
+            ("show", ("+1000",), "no object is named +1000"),
+            ("show", ("special object 1x",), "no object is named special object 1x"),
             ("show", ("special object 999",), "there is no special object 999"),
             ("show", ("origin",), "no object is named origin; near: Point class variable Origin"),
             ("list", ("Nowhere",), "no class is named Nowhere"),

@@ -2,16 +2,14 @@
 //! instances, what an object is, what keeps it, what points to it, and which strings match.
 #![tactic(auto)]
 
-mod addresses;
 mod census;
 mod dump;
 mod elements;
-mod find;
 mod holders;
-mod labelled;
 mod list;
 mod matches;
 mod method_view;
+mod missing;
 mod near_names;
 mod path_rows;
 mod paths;
@@ -25,9 +23,9 @@ mod why;
 
 pub use census::{print_census, print_dead_census, print_retained_census};
 pub use dump::print_dump;
-pub use find::{Found, find_class, find_object};
 pub use list::{print_dead_list, print_list};
 pub use matches::print_matches;
+pub use missing::missing_message;
 pub use refs::print_refs;
 pub use show::print_show;
 pub use why::print_why;

@@ -8,15 +8,14 @@ ghost use Rattle.sqz_look_cli.specs.Endings.{IfCheck};
 ghost use Rattle.sqz_look_files.specs.Failures.{IsAnswerExit};
 ghost use Rattle.sqz_look_files.specs.Warnings.{IsSilent};
 
-use crate::code::{answer_about_code, selector_in, the_object};
+use crate::code::{answer_about_code, selector_in};
 use crate::comparison::compare;
 use crate::each::answer_each;
+use crate::meant::{the_class, the_object};
 use crate::objects::answer_about_objects;
 use sqz_cli::{BAD_IMAGE, DONE};
 use sqz_image::Sink;
-use sqz_look::{
-    Found, find_class, print_dead_list, print_dump, print_list, print_matches, print_why,
-};
+use sqz_look::{print_dead_list, print_dump, print_list, print_matches, print_why};
 use sqz_look_args::{Instances, NamedQuestion, Question, TopOptions};
 use sqz_look_check::CheckOptions;
 use sqz_look_code::{print_implementors, print_senders, print_stacks};
@@ -128,10 +127,7 @@ fn answer_about_class<C: Sink>(
     which: Instances,
     out: &mut Out<'_, C>,
 ) -> Result<(), Failure> {
-    let group = match find_class(inspector, words)? {
-        Found::One(group) => group,
-        Found::Nothing(message) => return Err(Failure::NotThere(message)),
-    };
+    let group = the_class(inspector, words)?;
     match which {
         Instances::Live(order) => print_list(inspector, group, order, out)?,
         Instances::Dead => print_dead_list(inspector, group, out)?,

@@ -1,17 +1,14 @@
 //! Questions about code, and about what all of an image holds.
 
-ghost use Rattle.std.specs.Prelude.{◌≡◌, ◌<◌, IfOk};
-ghost use Rattle.sqz_image.specs.Objects.{object_count};
-
+use crate::meant::the_object;
 use sqz_image::Sink;
-use sqz_look::{Found, find_object};
 use sqz_look_args::CodeQuestion;
 use sqz_look_code::{
     print_class_code, print_class_tree, print_method_code, print_unimplemented, print_unsent,
 };
 use sqz_look_files::Failure;
 use sqz_look_view::{Inspector, Out};
-use sqz_object::{Layout, ObjectIndex};
+use sqz_object::Layout;
 
 /// Prints the answer to a question about the code of an image.
 pub(crate) fn answer_about_code<C: Sink>(
@@ -45,16 +42,6 @@ fn print_code_of<C: Sink>(
     }
     let message = format!(in inspector.alloc; "{words} is neither a class nor a method")?;
     Err(Failure::NotThere(message))
-}
-
-/// Returns the object that words stand for.
-pub(crate) fn the_object(inspector: &Inspector<'_>, words: &str) -> Result<ObjectIndex, Failure>
-    ensures { IfOk result (λ object. object < object_count inspector.now.live.graph.heap.now) }
-{
-    match find_object(inspector, words)? {
-        Found::One(object) => Ok(object),
-        Found::Nothing(message) => Err(Failure::NotThere(message)),
-    }
 }
 
 /// Returns the selector that a word stands for: with or without `#` before it.

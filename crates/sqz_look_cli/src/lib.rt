@@ -8,6 +8,7 @@ mod comparison;
 mod each;
 mod entry_point;
 mod lines;
+mod meant;
 mod objects;
 mod quiet_pipe;
 mod words;

@@ -3,9 +3,10 @@
 ghost use Rattle.std.specs.Prelude.{◌≡◌, ◌≤◌, ◌<◌, IfOk};
 ghost use Rattle.sqz_image.specs.Objects.{object_count};
 
+use crate::meant::the_object;
 use sqz_cli::{BAD_IMAGE, DONE};
 use sqz_image::Sink;
-use sqz_look::{Found, find_object, print_refs, print_show, print_why};
+use sqz_look::{print_refs, print_show, print_why};
 use sqz_look_args::{ObjectQuestion, ObjectsAsked};
 use sqz_look_files::{Failure, print_message};
 use sqz_look_view::{Inspector, Out, PrintError};
@@ -27,18 +28,19 @@ pub(crate) fn answer_about_objects<C: Sink, E: Sink>(
     let mut exit = DONE;
     let mut is_first = true;
     for words in &asked.objects {
-        match find_object(inspector, words.as_str())? {
-            Found::One(object) => {
+        match the_object(inspector, words.as_str()) {
+            Ok(object) => {
                 if !is_first {
                     out.text(&"")?;
                 }
                 is_first = false;
                 print_about(inspector, object, asked.question, out)?;
             }
-            Found::Nothing(message) => {
+            Err(Failure::NotThere(message)) => {
                 print_message(Some(path), message.as_str(), err);
                 exit = BAD_IMAGE;
             }
+            Err(failure) => return Err(failure),
         }
         out.flush()?;
     }
