@@ -1,6 +1,6 @@
 #!/usr/bin/env python3
-"""Prints what a line of code costs to prove if nothing is said of it: the processor seconds per
-line of functions without clauses, each with a loop and a `?`, in a crate that uses only `std`."""
+"""Prints what it costs to prove a line of code without contracts: the processor seconds per line
+of functions, each with a loop and a `?`, in a crate that uses only `std`."""
 
 import os
 import pathlib
@@ -25,13 +25,13 @@ HEAD = """\
 
 use std::alloc::{AllocError, Global};
 """
-# The cost of the crate itself is that of the small one, so it does not count.
+# Two crates differ in their functions alone, so the fixed cost of a crate does not count.
 FEW, MANY = 2, 34
 LINES = len(FUNCTION.splitlines()) - 1
 
 
 def seconds_for(count):
-    """The processor seconds that a crate of so many functions takes to prove, in one process."""
+    """The processor seconds to prove a crate of `count` functions in one process."""
     with tempfile.TemporaryDirectory() as folder:
         root = pathlib.Path(folder)
         crate = root / "crates" / "plain"

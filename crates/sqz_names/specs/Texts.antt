@@ -13,6 +13,7 @@ use Rattle.sqz_names.specs.declared.label.Label.{Label}
 use Rattle.sqz_names.specs.declared.label.Label.TheVariants as label
 use Rattle.sqz_names.specs.Structures.{class_name_of}
 use Rattle.sqz_names.specs.Labels.{IsLabel}
+use Rattle.sqz_names.specs.LabelOrder.{IsFirst}
 
 -- ---- bytes
 
@@ -88,10 +89,11 @@ label_text memory weak object label.String = quoted_text_of memory object
 label_text memory weak object label.Symbol = codes "#" ++ text_of memory object
 label_text memory weak object label.Other = shown_class_name memory weak object ++ (codes " " ++ hex 8 (address_of memory object))
 
--- an object has a label, and this is its text
+-- the label of an object, the first that the structures of the image state, has this text
 pub record IsLabelled (memory : Memory) (weak : Weak) (object : ℕ) (text : List ℕ) : Type 0 where
   pub label : Label
   pub is_label : IsLabel memory weak object label
+  pub is_first : IsFirst memory weak object label
   pub is : text ≡ label_text memory weak object label
 
 abbrev pub HasLabel : Memory → Weak → ℕ → List ℕ → Type 0
