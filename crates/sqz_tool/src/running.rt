@@ -23,14 +23,15 @@ use std::thread::Threads;
 /// objects array, and writes the image with only these, without gaps and in order. If the plan
 /// asks for a census, its text then goes to the sink `report`; otherwise `report` takes nothing.
 ///
-/// Fails with `OutOfMemory`, or with `ReadFailed` if the source fails or does not end. Otherwise
-/// fails exactly with the first fault that applies to the file: those of its header, then that of
-/// its first chunk that cannot be read, then `BadSpecialObjects`, then `NoNil` if the plan clears
-/// weak slots, then the defect of its lowest reachable object that has one. After these failures
-/// the sinks are unchanged.
+/// Fails with `OutOfMemory`, or with `ReadFailed` if the source fails or 2^32 reads were made.
+/// Otherwise fails exactly with the first fault that applies to the file: those of its header, then
+/// that of its first chunk that cannot be read, then `BadSpecialObjects`, then `NoNil` if the plan
+/// clears weak slots, then the defect of its lowest reachable object that has one. After these
+/// failures the sinks are unchanged.
 ///
-/// Fails with `WriteFailed` if a sink fails or needs too many writes. The image's sink has then
-/// taken a prefix of the image; if that is all of it, `report` has taken a prefix of the census.
+/// Fails with `WriteFailed` if a sink fails or 2^32 writes to it were made. The image's sink has
+/// then taken a prefix of the image; if that is all of it, `report` has taken a prefix of the
+/// census.
 pub fn run<T: Threads + Sync, R: Source, W: Sink, C: Sink, G: Gate>(
     rt: &T,
     alloc: Global,
