@@ -5,8 +5,8 @@ Prints a table in Markdown, with the sums of each group of `crates.txt`.
 Usage: bench/count_lines.py
 
 A line counts unless it is blank or a comment alone. Code is `src/*.rt`, contracts among it;
-definitions are `specs/*.antt`, and proofs `proofs/**/*.antt`. A mutant is an edit in `must-fail/`,
-and a test a function after `#[test]`."""
+definitions are `specs/*.antt`, and proofs `proofs/**/*.antt`. A mutant is an edit in `must-fail/`
+or in `mutants/CRATE/`, and a test a function after `#[test]`."""
 
 import pathlib
 
@@ -28,7 +28,7 @@ def counts_of(crate):
         lines_of(sources, "//"),
         lines_of(crate.glob("specs/*.antt"), "--"),
         lines_of(crate.glob("proofs/**/*.antt"), "--"),
-        len(list(crate.glob("must-fail/*.edit"))),
+        len([*crate.glob("must-fail/*.edit"), *ROOT.glob(f"mutants/{crate.name}/*.edit")]),
         sum(path.read_text(encoding="utf-8").count("#[test]") for path in sources),
     )
 

@@ -3,14 +3,14 @@
 
 Usage: bench/list_mutants.py [CRATE ...]
 
-A mutant is an edit in crates/CRATE/must-fail/. Its name without the number before it is its
-sentence."""
+A mutant is an edit in crates/CRATE/must-fail/, which each full check tries, or in mutants/CRATE/,
+which `bench/kill_mutants` tries by hand. Its name without the number before it is its sentence."""
 
 import pathlib
 import re
 import sys
 
-CRATES = pathlib.Path(__file__).resolve().parent.parent / "crates"
+ROOT = pathlib.Path(__file__).resolve().parent.parent
 
 
 def sentence_of(edit):
@@ -25,20 +25,30 @@ def file_of(edit):
     return next(line.removeprefix("file:").strip() for line in lines if line.startswith("file:"))
 
 
+def is_by_hand(edit):
+    """Returns whether the full check leaves an edit out."""
+    return edit.is_relative_to(ROOT / "mutants")
+
+
+def count(edits):
+    """Returns how many edits these are, and how many of them the full check leaves out."""
+    return f"{len(edits)}, {sum(map(is_by_hand, edits))} by hand"
+
+
 def main():
     listed = {}
-    for edit in sorted(CRATES.glob("*/must-fail/*.edit")):
-        listed.setdefault(edit.parent.parent.name, []).append(edit)
+    for edit in sorted([*ROOT.glob("crates/*/must-fail/*.edit"), *ROOT.glob("mutants/*/*.edit")]):
+        listed.setdefault(edit.relative_to(ROOT).parts[1], []).append(edit)
     unknown = [name for name in sys.argv[1:] if name not in listed]
     if unknown:
         sys.exit(f"list_mutants.py: no mutants of {', '.join(unknown)}")
-    chosen = sys.argv[1:] or list(listed)
+    chosen = sys.argv[1:] or sorted(listed)
     for name in chosen:
-        print(f"{name} ({len(listed[name])})")
+        print(f"{name} ({count(listed[name])})")
         for edit in listed[name]:
-            print(f"  {sentence_of(edit)} ({file_of(edit)})")
+            print(f"  {sentence_of(edit)} ({file_of(edit)}{', by hand' * is_by_hand(edit)})")
         print()
-    print(f"all ({sum(len(listed[name]) for name in chosen)})")
+    print(f"all ({count([edit for name in chosen for edit in listed[name]])})")
 
 
 if __name__ == "__main__":

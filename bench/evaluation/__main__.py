@@ -41,7 +41,8 @@ TABLES = {
     "tests": Table(
         "Tests",
         "What each module of `tests/` counts as passed and as skipped. `./check` runs them after "
-        "`rt ci`, which proves all crates, tries all mutants and runs the tests in Rattle.",
+        "`rt ci`, which proves all crates, tries the mutants in `crates/` and runs the tests in "
+        "Rattle.",
         print_tests,
     ),
     "stages": Table(
