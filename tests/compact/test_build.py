@@ -1,6 +1,8 @@
 """Runs `build` in a small checkout, with a stand-in for `rt` that notes what it is to build and
 proves nothing."""
 
+import importlib.machinery
+import importlib.util
 import os
 import pathlib
 import shutil
@@ -11,7 +13,7 @@ import unittest
 from tests.harness.outcomes import SUCCESS
 from tests.harness.programs import ROOT, run
 
-CRATES = {"sqz_low": "byteorder", "sqz_high": "sqz_low", "sqzcompact": "sqz_low sqz_high"}
+SIDES = ["sqz_left", "sqz_middle", "sqz_right"]
 RT = """
 import pathlib, sys
 folder = pathlib.Path.cwd()
@@ -31,8 +33,10 @@ made.write_text("", encoding="utf-8")
 """
 
 
-class BuildTest(unittest.TestCase):
-    """Each crate is built after those below it."""
+class CheckoutTest(unittest.TestCase):
+    """Has a checkout of these crates."""
+
+    crates = {"sqz_low": "byteorder", "sqz_high": "sqz_low", "sqzcompact": "sqz_low sqz_high"}
 
     def setUp(self):
         temporary = tempfile.TemporaryDirectory()
@@ -43,10 +47,10 @@ class BuildTest(unittest.TestCase):
         program = self.tools / "rt"
         program.write_text(f"#!{sys.executable}\n{RT}", encoding="utf-8")
         program.chmod(0o755)
-        for crate in CRATES:
+        for crate in self.crates:
             (self.top / "crates" / crate / "src").mkdir(parents=True)
             self.edit(crate, "right")
-        lines = [f"{crate}: {below}\n" for crate, below in CRATES.items()]
+        lines = [f"{crate}: {below}\n" for crate, below in self.crates.items()]
         (self.top / "crates.txt").write_text("".join(lines), encoding="utf-8")
         for name in ("build", "HANDLES"):
             shutil.copy2(ROOT / name, self.top)
@@ -69,12 +73,29 @@ class BuildTest(unittest.TestCase):
         self.assertEqual(built, expected)
         return outcome
 
+
+class BuildTest(CheckoutTest):
+    """Each crate is built after those below it."""
+
     def test_builds_each_crate_after_those_below_it(self):
         outcome = self.assert_builds(
             [("sqz_low", "lib"), ("sqz_high", "lib"), ("sqzcompact", "run")]
         )
         self.assertTrue(outcome.stderr.startswith(b"first build: proves 3 crates, about 1 minute"))
         self.assertTrue((self.top / "crates/sqzcompact/out/sqzcompact").exists())
+
+    def test_says_how_far_it_is(self):
+        self.edit("sqz_high", "right\n" * 1000)
+        outcome, _ = self.build()
+        _, *lines = outcome.stderr.decode().splitlines()
+        self.assertEqual(
+            lines,
+            [
+                "[1/3] sqz_low (0 min, about 5 left)",
+                "[2/3] sqz_high (0 min, about 5 left)",
+                "[3/3] sqzcompact (0 min, about 1 left)",
+            ],
+        )
 
     def test_builds_again_after_an_edit_only(self):
         self.build()
@@ -92,3 +113,59 @@ class BuildTest(unittest.TestCase):
         self.assertTrue(outcome.stderr.endswith(b"not proved\nbuild: sqz_high failed\n"))
         self.assertEqual(built, [("sqz_low", "lib"), ("sqz_high", "lib")])
         self.assertFalse((self.top / "crates/sqzcompact/out/sqzcompact").exists())
+
+
+class PlanTest(CheckoutTest):
+    """Three crates use one, and a program uses these."""
+
+    crates = {
+        "sqz_low": "byteorder",
+        **dict.fromkeys(SIDES, "sqz_low"),
+        "sqzcompact": f"sqz_low {' '.join(SIDES)}",
+    }
+
+    def plan(self, at_once):
+        """The plan of the script to build that many crates at once."""
+        loader = importlib.machinery.SourceFileLoader("build", str(self.top / "build"))
+        script = importlib.util.module_from_spec(importlib.util.spec_from_loader("build", loader))
+        loader.exec_module(script)
+        return script.Plan(script.crates_below(["sqzcompact"]), at_once)
+
+    def test_gives_one_job_to_each_of_three(self):
+        processors = len(os.sched_getaffinity(0))
+        plan = self.plan(4)
+        self.assertEqual(plan.jobs_for_each(), processors)
+        plan.start("sqz_low")
+        plan.built.add("sqz_low")
+        for number, crate in enumerate(SIDES):
+            with self.subTest(started=number):
+                self.assertEqual(plan.jobs_for_each(), 1)
+                plan.start(crate)
+        plan.built.add("sqz_left")
+        self.assertEqual(plan.jobs_for_each(), max(1, processors // 2))
+        plan.built.add("sqz_middle")
+        self.assertEqual(plan.jobs_for_each(), processors)
+
+    def test_estimates_the_longest_chain_or_all(self):
+        for crate in self.crates:
+            self.edit(crate, "right\n\n// right\n" * 1000)
+        # A line takes 0.29 s, and the program 0.036 s for each line of the four crates below it.
+        program = 290 + 4 * 36
+        for at_once, seconds in ((1, 4 * 290 + program), (2, 2 * 290 + program)):
+            with self.subTest(at_once=at_once):
+                self.assertAlmostEqual(self.plan(at_once).seconds_left(), seconds, 0)
+
+    def test_estimates_what_is_left(self):
+        self.build()
+        self.assertEqual(self.plan(1).seconds_left(), 0)
+        self.edit("sqz_left", "right again\n" * 1000)
+        plan = self.plan(1)
+        plan.built.update(["sqz_low", "sqz_middle", "sqz_right"])
+        self.assertEqual(
+            sorted(name for name, seconds in plan.seconds.items() if seconds),
+            ["sqz_left", "sqzcompact"],
+        )
+        plan.start("sqz_left")
+        plan.started["sqz_left"] -= 100
+        # The program reads 1000 lines of this crate, and a line of each other one.
+        self.assertAlmostEqual(plan.seconds_left(), 290 - 100 + 0.29 + 1003 * 0.036, 0)
