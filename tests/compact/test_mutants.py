@@ -146,7 +146,16 @@ for path in sorted((folder / "must-fail").iterdir()):
             "sqz_low: 2 refused, 0 not refused",
             "3 refused, 0 not refused",
         )
-        self.assertTrue(outcome.stderr.startswith(b"3 mutants of 2 crates, 25 to 40 s"))
+        self.assertTrue(outcome.stderr.startswith(b"3 mutants, 25 to 40 s of "))
+
+    def test_prints_why_each_is_refused(self):
+        self.assert_ends(
+            ["--why", "sqz_high"],
+            0,
+            "sqz_high/bad_one.edit: refused, as it must be: no",
+            "sqz_high: 1 refused, 0 not refused",
+            "1 refused, 0 not refused",
+        )
 
     def test_prints_those_that_are_not_refused(self):
         self.write("mutants/sqz_low/good.edit")
