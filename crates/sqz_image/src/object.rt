@@ -28,8 +28,9 @@ impl<'a> Model for Object<'a> {
 }
 
 impl<'a> Object<'a> {
-    /// Returns an object with this header and these words, header words included.
-    pub(crate) fn new(header: Chunk, words: Words<'a>) -> Self
+    /// Returns the object with these words, header words included. `header` is what its header words
+    /// state.
+    pub fn new(header: Chunk, words: Words<'a>) -> Self
         requires described { header ≡ description words }
         requires headed { header.before < header.length }
         requires few { header.length < 2 ^ 30 }
