@@ -58,12 +58,12 @@ class CheckoutTest(unittest.TestCase):
     def edit(self, crate, text):
         (self.top / "crates" / crate / "src" / "lib.rt").write_text(text, encoding="utf-8")
 
-    def build(self):
+    def build(self, *words):
         """Runs the script. Returns how it ended, and each crate that was to be built, and how."""
         notes = self.tools / "notes"
         notes.unlink(missing_ok=True)
         path = f"{self.tools}{os.pathsep}{os.environ['PATH']}"
-        outcome = run(self.top / "build", ["sqzcompact"], env={"PATH": path})
+        outcome = run(self.top / "build", words or ["sqzcompact"], env={"PATH": path})
         lines = notes.read_text(encoding="utf-8").splitlines() if notes.exists() else []
         return outcome, [tuple(line.split()) for line in lines]
 
@@ -113,6 +113,13 @@ class BuildTest(CheckoutTest):
         self.assertTrue(outcome.stderr.endswith(b"not proved\nbuild: sqz_high failed\n"))
         self.assertEqual(built, [("sqz_low", "lib"), ("sqz_high", "lib")])
         self.assertFalse((self.top / "crates/sqzcompact/out/sqzcompact").exists())
+
+    def test_names_the_programs_if_a_word_names_none(self):
+        outcome, built = self.build("nonsense")
+        self.assertEqual((outcome.status, outcome.stdout, built), (2, b"", []))
+        line = outcome.stderr.splitlines()[-1]
+        self.assertIn(b"no program nonsense: choose from sqzcompact, sqzlook, ", line)
+        self.assertNotIn(b"[]", line)
 
 
 class PlanTest(CheckoutTest):
