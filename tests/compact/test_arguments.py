@@ -102,18 +102,24 @@ class LaunchersTest(DeadArrayTest):
     def test_build_needs_the_toolchain(self):
         for name in ("build", "crates.txt", "sqzcompact"):
             shutil.copy2(ROOT / name, self.folder)
-        path = self.folder / "bin"
-        path.mkdir()
-        (path / "python3").symlink_to(sys.executable)
-        for name in ("bash", "basename", "dirname", "readlink"):
-            (path / name).symlink_to(shutil.which(name))
-        words = ["in", "out"]
-        outcome = run(
-            self.folder / "sqzcompact", words, env={"PATH": str(path)}, folder=self.folder
-        )
-        line = b"build: rt not found; see Install in README.md\n"
-        self.assert_ends(outcome, Outcome(70, stderr=line))
+        self.assert_needs_the_toolchain("sqzcompact", ["in", "out"], b"build")
+
+    def test_check_needs_the_toolchain(self):
+        shutil.copy2(ROOT / "check", self.folder)
+        self.assert_needs_the_toolchain("check", [], b"check")
 
     def test_sqzlook_tells_its_version(self):
         outcome = run(ROOT / "sqzlook", ["--version"], folder=self.folder)
         self.assertRegex(self.printed_by(outcome), rb"\Asqzlook \d+\.\d+\.\d+\n\Z")
+
+    def assert_needs_the_toolchain(self, script, words, name):
+        """Checks that a copy of a script prints one line, with this name, if there is no `rt`."""
+        path = self.folder / "bin"
+        path.mkdir()
+        (path / "python3").symlink_to(sys.executable)
+        for tool in ("bash", "basename", "dirname", "readlink"):
+            (path / tool).symlink_to(shutil.which(tool))
+        how = {"env": {"PATH": str(path)}, "folder": self.folder}
+        outcome = run(self.folder / script, words, **how)
+        line = name + b": rt not found; see Install in README.md\n"
+        self.assert_ends(outcome, Outcome(70, stderr=line))
