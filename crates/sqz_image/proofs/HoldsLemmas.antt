@@ -1,11 +1,14 @@
--- A file holds one image at most.
--- Serves `Uniqueness` of `sqz_tool`.
-use Rattle.std.proofs.Common.{◌≡◌, ℕ, List, sym, ap, ◌∙◌}
-use Rattle.std.proofs.lemmas.Option.{same_Some}
+-- A file holds one image at most, and if it holds one, it is not rejected as unreadable.
+-- Serves `Uniqueness` of `sqz_tool`, and `sqz_mend`.
+use Rattle.std.proofs.Common.{◌≡◌, ℕ, List, Some, None, is_some, sym, ap, subst, ◌∙◌, inl, inr}
+use Rattle.std.proofs.lemmas.Bool.{false≢true}
+use Rattle.std.proofs.lemmas.Option.{none-some, same_Some}
 use Rattle.sqz_object.specs.declared.order.Order.{Order}
+use Rattle.sqz_object.proofs.PartitionLemmas.{IsStuck-no_partition}
+use Rattle.sqz_image.specs.declared.fault.Fault.{Fault}
 use Rattle.sqz_image.specs.File.{image_bytes, header_of, base_address, special_address, data_of}
-use Rattle.sqz_image.specs.Objects.{SavedImage}
-use Rattle.sqz_image.specs.Refusals.{HasChunks, Holds}
+use Rattle.sqz_image.specs.Objects.{SavedImage, find}
+use Rattle.sqz_image.specs.Refusals.{file_fault, HasChunks, Holds, HasNoPartition, HasUnreadableChunk, LacksSpecialObjects, IsUnreadable}
 use Rattle.sqz_image.proofs.CutLemmas.{cut-partition}
 use Rattle.sqz_image.specs.Memory.{cut}
 
@@ -31,3 +34,32 @@ HasChunks-unique file one other p q =
 
 pub Holds-unique : (file : List ℕ) (one other : SavedImage) → Holds file one → Holds file other → one ≡ other
 Holds-unique file one other p q = HasChunks-unique file one other p.parts q.parts
+
+module _ (file : List ℕ) where
+  -- ---- a file that holds an image is not rejected as unreadable
+
+  -- its header is sound
+  no_header_fault : (fault : Fault) → file_fault file ≡ None → file_fault file ≡ Some fault → ⊥
+  no_header_fault fault sound refused = none-some fault (sym sound ∙ refused)
+
+  -- each chunk can be read
+  readable : (image : SavedImage) (fault : Fault) → HasChunks file image → HasUnreadableChunk file fault → ⊥
+  readable image fault chunks unreadable =
+      let same : unreadable.order ≡ image.memory.order = same_Some _ _ (sym unreadable.in_order ∙ chunks.order) in
+      let bytes = image_bytes file in
+      let missing = subst (λ (o : Order). HasNoPartition (data_of o bytes) fault) same unreadable.unreadable in
+      IsStuck-no_partition (data_of image.memory.order bytes) missing.word missing.reason image.memory.chunks chunks.chunks missing.stuck
+
+  -- its special objects array is there
+  has_special : (image : SavedImage) (fault : Fault) → Holds file image → LacksSpecialObjects file fault → ⊥
+  has_special image fault holds lacks =
+      let same : lacks.image ≡ image = HasChunks-unique file lacks.image image lacks.parts holds.parts in
+      let missing : find image.memory image.memory.special ≡ None =
+      ap (λ (i : SavedImage). find i.memory i.memory.special) (sym same) ∙ lacks.missing in
+      false≢true (sym (ap is_some missing) ∙ holds.special)
+
+  -- an image that it holds is not rejected before its objects are examined
+  pub Holds-readable : (image : SavedImage) (fault : Fault) → Holds file image → IsUnreadable file fault → ⊥
+  Holds-readable image fault holds (inl refused) = no_header_fault fault holds.parts.sound refused
+  Holds-readable image fault holds (inr (inl unreadable)) = readable image fault holds.parts unreadable
+  Holds-readable image fault holds (inr (inr lacks)) = has_special image fault holds lacks

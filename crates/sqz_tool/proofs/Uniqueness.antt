@@ -11,7 +11,7 @@ use Rattle.sqz_image.specs.Objects.{SavedImage, find}
 use Rattle.sqz_image.specs.File.{image_bytes, data_of}
 use Rattle.sqz_image.specs.Refusals.{file_fault, refusal_of, HasChunks, Holds, HasNoPartition, HasUnreadableChunk}
 use Rattle.sqz_image.specs.Refusals.{LacksSpecialObjects, IsUnreadable}
-use Rattle.sqz_image.proofs.HoldsLemmas.{HasChunks-unique, Holds-unique}
+use Rattle.sqz_image.proofs.HoldsLemmas.{HasChunks-unique, Holds-unique, Holds-readable}
 use Rattle.sqz_trace.specs.declared.weak.Weak.{Weak}
 use Rattle.sqz_trace.specs.Reachability.{IsReachability}
 use Rattle.sqz_trace.specs.Defects.{first_defect, lacks_nil}
@@ -41,20 +41,6 @@ module _ (file : List ℕ) where
       let bytes = image_bytes file in
       let missing = subst (λ (o : Order). HasNoPartition (data_of o bytes) fault) same unreadable.unreadable in
       IsStuck-no_partition (data_of image.memory.order bytes) missing.word missing.reason image.memory.chunks chunks.chunks missing.stuck
-
-  -- its special objects array is there
-  has_special : (image : SavedImage) (fault : Fault) → Holds file image → LacksSpecialObjects file fault → ⊥
-  has_special image fault holds lacks =
-      let same : lacks.image ≡ image = HasChunks-unique file lacks.image image lacks.parts holds.parts in
-      let missing : find image.memory image.memory.special ≡ None =
-      ap (λ (i : SavedImage). find i.memory i.memory.special) (sym same) ∙ lacks.missing in
-      false≢true (sym (ap is_some missing) ∙ holds.special)
-
-  -- an image that it holds is not refused before its objects are looked at
-  Holds-readable : (image : SavedImage) (fault : Fault) → Holds file image → IsUnreadable file fault → ⊥
-  Holds-readable image fault holds (inl refused) = no_header_fault fault holds.parts.sound refused
-  Holds-readable image fault holds (inr (inl unreadable)) = readable image fault holds.parts unreadable
-  Holds-readable image fault holds (inr (inr lacks)) = has_special image fault holds lacks
 
   -- ---- one refusal of each kind
 
@@ -108,12 +94,12 @@ module _ (file : List ℕ) where
     -- a file has one refusal at most
     pub IsRefused-unique : (one other : Fault) → IsRefused weak file one → IsRefused weak file other → one ≡ other
     IsRefused-unique one other (inl p) (inl q) = IsUnreadable-unique one other p q
-    IsRefused-unique one other (inl p) (inr (inl q)) = absurd (Holds-readable q.image one q.holds p)
-    IsRefused-unique one other (inl p) (inr (inr q)) = absurd (Holds-readable q.image one q.holds p)
-    IsRefused-unique one other (inr (inl p)) (inl q) = absurd (Holds-readable p.image other p.holds q)
+    IsRefused-unique one other (inl p) (inr (inl q)) = absurd (Holds-readable file q.image one q.holds p)
+    IsRefused-unique one other (inl p) (inr (inr q)) = absurd (Holds-readable file q.image one q.holds p)
+    IsRefused-unique one other (inr (inl p)) (inl q) = absurd (Holds-readable file p.image other p.holds q)
     IsRefused-unique one other (inr (inl p)) (inr (inl q)) = p.refused ∙ sym q.refused
     IsRefused-unique one other (inr (inl p)) (inr (inr q)) = absurd (no_nil_fault p.image q.image p.holds q.holds p.lacks q.has_nil)
-    IsRefused-unique one other (inr (inr p)) (inl q) = absurd (Holds-readable p.image other p.holds q)
+    IsRefused-unique one other (inr (inr p)) (inl q) = absurd (Holds-readable file p.image other p.holds q)
     IsRefused-unique one other (inr (inr p)) (inr (inl q)) = absurd (no_nil_fault q.image p.image q.holds p.holds q.lacks p.has_nil)
     IsRefused-unique one other (inr (inr p)) (inr (inr q)) =
         same_Some one other
@@ -122,7 +108,7 @@ module _ (file : List ℕ) where
     -- and none where it is accepted
     pub IsRefused-not_accepted : (fault : Fault) (image : SavedImage) (marks : List Bool) → IsRefused weak file fault
         → IsAccepted weak file image marks → ⊥
-    IsRefused-not_accepted fault image marks (inl p) accepted = Holds-readable image fault accepted.holds p
+    IsRefused-not_accepted fault image marks (inl p) accepted = Holds-readable file image fault accepted.holds p
     IsRefused-not_accepted fault image marks (inr (inl p)) accepted =
         no_nil_fault p.image image p.holds accepted.holds p.lacks accepted.has_nil
     IsRefused-not_accepted fault image marks (inr (inr p)) accepted =
