@@ -131,15 +131,15 @@ chunks_of_parts (Skipped (word ∷ run) ∷ parts) each =
 module _ (base : ℕ) (words : List ℕ) (gaps : List Gap) (best : AreBestGaps base words gaps) where
   pub AreGapsIn-best : AreGapsIn 0 (length words) gaps
   AreGapsIn-best =
-      rw best.gaps_are at (AreGapsIn-among 0 (length words) best.parts best.reading.each
-      (let long = ap length best.reading.whole in omega arith))
+      rw best.gaps_are at (AreGapsIn-among 0 (length words) best.third best.third_best.reading.each
+      (let long = ap length best.third_best.reading.whole in omega arith))
 
-  pub IsPartition-filled : IsPartition (filled words gaps) (map filled_part best.parts)
+  pub IsPartition-filled : IsPartition (filled words gaps) (map filled_part best.third)
   IsPartition-filled =
       record {
-        each = chunks_of_parts best.parts best.reading.each;
+        each = chunks_of_parts best.third best.third_best.reading.each;
         whole =
-            sym (filled-among [] best.parts best.reading.each)
-            ∙ ap (λ (ws : List ℕ). filled ws (gaps_among 0 best.parts)) best.reading.whole
+            sym (filled-among [] best.third best.third_best.reading.each)
+            ∙ ap (λ (ws : List ℕ). filled ws (gaps_among 0 best.third)) best.third_best.reading.whole
             ∙ ap (filled words) best.gaps_are;
       }

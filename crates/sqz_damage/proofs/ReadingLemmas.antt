@@ -1,19 +1,20 @@
 -- Readings part by part.
 -- Serves `StepLemmas`, `WayLemmas`, `WalkLemmas` and `steps`.
-use Rattle.std.proofs.Common.{◌≡◌, ℕ, suc, ◌*◌, ◌^◌, ◌+◌, ◌-◌, ◌<◌, ◌≤◌, List, [], ◌∷◌, ◌++◌, map, length, take, drop}
-use Rattle.std.proofs.Common.{refl, sym, ap, ◌∙◌, arith}
+use Rattle.std.proofs.Common.{Bool, ◌≡◌, ℕ, zero, suc, ◌*◌, ◌^◌, ◌+◌, ◌-◌, ◌<◌, ◌≤◌, List, [], ◌∷◌, ◌++◌, map, length, take, drop}
+use Rattle.std.proofs.Common.{refl, sym, ap, subst, ◌∙◌, arith}
 use Rattle.std.specs.List.{concat}
-use Rattle.std.proofs.lemmas.List.{take_at, drop_at, drop-drop, length-append, length-drop, map_push}
+use Rattle.std.proofs.lemmas.List.{take_at, drop_at, drop-drop, length-append, length-drop, length-take-le, map_push}
 use Rattle.std.proofs.Math.Seq.{take-add}
-use Rattle.sqz_object.specs.Chunk.{IsChunkOf, words_before}
+use Rattle.sqz_object.specs.Chunk.{IsChunk, IsChunkOf, chunk_kind, base_word, words_before}
+use Rattle.sqz_object.specs.Reading.{BeginsWith, description}
 use Rattle.sqz_object.specs.declared.chunk.Kind.{Kind}
 use Rattle.sqz_object.specs.declared.chunk.Kind.TheVariants.{Three, Two, Free, Short}
-use Rattle.sqz_object.proofs.ChunkLemmas.{chunk_has_header}
+use Rattle.sqz_object.proofs.ChunkLemmas.{chunk_has_header, chunk_kind_is}
 use Rattle.sqz_object.proofs.PartitionLemmas.{All-push, concat-push}
 use Rattle.sqz_damage.specs.declared.gap.Gap.{Gap}
-use Rattle.sqz_damage.specs.Votes.{sum_from}
+use Rattle.sqz_damage.specs.Votes.{sum_from, votes_for, votes_of, AreVotes}
 use Rattle.sqz_damage.specs.Readings.{Part, Chunk, Skipped, part_words, IsPart, IsReading, gaps_among, kept_votes}
-use Rattle.sqz_damage.specs.Readings.{skip_cost, part_cost, cost_from}
+use Rattle.sqz_damage.specs.Readings.{skip_cost, part_cost, cost_from, IsBestReading, voters_of, slot_words}
 use Rattle.sqz_damage.proofs.VoteLemmas.{le-sum_from, sum_from-more}
 
 -- ---- the votes that a chunk keeps
@@ -125,3 +126,106 @@ IsReading-push words p count parts part reading is_part run =
           ∙ ap (λ (ws : List ℕ). take p words ++ ws) run
           ∙ sym (take-add p count words);
     }
+
+-- ---- votes that agree on the words
+
+-- two ways to count votes agree on `count` words
+abbrev pub Agree : ℕ → (ℕ → ℕ) → (ℕ → ℕ) → Type 0
+Agree count f g = (k : ℕ) → k < count → f k ≡ g k
+
+sum_from-agree : (total : ℕ) (f g : ℕ → ℕ) → Agree total f g → (first count : ℕ) → first + count ≤ total
+    → sum_from f first count ≡ sum_from g first count
+sum_from-agree total f g same first zero le = refl
+sum_from-agree total f g same first (suc count) le =
+    omega (arith, same first (omega arith), sum_from-agree total f g same (suc first) count (omega arith))
+
+kept_votes-agree : (total : ℕ) (f g : ℕ → ℕ) → Agree total f g → (first : ℕ) (kind : Kind) (chunk : List ℕ)
+    → IsChunkOf kind chunk → first + length chunk ≤ total → kept_votes f first chunk ≡ kept_votes g first chunk
+kept_votes-agree total f g same first Free chunk h le =
+    kept_votes-free f first chunk h ∙ sym (kept_votes-free g first chunk h)
+kept_votes-agree total f g same first Three chunk h le =
+    kept_votes-object f first Three chunk (λ e. cc) h
+    ∙ same (first + 2) (omega (arith, chunk_has_header Three chunk h))
+    ∙ sym (kept_votes-object g first Three chunk (λ e. cc) h)
+kept_votes-agree total f g same first Two chunk h le =
+    kept_votes-object f first Two chunk (λ e. cc) h
+    ∙ same (first + 1) (omega (arith, chunk_has_header Two chunk h))
+    ∙ sym (kept_votes-object g first Two chunk (λ e. cc) h)
+kept_votes-agree total f g same first Short chunk h le =
+    kept_votes-object f first Short chunk (λ e. cc) h
+    ∙ same (first + 0) (omega (arith, chunk_has_header Short chunk h))
+    ∙ sym (kept_votes-object g first Short chunk (λ e. cc) h)
+
+part_cost-agree : (total : ℕ) (f g : ℕ → ℕ) → Agree total f g → (first : ℕ) (part : Part) → IsPart part
+    → first + length (part_words part) ≤ total → part_cost f first part ≡ part_cost g first part
+part_cost-agree total f g same first (Chunk words) is le =
+    omega (
+      arith,
+      sum_from-agree total f g same first (length words) le,
+      kept_votes-agree total f g same first is.0 words is.1 le,
+    )
+part_cost-agree total f g same first (Skipped words) is le =
+    omega (arith, sum_from-agree total f g same first (length words) le)
+
+cost_from-agree : (words : List ℕ) (f g : ℕ → ℕ) → Agree (length words) f g → (p : ℕ) (parts : List Part)
+    → p ≤ length words → IsReading (drop p words) parts → cost_from f p parts ≡ cost_from g p parts
+cost_from-agree words f g same p [] le reading = refl
+cost_from-agree words f g same p (part ∷ parts) le reading =
+    let inside = front-le words p part parts reading le in
+    omega (
+      arith,
+      part_cost-agree (length words) f g same p part reading.each.0 inside,
+      cost_from-agree words f g same (p + length (part_words part)) parts inside
+          (IsReading-rest words p part parts reading),
+    )
+
+-- so they have the same best readings
+pub IsBestReading-agree : (words : List ℕ) (f g : ℕ → ℕ) (parts : List Part) → Agree (length words) f g
+    → IsBestReading f words parts → IsBestReading g words parts
+IsBestReading-agree words f g parts same best =
+    record {
+      reading = best.reading;
+      least = λ other reading.
+          omega (
+            arith,
+            best.least other reading,
+            cost_from-agree words f g same 0 parts (omega arith) best.reading,
+            cost_from-agree words f g same 0 other (omega arith) reading,
+          );
+    }
+
+-- ---- the voters of a chunk
+
+pub voters_of-free : (chunk : List ℕ) → IsChunkOf Free chunk → voters_of (Chunk chunk) ≡ []
+voters_of-free (free ∷ rest) h = rw h.0 refl
+voters_of-free [] h = absurd h
+
+pub voters_of-object : (kind : Kind) (chunk : List ℕ) → (kind ≡ Free → ⊥) → IsChunkOf kind chunk
+    → voters_of (Chunk chunk) ≡ slot_words chunk
+voters_of-object Three (size ∷ class ∷ base ∷ fields) used h = rw h.0 refl
+voters_of-object Two (class ∷ base ∷ fields) used h = rw h.0 refl
+voters_of-object Short (base ∷ fields) used h = rw h.0 refl
+voters_of-object Free chunk used h = absurd (used refl)
+voters_of-object _ _ used h = absurd h
+
+-- words that begin with a chunk of `count` words begin with what its header states
+pub BeginsWith-chunk : (words : List ℕ) (count : ℕ) → count ≤ length words → IsChunk (take count words)
+    → BeginsWith words (description (take count words))
+BeginsWith-chunk words count le is_chunk =
+    let chunk = take count words in
+    let (kind, is) = is_chunk in
+    let size : length chunk ≡ count = length-take-le count words le in
+    let same : take (length chunk) words ≡ chunk = ap (λ (n : ℕ). take n words) size in
+    record {
+      inside = omega (arith, size);
+      is_chunk =
+          subst (IsChunkOf (chunk_kind chunk)) (sym same)
+          (subst (λ (k : Kind). IsChunkOf k chunk) (sym (chunk_kind_is kind chunk is)) is);
+      before = refl;
+      base = ap base_word (sym same);
+    }
+
+-- votes that were noted for each word are the votes of the voters
+pub votes_of-agree : (base : ℕ) (voters : List ℕ) (count : ℕ) (votes : List Bool) → length votes ≡ count
+    → AreVotes base voters votes → Agree count (votes_of votes) (votes_for base voters)
+votes_of-agree base voters count votes sized are k lt = rw (are k (omega arith)) refl

@@ -22,7 +22,7 @@ module _ (votes : ℕ → ℕ) (words : List ℕ) where
       → ((q : ℕ) → p < q → q ≤ length words → IsLeast votes words q (onward q))
       → ((chunk : List ℕ) → IsChunk chunk → take (length chunk) (drop p words) ≡ chunk → p + length chunk ≤ length words
       → least ≤ part_cost votes p (Chunk chunk) + onward (p + length chunk))
-      → ((end : ℕ) → p < end → end ≤ length words → least ≤ 16 * 2 ^ 30 + skip_cost votes p (end - p) + onward end)
+      → ((end : ℕ) → p < end → end ≤ length words → least ≤ 4 * 2 ^ 30 + skip_cost votes p (end - p) + onward end)
       → IsLeast votes words p least
   IsLeast-at onward p least lt later read skipped [] reading = absurd (no_parts words p lt reading)
   IsLeast-at onward p least lt later read skipped (Chunk chunk ∷ parts) reading =
@@ -51,7 +51,7 @@ module _ (votes : ℕ → ℕ) (words : List ℕ) where
 
   -- so a best one costs no more
   IsLeast-le : (p least : ℕ) → p < length words → IsLeast votes words p least
-      → least ≤ 16 * 2 ^ 30 + skip_cost votes p (length words - p)
+      → least ≤ 4 * 2 ^ 30 + skip_cost votes p (length words - p)
   IsLeast-le p least lt is =
       let bound = rw (length-drop p words) at (is (Skipped (drop p words) ∷ []) (one_gap p lt)) in
       omega (arith, bound)
@@ -70,7 +70,7 @@ module _ (votes : ℕ → ℕ) (words : List ℕ) where
 
     -- it is bounded
     pub cost_at-le : (q : ℕ) → p ≤ q → q ≤ length words
-        → cost_at steps q ≤ 16 * 2 ^ 30 + skip_cost votes q (length words - q)
+        → cost_at steps q ≤ 4 * 2 ^ 30 + skip_cost votes q (length words - q)
     cost_at-le q low high =
         elim (cases_lt q (length words)) [
           | inl lt ↦ IsLeast-le q (cost_at steps q) lt (least_from q low high)
@@ -104,8 +104,8 @@ module _ (votes : ℕ → ℕ) (words : List ℕ) where
     -- the step into the best gap, if no chunk costs less
     pub IsStep-skips : ((chunk : List ℕ) → IsChunk chunk → take (length chunk) (drop p words) ≡ chunk
         → p + length chunk ≤ length words
-        → 16 * 2 ^ 30 + skipped.cost ≤ part_cost votes p (Chunk chunk) + cost_at steps (p + length chunk))
-        → IsStep votes words (cost_at steps) p (skips (16 * 2 ^ 30 + skipped.cost) skipped.end)
+        → 4 * 2 ^ 30 + skipped.cost ≤ part_cost votes p (Chunk chunk) + cost_at steps (p + length chunk))
+        → IsStep votes words (cost_at steps) p (skips (4 * 2 ^ 30 + skipped.cost) skipped.end)
     IsStep-skips dear =
         let ahead = way.late in
         let inside = way.inside in
@@ -117,7 +117,7 @@ module _ (votes : ℕ → ℕ) (words : List ℕ) where
           part = omega (arith, size);
           cost_is = rw size (omega (arith, way.cost_is));
           least =
-              IsLeast-at (cost_at steps) p (16 * 2 ^ 30 + skipped.cost) lt later dear
+              IsLeast-at (cost_at steps) p (4 * 2 ^ 30 + skipped.cost) lt later dear
               (λ end low high. omega (arith, way.least end (omega arith) high));
         }
 
@@ -149,7 +149,7 @@ module _ (votes : ℕ → ℕ) (words : List ℕ) where
 
       -- the step over the chunk, if it costs no more than the best gap
       pub IsStep-reads : (cost : ℕ) → cost ≡ part_cost votes p (Chunk here) + cost_at steps (p + header.length)
-          → cost ≤ 16 * 2 ^ 30 + skipped.cost
+          → cost ≤ 4 * 2 ^ 30 + skipped.cost
           → IsStep votes words (cost_at steps) p (reads cost (p + header.length))
       IsStep-reads cost is cheap =
           let some = length-chunk here (header.kind, begins.is_chunk) in
@@ -168,8 +168,8 @@ module _ (votes : ℕ → ℕ) (words : List ℕ) where
 
       -- the step into the best gap, if the chunk costs more
       pub IsStep-skips_chunk : (cost : ℕ) → cost ≡ part_cost votes p (Chunk here) + cost_at steps (p + header.length)
-          → 16 * 2 ^ 30 + skipped.cost < cost
-          → IsStep votes words (cost_at steps) p (skips (16 * 2 ^ 30 + skipped.cost) skipped.end)
+          → 4 * 2 ^ 30 + skipped.cost < cost
+          → IsStep votes words (cost_at steps) p (skips (4 * 2 ^ 30 + skipped.cost) skipped.end)
       IsStep-skips_chunk cost is dear =
           IsStep-skips
           (λ chunk is_chunk front fits. omega (arith, cost_of_same cost is chunk is_chunk front fits))

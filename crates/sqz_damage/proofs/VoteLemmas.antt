@@ -1,14 +1,13 @@
--- Sums of votes.
--- Serves `ReadingLemmas`, `votes` and `steps`.
-use Rattle.std.proofs.Common.{◌≡◌, ℕ, zero, suc, ◌+◌, ◌-◌, ◌*◌, ◌<◌, ◌≤◌, cond, List, [], ◌∷◌, length}
-use Rattle.std.specs.Prelude.{replicate}
-use Rattle.std.proofs.Common.{take, set, slice_index, refl, sym, ap, ◌∙◌, arith, inl, inr, eqb}
+-- Votes, and sums of votes.
+-- Serves `ReadingLemmas`, `votes`, `voted`, `steps` and `reading`.
+use Rattle.std.proofs.Common.{◌≡◌, ℕ, zero, suc, ◌+◌, ◌-◌, ◌*◌, ◌<◌, ◌≤◌, Bool, true, false, ◌||◌, List, [], ◌∷◌, ◌++◌, length}
+use Rattle.std.specs.Prelude.{replicate, slice_index_or, if◌then◌else◌}
+use Rattle.std.proofs.Common.{take, set, slice_index, refl, sym, ap, ◌∙◌, arith, inl, inr, append_assoc}
 use Rattle.std.proofs.lemmas.Bool.{cases_eq, ne_eqb, eq-eqb}
-use Rattle.std.proofs.lemmas.List.Sums.{sum_by-cons}
-use Rattle.std.proofs.lemmas.List.Sums.{count_by_more_yes, count_by_more_no, count_by-le-length}
-use Rattle.std.proofs.lemmas.List.{get_or-set_same, get_or-set_other, length-set, length-take-le, get_or-replicate, length-replicate}
-use Rattle.sqz_damage.specs.Counting.{AreVotes, AreLaterVotes}
-use Rattle.sqz_damage.specs.Votes.{votes_for, sum_from}
+use Rattle.std.proofs.lemmas.List.Folds.{list_any-append}
+use Rattle.std.proofs.lemmas.List.{append-nil, get_or-set_same, get_or-set_other, length-set, get_or-replicate, length-replicate, take_more}
+use Rattle.sqz_damage.specs.Counting.{AreLaterVotes}
+use Rattle.sqz_damage.specs.Votes.{has_vote, votes_of, AreVotes, Casts, sum_from}
 
 -- a sum in two parts
 pub sum_from-add : (f : ℕ → ℕ) (first a b : ℕ)
@@ -48,195 +47,150 @@ pub le-sum_from : (f : ℕ → ℕ) (first end k : ℕ) → first ≤ k → k < 
 le-sum_from f first end k low high =
     omega (arith, sum_from-split f first k end low (omega arith), sum_from-more f k end high)
 
--- sums of sums
-sum_from-both : (f g h : ℕ → ℕ) → ((k : ℕ) → h k ≡ f k + g k) → (first count : ℕ)
-    → sum_from h first count ≡ sum_from f first count + sum_from g first count
-sum_from-both f g h both first zero = refl
-sum_from-both f g h both first (suc count) =
-    omega (arith, both first, sum_from-both f g h both (suc first) count)
+-- there are no more votes than words
+pub votes_of-le : (votes : List Bool) (k : ℕ) → votes_of votes k ≤ 1
+votes_of-le votes k =
+    elim (slice_index_or votes k false) as (λ b. (if b then 1 else 0) ≤ 1) [ true ↦ omega arith | false ↦ omega arith ]
+
+pub sum_from-votes-le : (votes : List Bool) (first count : ℕ) → sum_from (votes_of votes) first count ≤ count
+sum_from-votes-le votes first zero = omega arith
+sum_from-votes-le votes first (suc count) =
+    omega (arith, votes_of-le votes first, sum_from-votes-le votes (suc first) count)
+
+-- ---- casting votes
+
+has_vote-append : (base : ℕ) (voters more : List ℕ) (k : ℕ)
+    → has_vote base (voters ++ more) k ≡ (has_vote base voters k || has_vote base more k)
+unfolding has_vote
+has_vote-append base voters more k = list_any-append _ voters more
+
+or-false : (b : Bool) → (b || false) ≡ b
+or-false true = refl
+or-false false = refl
+
+or-true : (b : Bool) → (b || true) ≡ true
+or-true true = refl
+or-true false = refl
 
 -- the vote of one word for word `k`
-vote : ℕ → ℕ → ℕ → ℕ
-vote base word k = cond (eqb word (base + 4 * k)) 1 0
+has_vote-yes : (base word k : ℕ) → word ≡ base + 4 * k → has_vote base (word ∷ []) k ≡ true
+unfolding has_vote
+has_vote-yes base word k is = rw (eq-eqb word (base + 4 * k) is) refl
 
-vote-yes : (base word k : ℕ) → word ≡ base + 4 * k → vote base word k ≡ 1
-unfolding vote
-vote-yes base word k is = rw (eq-eqb word (base + 4 * k) is) refl
+has_vote-no : (base word k : ℕ) → (word ≡ base + 4 * k → ⊥) → has_vote base (word ∷ []) k ≡ false
+unfolding has_vote
+has_vote-no base word k not = rw (ne_eqb word (base + 4 * k) not) refl
 
-vote-no : (base word k : ℕ) → (word ≡ base + 4 * k → ⊥) → vote base word k ≡ 0
-unfolding vote
-vote-no base word k not = rw (ne_eqb word (base + 4 * k) not) refl
+-- no voter
+pub AreVotes-none : (base : ℕ) (votes : List Bool) (count : ℕ) → votes ≡ replicate count false → AreVotes base [] votes
+unfolding has_vote
+AreVotes-none base votes count is k lt =
+    ap (λ (v : List Bool). slice_index_or v k false) is
+    ∙ get_or-replicate count k false false (omega (arith, ap length is, length-replicate count false))
 
--- a word does not vote for words after the one that it votes for
-no_more_votes : (base word first count : ℕ) → word < base + 4 * first → sum_from (vote base word) first count ≡ 0
-no_more_votes base word first zero lt = refl
-no_more_votes base word first (suc count) lt =
-    omega (
-      arith,
-      vote-no base word first (λ is. omega arith),
-      no_more_votes base word (suc first) count (omega arith),
-    )
+pub Casts-none : (base : ℕ) (votes : List Bool) → Casts base [] votes votes
+Casts-none base votes = record { sized = refl; added = λ voters are. rw append-nil are }
 
--- a word votes once
-one_vote : (base word first count : ℕ) → sum_from (vote base word) first count ≤ 1
-one_vote base word first zero = omega arith
-one_vote base word first (suc count) =
-    elim (cases_eq word (base + 4 * first)) [
-      | inl is ↦ omega (arith, vote-yes base word first is, no_more_votes base word (suc first) count (omega arith))
-      | inr not ↦ omega (arith, vote-no base word first not, one_vote base word (suc first) count)
-    ]
+-- some voters, and then more
+pub Casts-then : (base : ℕ) (some more : List ℕ) (old middle new : List Bool)
+    → Casts base some old middle → Casts base more middle new → Casts base (some ++ more) old new
+Casts-then base some more old middle new first next =
+    record {
+      sized = next.sized ∙ first.sized;
+      added = λ voters are.
+          rw (← append_assoc voters some more) (next.added (voters ++ some) (first.added voters are));
+    }
 
--- the votes of one word more
-votes_for-more : (base word : ℕ) (words : List ℕ) (k : ℕ)
-    → votes_for base (word ∷ words) k ≡ vote base word k + votes_for base words k
-unfolding vote votes_for
-votes_for-more base word words k = sum_by-cons (λ (w : ℕ). cond (eqb w (base + 4 * k)) 1 0) word words
+-- a word that is the address of a data word
+pub Casts-yes : (base word k : ℕ) (votes : List Bool) → k < length votes → word ≡ base + 4 * k
+    → Casts base (word ∷ []) votes (set votes k true)
+Casts-yes base word k votes lt is =
+    record {
+      sized = length-set votes k true;
+      added = λ voters are j within.
+          let inside : j < length votes = omega (arith, length-set votes k true) in
+          elim (cases_eq j k) [
+            | inl same ↦
+                rw same
+                (get_or-set_same votes k true false lt
+                ∙ sym (or-true (has_vote base voters k))
+                ∙ ap (λ (b : Bool). has_vote base voters k || b) (sym (has_vote-yes base word k is))
+                ∙ sym (has_vote-append base voters (word ∷ []) k))
+            | inr apart ↦
+                get_or-set_other votes k j true false apart
+                ∙ are j inside
+                ∙ sym (or-false (has_vote base voters j))
+                ∙ ap (λ (b : Bool). has_vote base voters j || b) (sym (has_vote-no base word j (λ other. apart (omega arith))))
+                ∙ sym (has_vote-append base voters (word ∷ []) j)
+          ];
+    }
 
-votes_for-none : (base k : ℕ) → votes_for base [] k ≡ 0
-unfolding votes_for
-votes_for-none base k = refl
+-- a word that is none
+pub Casts-no : (base word : ℕ) (votes : List Bool) → ((k : ℕ) → k < length votes → word ≡ base + 4 * k → ⊥)
+    → Casts base (word ∷ []) votes votes
+Casts-no base word votes none =
+    record {
+      sized = refl;
+      added = λ voters are j within.
+          are j within
+          ∙ sym (or-false (has_vote base voters j))
+          ∙ ap (λ (b : Bool). has_vote base voters j || b) (sym (has_vote-no base word j (none j within)))
+          ∙ sym (has_vote-append base voters (word ∷ []) j);
+    }
 
-none_vote : (base first count : ℕ) → sum_from (votes_for base []) first count ≡ 0
-none_vote base first zero = refl
-none_vote base first (suc count) = omega (arith, votes_for-none base first, none_vote base (suc first) count)
-
--- there are no more votes than words
-pub sum_from-votes-le : (base : ℕ) (words : List ℕ) (first count : ℕ)
-    → sum_from (votes_for base words) first count ≤ length words
-sum_from-votes-le base [] first count = omega (arith, none_vote base first count)
-sum_from-votes-le base (word ∷ words) first count =
-    omega (
-      arith,
-      sum_from-both (vote base word) (votes_for base words) (votes_for base (word ∷ words)) (votes_for-more base word words)
-          first count,
-      one_vote base word first count,
-      sum_from-votes-le base words first count,
-    )
-
--- ---- counting
-
--- one word more
-module _ (base : ℕ) (words : List ℕ) (i : ℕ) (lt : i < length words) where
-  pub votes_for-more_yes : (k : ℕ) → slice_index words i ≡ base + 4 * k
-      → votes_for base (take (i + 1) words) k ≡ votes_for base (take i words) k + 1
-  unfolding votes_for
-  votes_for-more_yes k is =
-      count_by_more_yes (λ (w : ℕ). eqb w (base + 4 * k)) words i 0 lt (eq-eqb _ _ is)
-
-  pub votes_for-more_no : (k : ℕ) → (slice_index words i ≡ base + 4 * k → ⊥)
-      → votes_for base (take (i + 1) words) k ≡ votes_for base (take i words) k
-  unfolding votes_for
-  votes_for-more_no k not =
-      count_by_more_no (λ (w : ℕ). eqb w (base + 4 * k)) words i 0 lt (ne_eqb _ _ not)
-
--- each word has at most as many votes as there are words
-pub votes_for-le : (base : ℕ) (words : List ℕ) (k : ℕ) → votes_for base words k ≤ length words
-unfolding votes_for
-votes_for-le base words k = count_by-le-length (λ (w : ℕ). eqb w (base + 4 * k)) words
-
--- the votes of the first `i` words for each of `count` words, and a 0
-abbrev pub AreVotesOf : ℕ → List ℕ → ℕ → ℕ → List ℕ → Type 0
-AreVotesOf base words count i found = AreVotes (votes_for base (take i words)) count found
-
-pub AreVotesOf-none : (base : ℕ) (words : List ℕ) (count : ℕ) (found : List ℕ) → found ≡ replicate (count + 1) 0
-    → AreVotesOf base words count 0 found
-AreVotesOf-none base words count found is =
-    rw is
-    (record {
-      sized = length-replicate (count + 1) 0;
-      last = get_or-replicate (count + 1) count 0 0 (omega arith);
-      each = λ k lt. get_or-replicate (count + 1) k 0 0 (omega arith) ∙ sym (votes_for-none base k);
-    })
-
-module _ (base : ℕ) (words : List ℕ) (count i : ℕ) (found : List ℕ)
-    (lt : i < length words) (so_far : AreVotesOf base words count i found) where
-  -- a word that is no address of a data word
-  pub AreVotes-no : ((k : ℕ) → k < count → slice_index words i ≡ base + 4 * k → ⊥) → AreVotesOf base words count (i + 1) found
-  AreVotes-no none =
-      record {
-        sized = so_far.sized;
-        last = so_far.last;
-        each = λ k inside. so_far.each k inside ∙ sym (votes_for-more_no base words i lt k (none k inside));
-      }
-
-  -- a word that is one
-  pub AreVotes-yes : (k : ℕ) → k < count → slice_index words i ≡ base + 4 * k
-      → AreVotesOf base words count (i + 1) (set found k (slice_index found k + 1))
-  AreVotes-yes k inside is =
-      record {
-        sized = length-set found k (slice_index found k + 1) ∙ so_far.sized;
-        last =
-            get_or-set_other found k count (slice_index found k + 1) 0 (λ same. omega arith) ∙ so_far.last;
-        each = λ j within.
-            elim (cases_eq j k) [
-              | inl same ↦
-                  rw same
-                  (get_or-set_same found k (slice_index found k + 1) 0 (let sized = so_far.sized in omega arith)
-                  ∙ ap (λ (n : ℕ). n + 1) (so_far.each k inside)
-                  ∙ sym (votes_for-more_yes base words i lt k is))
-              | inr apart ↦
-                  get_or-set_other found k j (slice_index found k + 1) 0 apart
-                  ∙ so_far.each j within
-                  ∙ sym (votes_for-more_no base words i lt j (λ same. apart (omega arith)))
-            ];
-      }
-
-  -- a count has room for one more
-  pub AreVotes-room : (k : ℕ) → k < count → slice_index found k ≤ i
-  AreVotes-room k inside =
-      omega (arith, so_far.each k inside, votes_for-le base (take i words) k, length-take-le i words (omega arith))
+-- one voter more of a list
+pub Casts-more : (base : ℕ) (words : List ℕ) (i : ℕ) (old middle new : List Bool) → i < length words
+    → Casts base (take i words) old middle → Casts base (slice_index words i ∷ []) middle new
+    → Casts base (take (i + 1) words) old new
+Casts-more base words i old middle new lt first next =
+    rw (take_more words i 0 lt) (Casts-then base (take i words) (slice_index words i ∷ []) old middle new first next)
 
 -- ---- adding up
 
--- the votes from index `k` on are added up, those before it are not
+-- the sums from index `k` on are found
 pub record AreAdded (votes : ℕ → ℕ) (count k : ℕ) (later : List ℕ) : Type 0 where
   pub inside : k ≤ count
   pub sized : length later ≡ count + 1
   pub done : (j : ℕ) → k ≤ j → j ≤ count → slice_index later j ≡ sum_from votes j (count - j)
-  pub left : (j : ℕ) → j < k → slice_index later j ≡ votes j
 
 module _ (votes : ℕ → ℕ) (count : ℕ) (later : List ℕ) where
-  pub AreAdded-none : AreVotes votes count later → AreAdded votes count count later
-  AreAdded-none are =
+  pub AreAdded-none : later ≡ replicate (count + 1) 0 → AreAdded votes count count later
+  AreAdded-none is =
       record {
         inside = omega arith;
-        sized = are.sized;
+        sized = ap length is ∙ length-replicate (count + 1) 0;
         done = λ j low high.
             let end : j ≡ count = omega arith in
-            let none : count - count ≡ 0 = omega arith in rw (end, none) are.last;
-        left = are.each;
+            let none : count - count ≡ 0 = omega arith in
+            rw (end, none)
+            (ap (λ (ns : List ℕ). slice_index ns count) is ∙ get_or-replicate (count + 1) count 0 0 (omega arith));
       }
 
   pub AreLaterVotes-added : AreAdded votes count 0 later → AreLaterVotes votes count later
   AreLaterVotes-added are = record { sized = are.sized; each = λ k le. are.done k (omega arith) le }
 
-  module _ (k : ℕ) (are : AreAdded votes count (suc k) later) where
-    -- the next sum
-    pub next_sum : slice_index later k + slice_index later (suc k) ≡ sum_from votes k (count - k)
-    next_sum =
-        let inside : k < count = let le = are.inside in omega arith in
-        omega (
-          arith,
-          are.left k (omega arith),
-          are.done (suc k) (omega arith) (omega arith),
-          sum_from-more votes k count inside,
-        )
-
-    pub AreAdded-more : (sum : ℕ) → sum ≡ slice_index later k + slice_index later (suc k)
-        → AreAdded votes count k (set later k sum)
-    AreAdded-more sum is =
-        let inside : k < count = let le = are.inside in omega arith in
-        let room : k < length later = let sized = are.sized in omega arith in
-        record {
-          inside = omega arith;
-          sized = length-set later k sum ∙ are.sized;
-          done = λ j low high.
-              elim (cases_eq j k) [
-                | inl same ↦ rw same (get_or-set_same later k sum 0 room ∙ is ∙ next_sum)
-                | inr apart ↦ get_or-set_other later k j sum 0 apart ∙ are.done j (omega arith) high
-              ];
-          left = λ j lt. get_or-set_other later k j sum 0 (λ same. omega arith) ∙ are.left j (omega arith);
-        }
+  pub AreAdded-more : (k : ℕ) → AreAdded votes count (suc k) later → (sum : ℕ)
+      → sum ≡ votes k + slice_index later (suc k) → AreAdded votes count k (set later k sum)
+  AreAdded-more k are sum is =
+      let inside : k < count = let le = are.inside in omega arith in
+      let room : k < length later = let sized = are.sized in omega arith in
+      record {
+        inside = omega arith;
+        sized = length-set later k sum ∙ are.sized;
+        done = λ j low high.
+            elim (cases_eq j k) [
+              | inl same ↦
+                  rw same
+                  (omega (
+                    arith,
+                    get_or-set_same later k sum 0 room,
+                    is,
+                    are.done (suc k) (omega arith) (omega arith),
+                    sum_from-more votes k count inside,
+                  ))
+              | inr apart ↦ get_or-set_other later k j sum 0 apart ∙ are.done j (omega arith) high
+            ];
+      }
 
   -- ---- sums between two indexes
 

@@ -1,7 +1,10 @@
 -- Readings of data words: sequences of chunks and gaps, and what they cost.
-use Rattle.std.specs.Prelude.{◌≡◌, ℕ, ◌+◌, ◌-◌, ◌*◌, ◌^◌, ◌<◌, ◌≤◌, if◌then◌else◌, List, [], ◌∷◌, map, length}
-use Rattle.std.specs.List.{concat, AllByRecursion}
-use Rattle.sqz_object.specs.Chunk.{IsChunk, is_object, before}
+use Rattle.std.specs.Prelude.{◌≡◌, ℕ, ◌+◌, ◌-◌, ◌*◌, ◌^◌, ◌<◌, ◌≤◌, if◌then◌else◌, List, [], ◌∷◌, ◌++◌, map, length, take}
+use Rattle.std.specs.Option.{option_to_list}
+use Rattle.std.specs.List.{concat, flat_map, AllByRecursion}
+use Rattle.sqz_object.specs.Chunk.{IsChunk, is_object, before, fields}
+use Rattle.sqz_image.specs.declared.slot.Slot.TheVariants.{ClassWord}
+use Rattle.sqz_trace.specs.Slots.{slot_word, traced}
 use Rattle.sqz_damage.specs.declared.gap.Gap.{Gap}
 use Rattle.sqz_damage.specs.Votes.{votes_for, sum_from}
 
@@ -46,11 +49,11 @@ contradicted votes first chunk = sum_from votes first (length chunk) - kept_vote
 abbrev pub skip_cost : (ℕ → ℕ) → ℕ → ℕ → ℕ
 skip_cost votes first count = sum_from votes first count * 2 ^ 30 + count
 
--- what a part at word `first` costs. A gap costs as much as 16 contradicted votes more than the
--- words that it skips.
+-- what a part at word `first` costs. A gap costs as much as 4 contradicted votes more than the words
+-- that it skips.
 abbrev pub part_cost : (ℕ → ℕ) → ℕ → Part → ℕ
 part_cost votes first (Chunk words) = contradicted votes first words * 2 ^ 30
-part_cost votes first (Skipped words) = 16 * 2 ^ 30 + skip_cost votes first (length words)
+part_cost votes first (Skipped words) = 4 * 2 ^ 30 + skip_cost votes first (length words)
 
 -- what parts from word `first` on cost
 abbrev pub cost_from : (ℕ → ℕ) → ℕ → List Part → ℕ
@@ -58,11 +61,27 @@ cost_from votes first [] = 0
 cost_from votes first (part ∷ parts) =
     part_cost votes first part + cost_from votes (first + length (part_words part)) parts
 
--- the gaps of a reading of the words that no other reading undercuts, if word 0 has the address
--- `base`
-pub record AreBestGaps (base : ℕ) (words : List ℕ) (gaps : List Gap) : Type 0 where
-  pub parts : List Part
+-- a reading of the words that no other reading undercuts
+pub record IsBestReading (votes : ℕ → ℕ) (words : List ℕ) (parts : List Part) : Type 0 where
   pub reading : IsReading words parts
-  pub gaps_are : gaps_among 0 parts ≡ gaps
-  pub best : (other : List Part) → IsReading words other
-      → cost_from (votes_for base words) 0 parts ≤ cost_from (votes_for base words) 0 other
+  pub least : (other : List Part) → IsReading words other → cost_from votes 0 parts ≤ cost_from votes 0 other
+
+-- the words that the slots of an object hold: the address in its class word, and its traced fields
+abbrev pub slot_words : List ℕ → List ℕ
+slot_words chunk = option_to_list (slot_word chunk ClassWord) ++ take (traced chunk) (fields chunk)
+
+-- the words that the slots of a part hold: those of an object; free chunks and gaps have no slots
+abbrev pub voters_of : Part → List ℕ
+voters_of (Chunk words) = if is_object words then slot_words words else []
+voters_of (Skipped words) = []
+
+-- the gaps of the third of three readings, if word 0 has the address `base`. In the first one, each
+-- word is a voter, whatever it means; then the words that the slots of the reading before hold
+pub record AreBestGaps (base : ℕ) (words : List ℕ) (gaps : List Gap) : Type 0 where
+  pub first : List Part
+  pub second : List Part
+  pub third : List Part
+  pub first_best : IsBestReading (votes_for base words) words first
+  pub second_best : IsBestReading (votes_for base (flat_map voters_of first)) words second
+  pub third_best : IsBestReading (votes_for base (flat_map voters_of second)) words third
+  pub gaps_are : gaps_among 0 third ≡ gaps

@@ -23,5 +23,5 @@ pub fn best_gaps()
 /// were, and each gap as a free chunk with its words after the header as they were.
 pub fn filled_gaps()
     ensures { (base : ℕ) (words : List ℕ) (gaps : List Gap) (best : AreBestGaps base words gaps)
-        → IsPartition (filled words gaps) (map filled_part best.parts) }
+        → IsPartition (filled words gaps) (map filled_part best.third) }
 {}

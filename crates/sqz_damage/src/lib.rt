@@ -5,10 +5,12 @@ mod filling;
 mod gap;
 mod gaps;
 pub mod laws;
+mod reading;
 mod step;
 mod steps;
 #[cfg(test)]
 mod tests;
+mod voted;
 mod votes;
 
 pub use filling::fill_gaps;

@@ -3,7 +3,7 @@
 /// The first part of the best reading of the data words from one word on.
 #[derive(Clone, Copy)]
 pub(crate) struct Step {
-    /// What that reading costs: the contradicted votes, with 16 for each gap, times 2^30, and the
+    /// What that reading costs: the contradicted votes, with 4 for each gap, times 2^30, and the
     /// skipped words.
     pub(crate) cost: u64,
     /// The index after the last word of the part.
@@ -14,7 +14,7 @@ pub(crate) struct Step {
 /// The best way on from a word within a gap.
 #[derive(Clone, Copy)]
 pub(crate) struct WayOn {
-    /// What it costs, without the 16 votes for the gap.
+    /// What it costs, without the 4 votes for the gap.
     pub(crate) cost: u64,
     /// The index after the last word of the gap.
     pub(crate) end: u32,

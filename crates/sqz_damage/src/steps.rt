@@ -7,10 +7,10 @@ ghost use Rattle.sqz_damage.specs.Readings.{kept_votes, part_cost};
 ghost use Rattle.sqz_damage.specs.Readings.{Chunk as Read};
 ghost use Rattle.sqz_damage.specs.Steps.{AreSteps, IsStep, IsWayOn, cost_at};
 ghost use Rattle.sqz_damage.specs.Counting.{IsVoted};
-ghost use Rattle.sqz_damage.specs.Votes.{votes_for, sum_from};
+ghost use Rattle.sqz_damage.specs.Votes.{votes_of, sum_from};
 
 use crate::step::{Step, WayOn};
-use crate::votes::VotedWords;
+use crate::voted::VotedWords;
 use sqz_object::{Chunk, Kind, chunk_in};
 use std::alloc::{AllocError, Global};
 
@@ -18,13 +18,13 @@ use std::alloc::{AllocError, Global};
 const VOTE: u64 = 1 << 30;
 
 /// What a gap costs besides the words that it skips.
-const GAP: u64 = 16 * VOTE;
+const GAP: u64 = 4 * VOTE;
 
 /// Returns for each data word the first step of the best reading from there on, and one step more
 /// for the end, of cost 0.
 pub(crate) fn steps_of(alloc: Global, voted: &VotedWords<'_>) -> Result<Vec<Step>, AllocError>
     requires { IsVoted voted.now }
-    ensures { IfOk result (λ steps. AreSteps (votes_for voted.now.base voted.now.words.now)
+    ensures { IfOk result (λ steps. AreSteps (votes_of voted.now.votes.now)
         voted.now.words.now 0 steps.items) }
 {
     let count = voted.words.len();
@@ -54,7 +54,7 @@ fn skip(voted: &VotedWords<'_>, p: usize, way: WayOn) -> WayOn
     requires inside { p < length voted.now.words.now }
     requires cheap { way.cost < 2 ^ 62 }
     ensures cost { result.cost
-        ≡ votes_for voted.now.base voted.now.words.now p * 2 ^ 30 + 1 + way.cost }
+        ≡ votes_of voted.now.votes.now p * 2 ^ 30 + 1 + way.cost }
     ensures end { result.end ≡ way.end }
 {
     WayOn {
@@ -86,11 +86,11 @@ fn end_or_skip(p: usize, step: Step, skipped: WayOn) -> WayOn
 fn best_step(voted: &VotedWords<'_>, steps: &[Step], p: usize, skipped: WayOn) -> Step
     requires voted { IsVoted voted.now }
     requires inside { p < length voted.now.words.now }
-    requires steps { AreSteps (votes_for voted.now.base voted.now.words.now)
+    requires steps { AreSteps (votes_of voted.now.votes.now)
         voted.now.words.now (suc p) steps.now }
-    requires way { IsWayOn (votes_for voted.now.base voted.now.words.now) voted.now.words.now
+    requires way { IsWayOn (votes_of voted.now.votes.now) voted.now.words.now
         (cost_at steps.now) p (suc p) skipped }
-    ensures { IsStep (votes_for voted.now.base voted.now.words.now) voted.now.words.now
+    ensures { IsStep (votes_of voted.now.votes.now) voted.now.words.now
         (cost_at steps.now) p result }
 {
     let gap = Step {
@@ -111,10 +111,10 @@ fn best_step(voted: &VotedWords<'_>, steps: &[Step], p: usize, skipped: WayOn) -
 fn read_chunk(voted: &VotedWords<'_>, steps: &[Step], p: usize, chunk: Chunk) -> Step
     requires voted { IsVoted voted.now }
     requires begins { BeginsWith (drop p voted.now.words.now) chunk }
-    requires steps { AreSteps (votes_for voted.now.base voted.now.words.now)
+    requires steps { AreSteps (votes_of voted.now.votes.now)
         voted.now.words.now (suc p) steps.now }
     ensures cost { let words = voted.now.words.now in result.cost
-        ≡ part_cost (votes_for voted.now.base words) p (Read (take chunk.length (drop p words)))
+        ≡ part_cost (votes_of voted.now.votes.now) p (Read (take chunk.length (drop p words)))
         + cost_at steps.now (p + chunk.length) }
     ensures end { result.end ≡ p + chunk.length }
     ensures read { result.is_gap ≡ false }
@@ -133,9 +133,9 @@ fn kept_votes(voted: &VotedWords<'_>, p: usize, chunk: Chunk) -> u32
     requires voted { IsVoted voted.now }
     requires begins { BeginsWith (drop p voted.now.words.now) chunk }
     ensures kept { let words = voted.now.words.now in result
-        ≡ kept_votes (votes_for voted.now.base words) p (take chunk.length (drop p words)) }
+        ≡ kept_votes (votes_of voted.now.votes.now) p (take chunk.length (drop p words)) }
     ensures some { result
-        ≤ sum_from (votes_for voted.now.base voted.now.words.now) p chunk.length }
+        ≤ sum_from (votes_of voted.now.votes.now) p chunk.length }
 {
     match chunk.kind {
         Kind::Free => 0,

@@ -1,83 +1,70 @@
-//! The votes for data words: each word that is the address of a data word votes for that word.
+//! The votes for data words: a word has a vote if some voter is its address.
 
-ghost use Rattle.std.specs.Prelude.{◌≡◌, ◌≢◌, ◌+◌, ◌*◌, ◌-◌, ◌^◌, ◌<◌, ◌≤◌, ℕ, length, slice_index};
-ghost use Rattle.std.specs.Prelude.{IfOk, MatchOption};
-ghost use Rattle.sqz_damage.specs.Counting.{AreVotes, AreLaterVotes, IsVoted};
-ghost use Rattle.sqz_damage.specs.Votes.{votes_for, sum_from};
+ghost use Rattle.std.specs.Prelude.{◌≡◌, ◌≢◌, ◌+◌, ◌*◌, ◌-◌, ◌^◌, ◌<◌, ◌≤◌, ℕ, [], ◌∷◌, length, take, drop};
+ghost use Rattle.std.specs.Prelude.{MatchOption};
+ghost use Rattle.sqz_object.specs.Chunk.{IsChunk};
+ghost use Rattle.sqz_damage.specs.Readings.{slot_words, voters_of};
+ghost use Rattle.sqz_damage.specs.Readings.{Chunk as Read};
+ghost use Rattle.sqz_damage.specs.Votes.{Casts};
 
-use sqz_object::{Address, Words};
-use std::alloc::{AllocError, Global};
+use sqz_image::Object;
+use sqz_object::{Address, Kind, Words, known_chunk};
+use sqz_trace::{class_address, traced_fields};
 
-/// Data words, and the votes for them.
-#[derive(Clone, Copy)]
-pub(crate) struct VotedWords<'a> {
-    /// The address of the first word.
-    pub(crate) base: Address,
-    pub(crate) words: &'a Words<'a>,
-    /// For the index of each word, and for the end, the number of votes for the words from there
-    /// on.
-    pub(crate) later: &'a [u32],
-}
-
-impl VotedWords<'_> {
-    /// Returns the number of votes for the words from `first` up to `end`.
-    pub(crate) fn between(&self, first: usize, end: usize) -> u32
-        requires voted { IsVoted self.now }
-        requires ordered { first ≤ end }
-        requires inside { end ≤ length self.now.words.now }
-        ensures votes { result
-            ≡ sum_from (votes_for self.now.base self.now.words.now) first (end - first) }
-        ensures few { result < 2 ^ 30 }
-    {
-        self.later[first] - self.later[end]
-    }
-
-    /// Returns the number of votes for word `k`.
-    pub(crate) fn at(&self, k: usize) -> u32
-        requires voted { IsVoted self.now }
-        requires inside { k < length self.now.words.now }
-        ensures votes { result ≡ votes_for self.now.base self.now.words.now k }
-    {
-        self.between(k, k + 1)
-    }
-}
-
-/// Returns for the index of each data word, and for the end, the number of votes for the words
-/// from there on. `base` is the address of the first word.
-pub(crate) fn later_votes(
-    alloc: Global,
+/// Notes the votes of the slots of the chunk from word `p` up to `end`, if it is an object. `votes`
+/// says of each data word whether it has a vote, and `base` is the address of the first one.
+pub(crate) fn vote_by_chunk(
+    votes: &mut [bool],
     base: Address,
     words: &Words<'_>,
-) -> Result<Vec<u32>, AllocError>
+    p: usize,
+    end: usize,
+)
+    requires within { base + 4 * length votes.old ≤ 2 ^ 32 }
     requires few { length words.now < 2 ^ 30 }
-    requires within { base + 4 * length words.now ≤ 2 ^ 32 }
-    ensures { IfOk result (λ later. AreLaterVotes (votes_for base words.now)
-        (length words.now) later.items) }
+    requires ordered { p < end }
+    requires inside { end ≤ length words.now }
+    requires chunk { IsChunk (take (end - p) (drop p words.now)) }
+    ensures { Casts base (voters_of (Read (take (end - p) (drop p words.now)))) votes.old
+        votes.new }
 {
-    let mut later = count_votes(alloc, base, words)?;
-    let mut k = words.len();
-    while k > 0 {
-        k -= 1;
-        later[k] += later[k + 1];
+    let chunk = known_chunk(words, p);
+    match chunk.kind {
+        Kind::Free => {}
+        _ => vote_by_slots(votes, base, &Object::new(chunk, words.part(p, end))),
     }
-    Ok(later)
 }
 
-/// Returns the number of votes for each data word, and after them a 0.
-fn count_votes(alloc: Global, base: Address, words: &Words<'_>) -> Result<Vec<u32>, AllocError>
-    requires few { length words.now < 2 ^ 30 }
-    requires within { base + 4 * length words.now ≤ 2 ^ 32 }
-    ensures { IfOk result (λ votes. AreVotes (votes_for base words.now) (length words.now)
-        votes.items) }
+/// Notes the votes of the slots of an object.
+fn vote_by_slots(votes: &mut [bool], base: Address, object: &Object<'_>)
+    requires { base + 4 * length votes.old ≤ 2 ^ 32 }
+    ensures { Casts base (slot_words object.now) votes.old votes.new }
 {
-    let count = words.len();
-    let mut votes = vec![in alloc; 0u32; count + 1]?;
-    for k in 0..count {
-        if let Some(voted) = index_at(base, count, words.at(k)) {
-            votes[voted] += 1;
-        }
+    if let Some(address) = class_address(object) {
+        vote(votes, base, address);
     }
-    Ok(votes)
+    let (traced, _) = object.fields().split_at(traced_fields(object) as usize);
+    vote_by_words(votes, base, &traced);
+}
+
+/// Notes the vote of each word.
+pub(crate) fn vote_by_words(votes: &mut [bool], base: Address, words: &Words<'_>)
+    requires { base + 4 * length votes.old ≤ 2 ^ 32 }
+    ensures { Casts base words.now votes.old votes.new }
+{
+    for k in 0..words.len() {
+        vote(votes, base, words.at(k));
+    }
+}
+
+/// Notes the vote for the data word with this address, if there is one.
+fn vote(votes: &mut [bool], base: Address, address: Address)
+    requires { base + 4 * length votes.old ≤ 2 ^ 32 }
+    ensures { Casts base (address ∷ []) votes.old votes.new }
+{
+    if let Some(k) = index_at(base, votes.len(), address) {
+        votes[k] = true;
+    }
 }
 
 /// Returns the index of the data word with this address, if there is one. `base` is the address of

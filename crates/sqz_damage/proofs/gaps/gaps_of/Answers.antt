@@ -1,33 +1,47 @@
-use Rattle.std.proofs.Common.{◌≡◌, ◌<◌, length, sym, arith}
-use Rattle.std.proofs.lemmas.List.{get_or_read}
-use Rattle.sqz_damage.specs.Votes.{votes_for}
-use Rattle.sqz_damage.specs.Steps.{IsStep, step_at, cost_at, no_step}
-use Rattle.sqz_damage.proofs.WalkLemmas.{step_over_chunk, step_over_gap, AreBestGaps-at}
+use Rattle.std.proofs.Common.{◌≡◌, [], false, length, ap, ◌∙◌}
+use Rattle.std.specs.Prelude.{replicate}
+use Rattle.std.specs.List.{flat_map}
+use Rattle.std.proofs.lemmas.List.{with_items_is, length-replicate}
+use Rattle.sqz_damage.specs.Votes.{votes_for, votes_of, AreVotes}
+use Rattle.sqz_damage.specs.Readings.{voters_of}
+use Rattle.sqz_damage.proofs.VoteLemmas.{AreVotes-none}
+use Rattle.sqz_damage.proofs.ReadingLemmas.{IsBestReading-agree, votes_of-agree}
 use Rattle.sqz_damage.proofs.gaps.gaps_of.Goals as goal
-use Rattle.sqz_damage.proofs.gaps.gaps_of.Goals.{then-step+in_ok-push, else-step}
-
-pub loop-p-preserved : goal.loop-p-preserved
-loop-p-preserved c =
-    let words = c.args.words.now in
-    let votes = votes_for c.args.base words in
-    let steps = c.in_ok-steps.steps.items in
-    let p = c.loop-p.p in
-    let are = c.in_ok-steps.ensures in
-    let so_far = c.loop-p.invariant in
-    let lt : p < length words = omega (arith, c.len.ensures, c.loop-p-test.true) in
-    let step = c.index-step.result.now in
-    let at : step_at steps p ≡ step =
-    sym (get_or_read steps p step (omega (arith, lt, are.sized)) c.index-step.ensures no_step) in
-    let is : IsStep votes words (cost_at steps) p step = rw at at (are.each p (omega arith) lt) in
-    elim c.if-step.branch [
-      | then-step+in_ok-push w ↦
-          rw (w.gaps-is, w.in_ok-push.ensures.items)
-          (step_over_gap votes words steps p c.loop-p.gaps.items so_far step at is w.if-step.true)
-      | else-step w ↦
-          rw w.gaps-is (step_over_chunk votes words steps p c.loop-p.gaps.items so_far step at is w.if-step.false)
-    ]
 
 pub returns : goal.returns
 returns c =
-    AreBestGaps-at c.args.base c.args.words.now c.in_ok-steps.steps.items c.loop-p.p c.loop-p.gaps.items
-    c.in_ok-steps.ensures c.loop-p.invariant (omega (arith, c.len.ensures, c.loop-p-test.false))
+    let base = c.args.base in
+    let words = c.args.words.now in
+    let count = length words in
+    let none : c.in_ok-votes.votes.items ≡ replicate count false =
+    c.in_ok-votes.ensures.items_if_clones_equal (λ y is. is) ∙ ap (λ n. replicate n false) c.len.ensures in
+    let old = c.deref_mut.result.now in
+    let old_is : old ≡ replicate count false = c.deref_mut.ensures.value ∙ none in
+    let new = c.vote_by_words.new.votes in
+    let sized : length new ≡ count = c.vote_by_words.ensures.sized ∙ ap length old_is ∙ length-replicate count false in
+    let all : AreVotes base words new = c.vote_by_words.ensures.added [] (AreVotes-none base old count old_is) in
+    let items = with_items_is c.in_ok-votes.votes new (c.vote_by_words.ensures.sized ∙ c.deref_mut.ensures.len) in
+    let passed : c.deref.result.now ≡ new = c.deref.ensures.value ∙ items in
+    let first = c.in_ok-first.ensures in
+    let second = c.in_ok-second.ensures in
+    let third = c.in_ok-third.ensures in
+    record {
+      first = first.parts;
+      second = second.parts;
+      third = third.parts;
+      first_best =
+          IsBestReading-agree words (votes_of c.deref.result.now) (votes_for base words) first.parts
+          (rw passed (votes_of-agree base words count new sized all)) first.best;
+      second_best =
+          IsBestReading-agree words (votes_of c.deref-2.result.now) (votes_for base (flat_map voters_of first.parts)) second.parts
+          (rw c.deref-2.ensures.value
+          (votes_of-agree base (flat_map voters_of first.parts) count c.in_ok-first.first.votes.items first.sized first.votes_are))
+          second.best;
+      third_best =
+          IsBestReading-agree words (votes_of c.deref-3.result.now) (votes_for base (flat_map voters_of second.parts)) third.parts
+          (rw c.deref-3.ensures.value
+          (votes_of-agree base (flat_map voters_of second.parts) count c.in_ok-second.second.votes.items second.sized
+          second.votes_are))
+          third.best;
+      gaps_are = third.gaps_are;
+    }

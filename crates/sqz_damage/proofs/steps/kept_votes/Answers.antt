@@ -1,14 +1,14 @@
 use Rattle.std.proofs.Common.{◌≡◌, ℕ, ◌+◌, take, drop, ap, sym, ◌∙◌, arith}
 use Rattle.std.proofs.lemmas.List.{length-take-le}
 use Rattle.sqz_object.specs.Chunk.{words_before}
-use Rattle.sqz_damage.specs.Votes.{votes_for}
+use Rattle.sqz_damage.specs.Votes.{votes_of}
 use Rattle.sqz_damage.proofs.ReadingLemmas.{kept_votes-object, header_votes-le}
 use Rattle.sqz_damage.proofs.steps.kept_votes.Goals as goal
 
 pub returns-in_default : goal.returns-in_default
 returns-in_default c =
     let words = c.args.voted.now.words.now in
-    let votes = votes_for c.args.voted.now.base words in
+    let votes = votes_of c.args.voted.now.votes.now in
     let p = c.args.p in
     let chunk = c.args.chunk in
     let here = take chunk.length (drop p words) in

@@ -2,7 +2,7 @@ use Rattle.std.specs.Prelude.{replicate}
 use Rattle.std.proofs.Common.{◌≡◌, ℕ, ◌+◌, ◌-◌, ◌<◌, suc, false, length, ap, ◌∙◌, inl, inr, arith}
 use Rattle.std.proofs.lemmas.Bool.{cases_lt}
 use Rattle.sqz_damage.specs.declared.step.Step.{Step}
-use Rattle.sqz_damage.specs.Votes.{votes_for}
+use Rattle.sqz_damage.specs.Votes.{votes_of}
 use Rattle.sqz_damage.specs.Steps.{AreSteps, IsStep, IsWayOn, cost_at}
 use Rattle.sqz_damage.proofs.VoteLemmas.{sum_from-votes-le}
 use Rattle.sqz_damage.proofs.WayLemmas.{AreSteps-none, IsWayOn-end, IsWayOn-skip, way-le, AreSteps-more, IsWayOn-ends, IsWayOn-goes_on}
@@ -12,7 +12,7 @@ use Rattle.sqz_damage.proofs.steps.steps_of.Goals.{After-deref}
 pub loop-p-init : goal.loop-p-init
 loop-p-init c =
     let words = c.args.voted.now.words.now in
-    let votes = votes_for c.args.voted.now.base words in
+    let votes = votes_of c.args.voted.now.votes.now in
     let steps = c.in_ok-steps.steps.items in
     let none : Step = record { cost = 0; end = c.len-count.result; is_gap = false } in
     let are = AreSteps-none votes words steps c.len-count.result
@@ -24,12 +24,12 @@ loop-p-init c =
 pub skip-skipped-requires-clause-cheap : goal.skip-skipped-requires-clause-cheap
 skip-skipped-requires-clause-cheap c =
     let words = c.args.voted.now.words.now in
-    let votes = votes_for c.args.voted.now.base words in
+    let votes = votes_of c.args.voted.now.votes.now in
     let so_far = c.loop-p.invariant in
     omega (
       arith,
       way-le votes words c.loop-p.steps.items c.loop-p.p c.loop-p.p c.loop-p.p c.loop-p.way so_far.steps so_far.inside so_far.way,
-      sum_from-votes-le c.args.voted.now.base words c.loop-p.p (length words - c.loop-p.p),
+      sum_from-votes-le c.args.voted.now.votes.now c.loop-p.p (length words - c.loop-p.p),
       c.requires.few,
     )
 
@@ -39,18 +39,18 @@ next_word c = omega (arith, c.loop-p-test.true)
 
 -- the steps found so far
 steps_so_far : (c : After-deref)
-    → AreSteps (votes_for c.args.voted.now.base c.args.voted.now.words.now) c.args.voted.now.words.now
+    → AreSteps (votes_of c.args.voted.now.votes.now) c.args.voted.now.words.now
     (suc (c.loop-p.p - 1)) c.loop-p.steps.items
 steps_so_far c = rw (next_word c) at c.loop-p.invariant.steps
 
 -- the best way that skips the word
 skipped_so_far : (c : After-deref)
-    → IsWayOn (votes_for c.args.voted.now.base c.args.voted.now.words.now) c.args.voted.now.words.now
+    → IsWayOn (votes_of c.args.voted.now.votes.now) c.args.voted.now.words.now
     (cost_at c.loop-p.steps.items) (c.loop-p.p - 1) (suc (c.loop-p.p - 1)) c.skip-skipped.result
 skipped_so_far c =
     let words = c.args.voted.now.words.now in
     let way = rw (next_word c) at c.loop-p.invariant.way in
-    IsWayOn-skip (votes_for c.args.voted.now.base words) words (cost_at c.loop-p.steps.items) (c.loop-p.p - 1)
+    IsWayOn-skip (votes_of c.args.voted.now.votes.now) words (cost_at c.loop-p.steps.items) (c.loop-p.p - 1)
     c.loop-p.way c.skip-skipped.result way c.skip-skipped.ensures.cost c.skip-skipped.ensures.end
 
 pub best_step-step-requires-clause-steps : goal.best_step-step-requires-clause-steps
@@ -65,7 +65,7 @@ pub loop-p-preserved : goal.loop-p-preserved
 loop-p-preserved c =
     let at = (goal.at.loop-p-preserved c).After-deref in
     let words = c.args.voted.now.words.now in
-    let votes = votes_for c.args.voted.now.base words in
+    let votes = votes_of c.args.voted.now.votes.now in
     let steps = c.loop-p.steps.items in
     let step = c.best_step-step.result in
     let skipped = c.skip-skipped.result in

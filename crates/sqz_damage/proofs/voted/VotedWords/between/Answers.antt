@@ -1,17 +1,17 @@
 use Rattle.std.proofs.Common.{◌≡◌, ◌+◌, ◌-◌, length, slice_index, arith}
-use Rattle.sqz_damage.specs.Votes.{votes_for, sum_from}
+use Rattle.sqz_damage.specs.Votes.{votes_of, sum_from}
 use Rattle.sqz_damage.proofs.VoteLemmas.{later-split, sum_from-votes-le}
-use Rattle.sqz_damage.proofs.votes.VotedWords.between.Goals as goal
-use Rattle.sqz_damage.proofs.votes.VotedWords.between.Goals.{After-result-2-1}
+use Rattle.sqz_damage.proofs.voted.VotedWords.between.Goals as goal
+use Rattle.sqz_damage.proofs.voted.VotedWords.between.Goals.{After-result-2-1}
 
 -- the votes from the first word on are those between and those from the end on
 split : (c : After-result-2-1)
     → slice_index c.args.self.now.later.now c.args.first
-    ≡ sum_from (votes_for c.args.self.now.base c.args.self.now.words.now) c.args.first (c.args.end - c.args.first)
+    ≡ sum_from (votes_of c.args.self.now.votes.now) c.args.first (c.args.end - c.args.first)
     + slice_index c.args.self.now.later.now c.args.end
 split c =
     let voted = c.args.self.now in
-    later-split (votes_for voted.base voted.words.now) (length voted.words.now) voted.later.now c.requires.voted.later
+    later-split (votes_of voted.votes.now) (length voted.words.now) voted.later.now c.requires.voted.later
     c.args.first c.args.end c.requires.ordered c.requires.inside
 
 pub overflow_sub-result : goal.overflow_sub-result
@@ -26,6 +26,6 @@ returns-clause-few c =
     omega (
       arith,
       split (goal.at.returns-clause-few c).After-result-2-1,
-      sum_from-votes-le voted.base voted.words.now c.args.first (c.args.end - c.args.first),
+      sum_from-votes-le voted.votes.now c.args.first (c.args.end - c.args.first),
       c.requires.voted.few,
     )
