@@ -10,17 +10,25 @@ from tests.harness.outcomes import Outcome
 from tests.harness.programs import SQZCOMPACT, SQZLOOK, Limits, run
 from tests.harness.saved_image import SavedImageTest
 from tests.harness.sqzlook import CLEAR, look
-from tests.harness.worked_images import bytes_at, worked_paths
+from tests.harness.worked_images import bytes_at, readable_paths, worked_paths
+from tests.making.changed_images import at_base, with_words
 from tests.making.random_images import random_files
 from tests.making.seed import SEED
-from tests.reference.damage import mend_file
+from tests.reference.damage import is_sound, mend_file
 from tests.reference.file_format import HEADER_WORDS, VERSION, bytes_of
+from tests.reference.image import Image
+from tests.reference.objects import Format
 from tests.reference.repair import repaired_file
 
 HEADER = 4 * HEADER_WORDS
 SECTOR = 512
 # Random damages of small images.
 DAMAGES = 400
+# Random images that are mended without damage, and the bases to which they are moved. At a low base
+# small numbers are addresses.
+SOUND, BASES = 300, (0, 0x1000, 0x100000, 0x14FFC000, 0x7FFF0000)
+# The header of an object of 49 words that are no pointers.
+BITMAP = 49 << 2 | 3 | Format.WORDS << 8 | 1 << 12
 # The numbers of words of data of which nearly nothing can be read. A process may take `REST` bytes
 # of memory, and `EACH_WORD` bytes for each of these words.
 SMALL, LARGE = 1 << 22, 1 << 24
@@ -119,6 +127,39 @@ class SmallDamageTest(LookTest):
         words[2] = 4 * len(data)
         it = self.assert_mended("gaps.image", bytes_of(words + data, "little"))
         self.assertEqual(it.gaps, [(1, len(data) - 1)])
+
+
+class SoundTest(LookTest):
+    """Images without a fault, at several bases and in both byte orders: they have no damage."""
+
+    def sound_images(self):
+        """The worked and random images without a fault, by name."""
+        files = {path.stem: bytes_at(path) for path in readable_paths()}
+        files |= random_files(SOUND)
+        return {name: Image.read(file)[0] for name, file in files.items() if is_sound(file, False)}
+
+    def test_mend_writes_them_as_they_are(self):
+        for name, image in self.sound_images().items():
+            for base in BASES:
+                moved = at_base(image, base)
+                for file in (moved.file(), moved.in_other_order().file()):
+                    with self.subTest(name, base=base):
+                        self.write("sound.image", file)
+                        outcome = look("mend", "sound.image", folder=self.folder)
+                        self.assert_ends(outcome, Outcome(0, file))
+
+    def test_words_that_look_like_addresses(self):
+        """A bitmap of one colour votes for a word of an array, and is no reason to skip it."""
+        image = Image.read(bytes_at(readable_paths()[0]))[0]
+        for number, it in enumerate(image.objects):
+            for place in range(it.base + 1, it.end):
+                words = image.words[:]
+                words.extend([BITMAP, *[image.base + 4 * place] * 48])
+                file = with_words(image, words).file()
+                with self.subTest(number=number, place=place):
+                    self.write("sound.image", file)
+                    outcome = look("mend", "sound.image", folder=self.folder)
+                    self.assert_ends(outcome, Outcome(0, file))
 
 
 class HostileDamageTest(LookTest):
@@ -232,6 +273,49 @@ class SavedDamageTest(SavedImageTest):
         self.write("repaired.image", mended.stdout)
         outcome = run(SQZCOMPACT, ["repaired.image", "out.image"], folder=self.folder)
         self.assertEqual((outcome.status, outcome.stderr), (0, b""))
+
+    def test_bases(self):
+        """What is skipped is what is damaged, at each base and in each byte order."""
+        for base in BASES:
+            moved = at_base(self.image, base)
+            for image in (moved, moved.in_other_order()):
+                for name, (file, damaged) in self.changes(image).items():
+                    with self.subTest(name, base=base, order=image.order):
+                        self.assert_skips(image, file, damaged)
+
+    def changes(self, image):
+        """Damaged files of the image, each with the range of words that was changed, by name."""
+        numbers = range(len(image.objects) // 4, len(image.objects))
+        short, other = [it for it in numbers if self.has_short_header(it)][:2000:1000]
+        large, small, lost = image.words[:], image.words[:], image.words[:]
+        large[image.objects[short].base] |= 63 << 2
+        small[image.objects[other].base] &= ~(63 << 2) | 2 << 2
+        sector = range(image.objects[other].first + 64, image.objects[other].first + 192)
+        for place in sector:
+            lost[place] = 0
+        last = range(len(image.words) - 1, len(image.words))
+        return {
+            "too_large": (with_words(image, large).file(), self.words_of(short)),
+            "too_small": (with_words(image, small).file(), self.words_of(other)),
+            "zeroed": (with_words(image, lost).file(), sector),
+            "last_word": (image.file()[:-4], last),
+        }
+
+    def words_of(self, number):
+        it = self.image.objects[number]
+        return range(it.first, it.end)
+
+    def assert_skips(self, image, file, damaged):
+        """Checks that `mend` skips one run, and that all objects without a changed word stand."""
+        self.write("damaged.image", file)
+        outcome = look("mend", "damaged.image", folder=self.folder)
+        self.assertEqual(outcome.status, 0)
+        mended, _ = Image.read(outcome.stdout)
+        found = {(it.first, it.end) for it in mended.objects}
+        for it in image.objects:
+            if it.end <= damaged.start or damaged.stop <= it.first:
+                self.assertIn((it.first, it.end), found)
+        self.assertRegex(outcome.stderr, rb"^sqzlook: damaged.image: skipped \d+ bytes at word \d+")
 
     def test_check_says_how_much_can_be_read(self):
         file = self.damages()["cut"]

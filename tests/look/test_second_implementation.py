@@ -156,13 +156,25 @@ class DamageTest(unittest.TestCase):
         return [generator.choice(kinds)() for _ in range(count)]
 
     def check_words(self, words):
-        found = damage.gaps_of(64, words)
-        costs = [(self.cost(words, parts), self.gaps(parts)) for parts in self.readings(words, 0)]
-        best = min(cost for cost, _ in costs)
-        self.assertIn((best, found), costs)
-        mended, at = damage.mended_words(64, words), 0
-        while at < len(mended):
-            at = damage.chunk_at(mended, at)[1]
+        voters, parts = words, []
+        for _ in range(damage.READINGS):
+            parts = damage.best_reading(words, damage.votes_of(64, len(words), voters))
+            found = [damage.Gap(at, end - at) for at, end, is_gap in parts if is_gap]
+            self.check_best(words, voters, found)
+            voters = list(damage.slots_of(words, parts))
+        self.assertEqual(damage.gaps_of(64, words), found)
+        for gap in found:
+            words[gap.first] = 4 * gap.words + damage.FREE
+        at = 0
+        while at < len(words):
+            at = damage.chunk_at(words, at)[1]
+
+    def check_best(self, words, voters, found):
+        """Checks that no reading undercuts one with these gaps."""
+        costs = [
+            (self.cost(words, voters, parts), self.gaps(parts)) for parts in self.readings(words, 0)
+        ]
+        self.assertIn((min(cost for cost, _ in costs), found), costs)
 
     def readings(self, words, first):
         """All readings from a word on."""
@@ -178,10 +190,10 @@ class DamageTest(unittest.TestCase):
             for others in self.readings(words, part.end):
                 yield [part, *others]
 
-    def cost(self, words, parts):
+    def cost(self, words, voters, parts):
         """The contradicted votes of a reading, with those that gaps count as; the skipped words."""
         bases = {it.base for it in parts}
-        places = [(word - 64) // 4 for word in words if word % 4 == 0]
+        places = {(word - 64) // 4 for word in voters if word % 4 == 0}
         votes = sum(place not in bases for place in places if 0 <= place < len(words))
         gaps = self.gaps(parts)
         return votes + damage.GAP_VOTES * len(gaps), sum(it.words for it in gaps)

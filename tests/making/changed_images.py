@@ -34,14 +34,19 @@ def in_reverse(image):
     return Image(*image.laid_out(firsts, len(image.words)), image.order, image.prefix)
 
 
+def at_base(image, base):
+    """The image with this base."""
+    header, words, shift = image.header[:], image.words[:], base - image.base
+    for place in (3, 4):
+        header[place] += shift
+    for pointer in image.pointers:
+        words[pointer.place] += shift
+    return Image(header, words, image.order, image.prefix)
+
+
 def at_another_base(image):
     """The image with higher addresses."""
-    header, words = image.header[:], image.words[:]
-    for place in (3, 4):
-        header[place] += SHIFT
-    for pointer in image.pointers:
-        words[pointer.place] += SHIFT
-    return Image(header, words, image.order, image.prefix)
+    return at_base(image, image.base + SHIFT)
 
 
 def with_other_hashes(image):

@@ -1,19 +1,25 @@
-"""The best reading of damaged data words: the sequence of chunks and gaps that contradicts the
-fewest pointers.
+"""The readings of damaged data words: sequences of chunks and gaps.
 
-Each word that is the address of a data word is a vote for that word. A reading contradicts the
-votes for words at which no base header of an object stands. A gap counts as 16 contradicted votes.
-Among readings that contradict equally many, the best one skips the fewest words.
+A word is voted for if some voter is its address. A reading contradicts the votes for words at which
+no base header of an object stands. A gap counts as 4 contradicted votes. The best reading
+contradicts the fewest votes, and among those that contradict equally many it skips the fewest
+words. Every word is a voter for the first reading; then the slots of the reading before are.
+
+A file that holds an image without a fault is not damaged, whatever its words vote for.
 """
 
 import array
 import typing
 
+from tests.reference.faults import Defects
 from tests.reference.file_format import HEADER_WORDS, VERSION, bytes_of, words_of
-from tests.reference.objects import FREE, HEADER_TYPES
+from tests.reference.image import Image
+from tests.reference.names import Names
+from tests.reference.objects import FREE, HEADER_TYPES, Object, traced_end
 
 # What a gap costs, in contradicted votes.
-GAP_VOTES = 16
+GAP_VOTES = 4
+READINGS = 3
 # The sizes of a header and of what may stand before it, in bytes.
 HEADER, PREFIX_SIZE = 4 * HEADER_WORDS, 512
 
@@ -38,21 +44,21 @@ def chunk_at(words, at):
     return (base, base + size) if 0 < size <= len(words) - base else None
 
 
-def votes_of(base, words):
-    """The number of votes for each data word."""
-    votes = array.array("I", bytes(4 * len(words)))
-    end = base + 4 * len(words)
-    for word in words:
+def votes_of(base, count, voters):
+    """Whether each of this many data words is voted for: 1 or 0."""
+    votes, end = bytearray(count), base + 4 * count
+    for word in voters:
         if base <= word < end and word & 3 == 0:
-            votes[(word - base) >> 2] += 1
+            votes[(word - base) >> 2] = 1
     return votes
 
 
-def gaps_of(base, words):
-    """The gaps of the best reading of these data words, of which the first has this address.
+def best_reading(words, votes):
+    """The parts of the best reading by these votes: where each begins and ends, and whether it is a
+    gap.
 
     If several readings are best, a chunk comes before a gap, and a gap is short."""
-    count, votes = len(words), votes_of(base, words)
+    count = len(words)
     later = array.array("I", bytes(4 * (count + 1)))
     for at in reversed(range(count)):
         later[at] = later[at + 1] + votes[at]
@@ -74,20 +80,33 @@ def gaps_of(base, words):
                 best = read, after, False
         cost[at], end[at], is_gap[at] = best
         within, gap_end = (best[0], at) if best[0] <= skipped else (skipped, gap_end)
-    gaps, at = [], 0
+    parts, at = [], 0
     while at < count:
-        if is_gap[at]:
-            gaps.append(Gap(at, end[at] - at))
+        parts.append((at, end[at], bool(is_gap[at])))
         at = end[at]
-    return gaps
+    return parts
 
 
-def mended_words(base, words):
-    """These data words, with each gap of the best reading as a free chunk."""
-    mended = words[:]
-    for gap in gaps_of(base, words):
-        mended[gap.first] = 4 * gap.words + FREE
-    return mended
+def slots_of(words, parts):
+    """What the slots of the objects among these parts hold."""
+    for at, end, is_gap in parts:
+        if is_gap or words[at] & 3 == FREE:
+            continue
+        base = at + HEADER_TYPES.index(words[at] & 3)
+        if base > at:
+            yield words[base - 1] & ~3
+        yield from words[base + 1 : traced_end(words, Object(at, base, end))]
+
+
+def gaps_of(base, words):
+    """The gaps of the last reading of these data words, of which the first has this address."""
+    voters, parts = words, None
+    for _ in range(READINGS):
+        before, parts = parts, best_reading(words, votes_of(base, len(words), voters))
+        if parts == before:
+            break
+        voters = slots_of(words, parts)
+    return [Gap(at, end - at) for at, end, is_gap in parts if is_gap]
 
 
 class Mended(typing.NamedTuple):
@@ -110,7 +129,26 @@ def header_of(file):
     return None
 
 
-def mend_file(file):
+def is_sound(file, clear_weak):
+    """Whether a file, whose header has no fault, holds an image without a fault."""
+    order, offset, header = header_of(file)
+    data = file[offset + HEADER : offset + HEADER + header[2]]
+    if len(data) < header[2]:
+        return False
+    words, at = words_of(data, order), 0
+    while at < len(words):
+        chunk = chunk_at(words, at)
+        if chunk is None:
+            return False
+        at = chunk[1]
+    image, _ = Image.read(file)
+    if header[4] not in image.numbers:
+        return False
+    live = {number for number, it in enumerate(image.live(clear_weak)) if it}
+    return not Defects(Names(image, live, clear_weak)).faults()
+
+
+def mend_file(file, clear_weak=False):
     """The file as it is mended, or None if its header has a fault."""
     found = header_of(file)
     if found is None:
@@ -120,9 +158,11 @@ def mend_file(file):
     if header[1] != HEADER or size % 4 or base % 4 or base + size > 1 << 32:
         return None
     start = offset + HEADER
+    if is_sound(file, clear_weak):
+        return Mended(file, [], 0, start)
     there = min(size, len(file) - start) // 4 * 4
     words = words_of(file[start : start + there], order)
-    gaps, missing = gaps_of(base, words), size - there
+    gaps, missing = gaps_of(base, words), max(0, size - (len(file) - start))
     if not gaps and not missing:
         return Mended(file, gaps, missing, start)
     for gap in gaps:

@@ -69,7 +69,7 @@ class Repair:
 def repaired_file(file, clear_weak=False):
     """The file as it is mended and repaired, or None if that cannot be done; and the words that
     became nil or free."""
-    mended = mend_file(file)
+    mended = mend_file(file, clear_weak)
     if mended is None:
         return None, []
     order, offset, header = header_of(mended.file)

@@ -1,6 +1,6 @@
 //! Whether an image is sound.
 
-ghost use Rattle.std.specs.Prelude.{IfOk, IsTrue, ◌≡◌, ◌↔◌};
+ghost use Rattle.std.specs.Prelude.{IfOk, IsTrue, true, ◌≡◌, ◌↔◌};
 ghost use Rattle.sqz_trace.specs.Faults.{first_fault};
 ghost use Rattle.sqz_look_check.specs.Warned.{IsWarned};
 
@@ -39,14 +39,19 @@ struct CheckView<'a> {
 
 impl<'a> CheckView<'a> {
     /// Returns what was found about an image.
-    fn of(subject: &Subject<'_>, path: &'a str, findings: &Findings) -> Result<Self, AllocError> {
+    fn of(
+        subject: &Subject<'_>,
+        path: &'a str,
+        findings: &Findings,
+        sound: bool,
+    ) -> Result<Self, AllocError> {
         let mut faults = Vec::new(subject.alloc);
         for fault in &findings.faults {
             faults.push(FaultView::in_image(subject, *fault)?)?;
         }
         Ok(CheckView {
             image: path,
-            sound: findings.is_sound(),
+            sound,
             objects: Some(findings.objects),
             live_objects: Some(findings.live_objects),
             live_bytes: Some(findings.live_bytes),
@@ -103,8 +108,12 @@ impl CheckView<'_> {
     fn write_faults<W: fmt::Write>(&self, f: &mut fmt::Formatter<W>) -> fmt::Result {
         let path = self.image;
         let numbers = (self.objects, self.live_objects, self.live_bytes);
-        if let ((Some(objects), Some(live), Some(bytes)), true) = (numbers, self.sound) {
-            return write_sound(f, path, objects, live, bytes);
+        if let ((Some(objects), Some(live), Some(bytes)), true) = (
+            numbers,
+            self.faults.is_empty(),
+        ) {
+            let verdict = if self.sound { "sound" } else { "damaged" };
+            return write_numbers(f, path, verdict, objects, live, bytes);
         }
         for (index, fault) in self.faults.iter().enumerate() {
             if index > 0 {
@@ -120,16 +129,17 @@ impl CheckView<'_> {
     }
 }
 
-/// Writes that an image is sound, with its objects, its live objects and their bytes.
-fn write_sound<W: fmt::Write>(
+/// Writes what an image without a fault is, with its objects, its live objects and their bytes.
+fn write_numbers<W: fmt::Write>(
     f: &mut fmt::Formatter<W>,
     path: &str,
+    verdict: &str,
     objects: u32,
     live: u32,
     bytes: u64,
 ) -> fmt::Result {
     let objects = Counted(u64::from(objects), "object");
-    write!(f, "{path}: sound, {objects}, {live} live, ")?;
+    write!(f, "{path}: {verdict}, {objects}, {live} live, ")?;
     write_bytes(f, bytes)?;
     f.write_str(" live")
 }
@@ -146,7 +156,8 @@ pub struct CheckOptions {
 /// What was found of an image.
 #[derive(Clone, Copy)]
 pub struct Verdict {
-    /// Whether there is no fault for which a compaction rejects the image.
+    /// Whether nothing of the file was skipped, and there is no fault for which a compaction rejects
+    /// the image.
     pub is_sound: bool,
     /// Whether there are warnings, and they were asked for.
     pub has_warnings: bool,
@@ -154,17 +165,19 @@ pub struct Verdict {
 
 /// Prints whether an image is sound: its first fault, or all if these are asked for, with the names
 /// of the objects at fault, or its objects and live bytes; and the warnings, if these are asked for.
-/// Returns what was found.
+/// `is_whole` is whether nothing of its file was skipped; an image without a fault is damaged if
+/// something was. Returns what was found, as it is printed.
 pub fn print_check<C: Sink>(
     rt: &(impl Threads + Sync),
     subject: Subject<'_>,
     path: &str,
+    is_whole: bool,
     options: CheckOptions,
     out: &mut Out<'_, C>,
 ) -> Result<Verdict, PrintError>
-    ensures sound { IfOk result (λ verdict. IsTrue verdict.is_sound ↔ (first_fault
-        subject.entry.live.graph.heap.now subject.entry.live.graph.weak
-        subject.entry.live.marks ≡ None)) }
+    ensures sound { IfOk result (λ verdict. IsTrue verdict.is_sound ↔ ((is_whole ≡ true)
+        × (first_fault subject.entry.live.graph.heap.now subject.entry.live.graph.weak
+        subject.entry.live.marks ≡ None))) }
     ensures warned { IfOk result (λ verdict. IsWarned subject.entry.live.graph.heap.now
         subject.entry.live.graph.weak subject.entry.live.marks options.strict
         verdict.has_warnings) }
@@ -172,10 +185,10 @@ pub fn print_check<C: Sink>(
     let findings = findings_of(rt, subject.alloc, &subject.live, options.all)?;
     let warned = warnings_in(&subject, options.strict)?;
     let verdict = Verdict {
-        is_sound: findings.is_sound(),
+        is_sound: is_whole && findings.is_sound(),
         has_warnings: warned.are_some,
     };
-    let view = view_of(subject, path, &findings, warned.views)?;
+    let view = view_of(subject, path, &findings, verdict.is_sound, warned.views)?;
     out.emit(&view)?;
     Ok(verdict)
 }
@@ -185,11 +198,12 @@ fn view_of<'a>(
     subject: Subject<'_>,
     path: &'a str,
     findings: &Findings,
+    is_sound: bool,
     warnings: Option<Vec<WarningView>>,
 ) -> Result<CheckView<'a>, AllocError> {
-    let mut view = CheckView::of(&subject, path, findings)?;
+    let mut view = CheckView::of(&subject, path, findings, is_sound)?;
     view.warnings = warnings;
-    if !view.sound {
+    if !view.faults.is_empty() {
         view.add_owners(&Inspector::of(subject)?)?;
     }
     Ok(view)

@@ -11,8 +11,10 @@ use sqz_look_view::{Counted, Hex, write_bytes};
 use sqz_mend::{RecoverError, recover};
 use sqz_object::Address;
 use sqz_places::{bytes_in_gaps, unread_place};
+use sqz_trace::Weak;
 use std::alloc::{AllocError, Global};
 use std::fmt;
+use std::thread::Threads;
 
 /// A file from which no image could be read: its fault, and what could be read of it.
 #[derive(Drop)]
@@ -39,8 +41,13 @@ pub(crate) struct Extent {
 impl Extent {
     /// Returns how much can be read of the file with these bytes. None if no special objects array
     /// can be read.
-    fn of(alloc: Global, bytes: Vec<u8>) -> Result<Option<Self>, AllocError> {
-        match recover(alloc, bytes) {
+    fn of<T: Threads + Sync>(
+        rt: &T,
+        alloc: Global,
+        bytes: Vec<u8>,
+        weak: Weak,
+    ) -> Result<Option<Self>, AllocError> {
+        match recover(rt, alloc, bytes, weak) {
             Ok(recovered) => Ok(Some(Extent {
                 unreadable_bytes: bytes_in_gaps(&recovered.damage.gaps),
                 missing_bytes: recovered.damage.missing,
@@ -67,12 +74,17 @@ impl fmt::Display for Extent {
 impl Unreadable {
     /// Returns what could be read of a file, and how much of it can be read past a chunk that
     /// cannot be read.
-    pub fn measured(alloc: Global, file: UnreadFile) -> Result<Self, AllocError>
+    pub fn measured<T: Threads + Sync>(
+        rt: &T,
+        alloc: Global,
+        file: UnreadFile,
+        weak: Weak,
+    ) -> Result<Self, AllocError>
         requires { IsUnread file.bytes.items file }
     {
         let mut unreadable = Unreadable::of(alloc, &file)?;
         if is_damage(&unreadable.fault) {
-            unreadable.extent = Extent::of(alloc, file.bytes)?;
+            unreadable.extent = Extent::of(rt, alloc, file.bytes, weak)?;
         }
         Ok(unreadable)
     }

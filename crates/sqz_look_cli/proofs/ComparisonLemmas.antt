@@ -80,7 +80,7 @@ IfOk-always P (Err error) holds = tt
 
 module _ {F : Type 0} (left : F → Option (List ℕ)) (weak : Weak) (past : Bool) where
   -- the exit of two images that were read
-  module _ (old new : ReadImage) (old_read : IsReadImage left past (read.Image old)) (new_read : IsReadImage left past (read.Image new))
+  module _ (old new : ReadImage) (old_read : IsReadImage left weak past (read.Image old)) (new_read : IsReadImage left weak past (read.Image new))
       (is_alike : Bool) (says : IsAlikeness weak old.image new.image is_alike) where
     old_seen : ReadsSeen left weak past says.old
     old_seen = record { image = old.image; read = old_read; is_seen = says.old_is }
@@ -110,7 +110,7 @@ module _ {F : Type 0} (left : F → Option (List ℕ)) (weak : Weak) (past : Boo
 
   -- what was printed of two images that were read
   pub IsSilent-compared : {E : Type 0} (old_image new_image : ReadImage) (old mid before after : E)
-      → IsReadAs left past old mid (read.Image old_image) → IsReadAs left past mid before (read.Image new_image)
+      → IsReadAs left weak past old mid (read.Image old_image) → IsReadAs left weak past mid before (read.Image new_image)
       → (after ≡ before) ⊎ HasFault weak old_image.image ⊎ HasFault weak new_image.image → IsSilent left weak past old after
   IsSilent-compared old_image new_image old mid before after old_read new_read said =
       IsSilent-then left weak past old before after

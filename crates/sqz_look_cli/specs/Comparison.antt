@@ -44,7 +44,7 @@ pub record IsAlikeness (weak : Weak) (old_image new_image : SavedImage) (is_alik
 -- some file was read, and its image is compared so
 pub record ReadsSeen {F : Type 0} (left : F → Option (List ℕ)) (weak : Weak) (past : Bool) (seen : Seen) : Type 0 where
   pub image : SavedImage
-  pub read : ReadsSome left (λ bytes. IsImageOf past bytes image)
+  pub read : ReadsSome left (λ bytes. IsImageOf weak past bytes image)
   pub is_seen : IsSeenAs weak image seen
 
 -- two files were read, and the exit is 0 exactly if their images are alike, and else 1
@@ -57,8 +57,8 @@ pub record AreCompared {F : Type 0} (left : F → Option (List ℕ)) (weak : Wea
   pub alike : (exit ≡ 0) ↔ ∥ AreAlike old new ∥₁
 
 -- a file was read that holds no image, or, past what cannot be read, one that is damaged
-abbrev pub ReadsNone : {F : Type 0} → (F → Option (List ℕ)) → Bool → Type 0
-ReadsNone left past = ReadsSome left HoldsNone ⊎ ReadsDamaged left past
+abbrev pub ReadsNone : {F : Type 0} → (F → Option (List ℕ)) → Weak → Bool → Type 0
+ReadsNone left weak past = ReadsSome left HoldsNone ⊎ ReadsDamaged left weak past
 
 -- a fact, if what is asked about is not there
 abbrev pub IfNotThere : Failure → Type 0 → Type 0
@@ -71,8 +71,8 @@ IfNotThere (NotThere message) P = P
 -- how a comparison ends: with the exit of two files, or without an image if one of them holds none
 pub record EndsComparison {F : Type 0} (left : F → Option (List ℕ)) (weak : Weak) (past : Bool) (outcome : Result ℕ Failure) : Type 0 where
   pub compared : IfOk outcome (AreCompared left weak past)
-  pub not_there : IfErr outcome (λ failure. IfNotThere failure (ReadsNone left past))
+  pub not_there : IfErr outcome (λ failure. IfNotThere failure (ReadsNone left weak past))
 
 -- exits 0 and 1: those of two files, or 1 if one of them holds no image
 abbrev pub IsCompared : {F : Type 0} → (F → Option (List ℕ)) → Weak → Bool → ℕ → Type 0
-IsCompared left weak past exit = AreCompared left weak past exit ⊎ ((exit ≡ 1) × ReadsNone left past)
+IsCompared left weak past exit = AreCompared left weak past exit ⊎ ((exit ≡ 1) × ReadsNone left weak past)

@@ -57,18 +57,18 @@ pub(crate) fn compare<T: Files + Threads + Sync, C: Sink, E: Sink>(
 }
 
 /// Returns the image in the file with this path. A failure says which file it is about.
-fn image_at<T: Files, C: Sink, E: Sink>(
+fn image_at<T: Files + Threads + Sync, C: Sink, E: Sink>(
     session: &Session<'_, T>,
     path: &str,
     out: &mut Out<'_, C>,
     err: &mut E,
 ) -> Result<ReadImage, Failure>
-    ensures read { IfOk result (λ image. IsReadAs T.File.remaining session.now.past_damage
-        err.old err.new (read.Image image)) }
-    ensures image { IfOk result (λ image. IsReadImage T.File.remaining session.now.past_damage
-        (read.Image image)) }
+    ensures read { IfOk result (λ image. IsReadAs T.File.remaining session.now.weak
+        session.now.past_damage err.old err.new (read.Image image)) }
+    ensures image { IfOk result (λ image. IsReadImage T.File.remaining session.now.weak
+        session.now.past_damage (read.Image image)) }
     ensures not_there { IfErr result (λ failure. IfNotThere failure
-        (ReadsNone T.File.remaining session.now.past_damage)) }
+        (ReadsNone T.File.remaining session.now.weak session.now.past_damage)) }
 {
     match session.read(path, false, out, err) {
         Ok(ReadFile::Image(image)) => Ok(image),

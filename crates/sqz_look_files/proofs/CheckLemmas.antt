@@ -11,7 +11,10 @@ use Rattle.sqz_trace.specs.declared.weak.Weak.{Weak}
 use Rattle.sqz_trace.specs.Faults.{first_fault}
 use Rattle.sqz_trace.specs.Reachability.{IsReachability}
 use Rattle.sqz_look_files.specs.declared.failure.Failure.{Failure}
-use Rattle.sqz_look_files.specs.declared.loading.Loaded.TheVariants.{Image}
+use Rattle.sqz_look_files.specs.declared.loading.Loaded.TheVariants as whole_file
+use Rattle.sqz_look_files.specs.declared.session.ReadFile.TheVariants.{Image}
+use Rattle.sqz_look_files.specs.declared.session.ReadImage.{ReadImage}
+use Rattle.sqz_look_files.specs.Damaged.{IsReadAs}
 use Rattle.sqz_look_files.specs.Checks.{IsLoaded, IsStrictly}
 use Rattle.sqz_look_files.specs.Verdicts.{ReadsUnsound, IsChecked, IsImageExit, AreChecked, EndsChecks, StopsChecks, worst_of}
 use Rattle.sqz_look_check.specs.Warned.{HasFindings}
@@ -37,7 +40,7 @@ IsAnswerExit-max one other (low, not_one) (below, not_other) = (
 )
 
 module _ {F : Type 0} (left : F → Option (List ℕ)) (weak : Weak) (past strict : Bool) where
-  module _ (image : SavedImage) (marks : List Bool) (loaded : IsLoaded left (Image image))
+  module _ (image : SavedImage) (marks : List Bool) (loaded : IsLoaded left (whole_file.Image image))
       (reachable : ∥ IsReachability image.memory weak marks ∥₁) where
     strictly : (some : Bool) → HasFindings image.memory weak marks some → IsStrictly weak loaded.bytes some
     strictly some has = record { image = image; holds = loaded.held; marks = marks; reachable = reachable; has = has }
@@ -52,7 +55,7 @@ module _ {F : Type 0} (left : F → Option (List ℕ)) (weak : Weak) (past stric
         })
 
     -- the exit for an image that was loaded
-    IsChecked-loaded : (exit : ℕ) → IsImageExit image.memory weak marks strict exit → IsChecked left weak past strict exit
+    IsChecked-loaded : (exit : ℕ) → IsImageExit image.memory weak marks true strict exit → IsChecked left weak past strict exit
     IsChecked-loaded zero is =
         let clean = is.clean.0 refl in
         inl (
@@ -61,9 +64,9 @@ module _ {F : Type 0} (left : F → Option (List ℕ)) (weak : Weak) (past stric
             bytes = loaded.bytes;
             read = loaded.read;
             fact = record {
-              sound = record { image = image; holds = loaded.held; marks = marks; reachable = reachable; fault = clean.0 };
+              sound = record { image = image; holds = loaded.held; marks = marks; reachable = reachable; fault = clean.1 };
               no_warning = λ asked.
-                  strictly false (subst (HasFindings image.memory weak marks) clean.1 (is.is_warned.asked asked));
+                  strictly false (subst (HasFindings image.memory weak marks) clean.2 (is.is_warned.asked asked));
             };
           },
         )
@@ -84,21 +87,43 @@ module _ {F : Type 0} (left : F → Option (List ℕ)) (weak : Weak) (past stric
             ))
         at true some false asked = let bad : true ≡ false = sym some ∙ is.is_warned.unasked asked in cc
         at false none asked known =
-            inr (inl (refl, inl (unsound (λ sound. let zero_is = is.clean.1 (sound, none) in omega arith))))
+            inr (inl (refl, inl (unsound (λ sound. let zero_is = is.clean.1 (refl, sound, none) in omega arith))))
     IsChecked-loaded (suc (suc exit)) is = absurd (let low = is.low in omega arith)
 
   -- the same for its live objects, over the memory and the policy that they are known by
   pub IsChecked-image : (image : SavedImage) (memory : Memory) (policy : Weak) (marks : List Bool) (exit : ℕ)
-      → IsLoaded left (Image image) → memory ≡ image.memory → policy ≡ weak
-      → ∥ IsReachability memory policy marks ∥₁ → IsImageExit memory policy marks strict exit
+      → IsLoaded left (whole_file.Image image) → memory ≡ image.memory → policy ≡ weak
+      → ∥ IsReachability memory policy marks ∥₁ → IsImageExit memory policy marks true strict exit
       → IsChecked left weak past strict exit
   IsChecked-image image memory policy marks exit loaded same_memory same_policy reachable is =
       let Marked : Memory → Weak → Type 0 = λ m p. ∥ IsReachability m p marks ∥₁ in
-      let Says : Memory → Weak → Type 0 = λ m p. IsImageExit m p marks strict exit in
+      let Says : Memory → Weak → Type 0 = λ m p. IsImageExit m p marks true strict exit in
       IsChecked-loaded image marks loaded
       (subst (Marked image.memory) same_policy (subst (λ (m : Memory). Marked m policy) same_memory reachable))
       exit
       (subst (Says image.memory) same_policy (subst (λ (m : Memory). Says m policy) same_memory is))
+
+  -- the exit for an image that was read, of which something may have been skipped
+  pub IsChecked-read : {E : Type 0} (read : ReadImage) (memory : Memory) (policy : Weak) (marks : List Bool) (exit : ℕ) (old new : E)
+      → IsReadAs left weak past old new (Image read) → memory ≡ read.image.memory → policy ≡ weak
+      → ∥ IsReachability memory policy marks ∥₁ → IsImageExit memory policy marks read.is_whole strict exit
+      → IsChecked left weak past strict exit × (exit ≡ 0 → new ≡ old)
+  IsChecked-read read memory policy marks exit old new (loaded, damaged) same_memory same_policy reachable is =
+      at read.is_whole refl
+    where
+      at : (whole : Bool) → read.is_whole ≡ whole → IsChecked left weak past strict exit × (exit ≡ 0 → new ≡ old)
+      at true whole = (
+        IsChecked-image read.image memory policy marks exit (loaded whole).1 same_memory same_policy reachable
+            (subst (λ (w : Bool). IsImageExit memory policy marks w strict exit) whole is),
+        λ zero. (loaded whole).0,
+      )
+      at false skipped = (
+        inr (inl (
+          (let low = is.low in let not_zero : exit ≡ 0 → ⊥ = λ zero. let whole = (is.clean.0 zero).0 in cc in omega (arith, not_zero)),
+          inl (inr (damaged skipped)),
+        )),
+        λ zero. let whole = (is.clean.0 zero).0 in absurd cc,
+      )
 
   -- no file is checked
   pub AreChecked-none : AreChecked left weak past strict 0 0

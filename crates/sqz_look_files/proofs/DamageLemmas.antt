@@ -5,6 +5,7 @@ use Rattle.sqz_image.specs.declared.fault.Fault.TheVariants.{OutOfMemory}
 use Rattle.sqz_image.specs.declared.reading.UnreadFile.{UnreadFile}
 use Rattle.sqz_image.specs.Refusals.{Holds}
 use Rattle.sqz_image.specs.Unread.{IsUnread}
+use Rattle.sqz_trace.specs.declared.weak.Weak.{Weak}
 use Rattle.sqz_damage.specs.declared.gap.Gap.{Gap}
 use Rattle.sqz_mend.specs.declared.damage.Damage.{Damage}
 use Rattle.sqz_mend.specs.declared.recovery.MendedFile.{MendedFile}
@@ -37,16 +38,17 @@ HoldsNone-unread bytes unread known is = (
 )
 
 -- what is given back of a file is not read either
-pub IsUnread-recovered : (bytes : List ℕ) (unread : UnreadFile) → IsNotRecovered bytes unread → IsUnread unread.bytes.items unread
-IsUnread-recovered bytes unread (inl is) = subst (λ (b : List ℕ). IsUnread b unread) (sym is.bytes) is
-IsUnread-recovered bytes unread (inr holds) =
+pub IsUnread-recovered : (weak : Weak) (bytes : List ℕ) (unread : UnreadFile) → IsNotRecovered weak bytes unread → IsUnread unread.bytes.items unread
+IsUnread-recovered weak bytes unread (inl is) =
+    subst (λ (b : List ℕ). IsUnread b unread) (sym is.is_unread.bytes) is.is_unread
+IsUnread-recovered weak bytes unread (inr holds) =
     subst (λ (b : List ℕ). IsUnread b unread) (sym holds.is_unread.bytes) holds.is_unread
 
 -- nothing was recovered of a file: it holds no image, or it is damaged
-pub HoldsNone-recovered : (bytes : List ℕ) (unread : UnreadFile) → unread.fault ≢ OutOfMemory → IsNotRecovered bytes unread
-    → HoldsNone bytes ⊎ IsDamaged bytes
-HoldsNone-recovered bytes unread known (inl is) = inl (HoldsNone-unread bytes unread known is)
-HoldsNone-recovered bytes unread known (inr holds) = elim (IsNone-or holds.damage) [
+pub HoldsNone-recovered : (weak : Weak) (bytes : List ℕ) (unread : UnreadFile) → unread.fault ≢ OutOfMemory
+    → IsNotRecovered weak bytes unread → HoldsNone bytes ⊎ IsDamaged weak bytes
+HoldsNone-recovered weak bytes unread known (inl is) = inl (HoldsNone-unread bytes unread known is.is_unread)
+HoldsNone-recovered weak bytes unread known (inr holds) = elim (IsNone-or holds.damage) [
   | inl none ↦
       inl (HoldsNone-unread bytes unread known (subst (λ (b : List ℕ). IsUnread b unread) (holds.read_as.whole none) holds.is_unread))
   | inr some ↦
@@ -59,7 +61,8 @@ HoldsNone-recovered bytes unread known (inr holds) = elim (IsNone-or holds.damag
       })
 ]
 
-module _ {F : Type 0} (left : F → Option (List ℕ)) (recovered : Recovered) (loaded : IsLoadedPast left (past.Image recovered)) where
+module _ {F : Type 0} (left : F → Option (List ℕ)) (weak : Weak) (recovered : Recovered)
+    (loaded : IsLoadedPast left weak (past.Image recovered)) where
   -- a file without damage holds the image itself
   pub IsLoaded-recovered : IsNone recovered.damage → IsLoaded left (whole.Image recovered.image)
   IsLoaded-recovered none = record {
@@ -69,7 +72,7 @@ module _ {F : Type 0} (left : F → Option (List ℕ)) (recovered : Recovered) (
   }
 
   -- the image is what the file holds past what cannot be read
-  pub HoldsPast-recovered : ReadsSome left (λ bytes. HoldsPast bytes recovered.image)
+  pub HoldsPast-recovered : ReadsSome left (λ bytes. HoldsPast weak bytes recovered.image)
   HoldsPast-recovered = record {
     bytes = loaded.bytes;
     read = loaded.read;
@@ -77,7 +80,7 @@ module _ {F : Type 0} (left : F → Option (List ℕ)) (recovered : Recovered) (
   }
 
   -- any other one is damaged
-  pub ReadsSome-recovered : (IsNone recovered.damage → ⊥) → ReadsSome left IsDamaged
+  pub ReadsSome-recovered : (IsNone recovered.damage → ⊥) → ReadsSome left (IsDamaged weak)
   ReadsSome-recovered some = record {
     bytes = loaded.bytes;
     read = loaded.read;
@@ -91,9 +94,9 @@ module _ {F : Type 0} (left : F → Option (List ℕ)) (recovered : Recovered) (
   }
 
 -- a damaged file that was mended
-pub ReadsSome-mended : {F : Type 0} (left : F → Option (List ℕ)) (bytes : List ℕ) (mended : MendedFile) → ReadsFile left bytes
-    → IsMendedFile bytes mended → (IsNone mended.damage → ⊥) → ReadsSome left IsDamaged
-ReadsSome-mended left bytes mended read is some = record {
+pub ReadsSome-mended : {F : Type 0} (left : F → Option (List ℕ)) (weak : Weak) (bytes : List ℕ) (mended : MendedFile) → ReadsFile left bytes
+    → IsMendedFile weak bytes mended → (IsNone mended.damage → ⊥) → ReadsSome left (IsDamaged weak)
+ReadsSome-mended left weak bytes mended read is some = record {
   bytes = bytes;
   read = read;
   fact = record {

@@ -40,7 +40,7 @@ module _ {F : Type 0} (left : F → Option (List ℕ)) (weak : Weak) (past : Boo
       inr (inl (inl (unsound image memory policy marks loaded (sym same_memory) (sym same_policy) reachable faulty)))
 
   -- what was printed of the damage of an image
-  pub IsSilent-damage : {E : Type 0} (image : ReadImage) (old new : E) → IsReadAs left past old new (read.Image image) → IsSilent left weak past old new
+  pub IsSilent-damage : {E : Type 0} (image : ReadImage) (old new : E) → IsReadAs left weak past old new (read.Image image) → IsSilent left weak past old new
   IsSilent-damage image old new (whole, damaged) = at image.is_whole refl
     where
       at : (is_whole : Bool) → image.is_whole ≡ is_whole → IsSilent left weak past old new
@@ -49,7 +49,7 @@ module _ {F : Type 0} (left : F → Option (List ℕ)) (weak : Weak) (past : Boo
 
   -- a warning of an image that was read before
   pub IsSilent-warned : {E : Type 0} (image : ReadImage) (memory : Memory) (policy : Weak) (marks : List Bool) (before after old new : E)
-      → IsReadAs left past before after (read.Image image) → memory ≡ image.image.memory → policy ≡ weak
+      → IsReadAs left weak past before after (read.Image image) → memory ≡ image.image.memory → policy ≡ weak
       → ∥ IsReachability memory policy marks ∥₁
       → (new ≡ old) ⊎ (first_fault memory policy marks ≢ None) → IsSilent left weak past old new
   IsSilent-warned image memory policy marks before after old new (whole, damaged) same_memory same_policy reachable said =
@@ -68,7 +68,7 @@ module _ {F : Type 0} (left : F → Option (List ℕ)) (weak : Weak) (past : Boo
 
   -- what was printed of the damage of an image, and then a warning of it
   pub IsSilent-read : {E : Type 0} (image : ReadImage) (memory : Memory) (policy : Weak) (marks : List Bool) (old mid new : E)
-      → IsReadAs left past old mid (read.Image image) → memory ≡ image.image.memory → policy ≡ weak
+      → IsReadAs left weak past old mid (read.Image image) → memory ≡ image.image.memory → policy ≡ weak
       → ∥ IsReachability memory policy marks ∥₁
       → (new ≡ mid) ⊎ (first_fault memory policy marks ≢ None) → IsSilent left weak past old new
   IsSilent-read image memory policy marks old mid new was_read same_memory same_policy reachable said =

@@ -21,15 +21,15 @@ pub record IsWritten (weak : Weak) (nil : Bool) (mended bytes : List ℕ) : Type
   pub repaired : nil ≡ true → AreRepaired weak mended bytes
 
 -- some file was read, and is mended so
-pub record ReadsMended {F : Type 0} (left : F → Option (List ℕ)) (mended : MendedFile) : Type 0 where
+pub record ReadsMended {F : Type 0} (left : F → Option (List ℕ)) (weak : Weak) (mended : MendedFile) : Type 0 where
   pub file : List ℕ
   pub read : ReadsFile left file
-  pub is_mended : IsMendedFile file mended
+  pub is_mended : IsMendedFile weak file mended
 
 -- some file was read, and written as it is mended
 pub record WritesMended {F : Type 0} (left : F → Option (List ℕ)) (weak : Weak) (nil : Bool) (old new : SinkState) : Type 0 where
   pub mended : MendedFile
-  pub reads : ReadsMended left mended
+  pub reads : ReadsMended left weak mended
   pub bytes : List ℕ
   pub asked : IsWritten weak nil mended.bytes.items bytes
   pub written : WritesWhole old new bytes
@@ -43,5 +43,5 @@ pub record HasDangling (weak : Weak) (mended : List ℕ) : Type 0 where
 -- some file was read in which, after it was mended, pointers lead nowhere
 pub record ReadsDangling {F : Type 0} (left : F → Option (List ℕ)) (weak : Weak) : Type 0 where
   pub mended : MendedFile
-  pub reads : ReadsMended left mended
+  pub reads : ReadsMended left weak mended
   pub dangling : HasDangling weak mended.bytes.items

@@ -11,7 +11,7 @@ use Rattle.sqz_look_files.specs.Damaged.{ReadsDamaged}
 
 -- a file was read that is not sound; one that is damaged is not, if damage is looked for
 abbrev pub ReadsUnsound : {F : Type 0} → (F → Option (List ℕ)) → Weak → Bool → Type 0
-ReadsUnsound left weak past = ReadsSome left (IsUnsound weak) ⊎ ReadsDamaged left past
+ReadsUnsound left weak past = ReadsSome left (IsUnsound weak) ⊎ ReadsDamaged left weak past
 
 -- a file was read that is not sound, or about which there are warnings if these are asked for
 abbrev pub ReadsFaulty : {F : Type 0} → (F → Option (List ℕ)) → Weak → Bool → Bool → Type 0
@@ -25,12 +25,13 @@ IsChecked left weak past strict exit =
     ((exit ≡ 0) × ReadsSome left (IsClean weak strict)) ⊎ ((exit ≡ 1) × ReadsFaulty left weak past strict)
     ⊎ (exit ≡ 3) ⊎ (exit ≡ 4)
 
--- the exit for an image: 0 exactly if it has no fault and, if warnings are asked for, there are none
-pub record IsImageExit (memory : Memory) (weak : Weak) (marks : List Bool) (strict : Bool) (exit : ℕ) : Type 0 where
+-- the exit for an image: 0 exactly if nothing of its file was skipped, it has no fault and, if
+-- warnings are asked for, there are none
+pub record IsImageExit (memory : Memory) (weak : Weak) (marks : List Bool) (whole strict : Bool) (exit : ℕ) : Type 0 where
   pub warned : Bool
   pub is_warned : IsWarned memory weak marks strict warned
   pub low : exit ≤ 1
-  pub clean : (exit ≡ 0) ↔ ((first_fault memory weak marks ≡ None) × (warned ≡ false))
+  pub clean : (exit ≡ 0) ↔ ((whole ≡ true) × (first_fault memory weak marks ≡ None) × (warned ≡ false))
 
 -- the greatest of some exits, and 0 of none
 abbrev pub worst_of : List ℕ → ℕ

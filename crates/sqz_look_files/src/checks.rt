@@ -78,8 +78,7 @@ fn check_one<T: Files + Threads + Sync, C: Sink, E: Sink>(
     match session.read(path, true, out, err) {
         Ok(ReadFile::Image(read)) => {
             let subject = session.subject(&read.image)?;
-            let exit = check_image(session.rt, subject, path, options, out)?;
-            Ok(if read.is_whole { exit } else { BAD_IMAGE })
+            Ok(check_image(session.rt, subject, path, read.is_whole, options, out)?)
         }
         Ok(ReadFile::Unreadable(unreadable)) => {
             print_check_unreadable(session.alloc, &unreadable, path, out)?;
@@ -95,18 +94,20 @@ fn check_one<T: Files + Threads + Sync, C: Sink, E: Sink>(
     }
 }
 
-/// Prints whether an image is sound, and returns the exit.
+/// Prints whether an image is sound, and returns the exit. `is_whole` is whether nothing of its file
+/// was skipped.
 fn check_image<T: Threads + Sync, C: Sink>(
     rt: &T,
     subject: Subject<'_>,
     path: &str,
+    is_whole: bool,
     options: CheckOptions,
     out: &mut Out<'_, C>,
 ) -> Result<u8, PrintError>
     ensures { IfOk result (IsImageExit subject.entry.live.graph.heap.now
-        subject.entry.live.graph.weak subject.entry.live.marks options.strict) }
+        subject.entry.live.graph.weak subject.entry.live.marks is_whole options.strict) }
 {
-    let verdict = print_check(rt, subject, path, options, out)?;
+    let verdict = print_check(rt, subject, path, is_whole, options, out)?;
     Ok(if verdict.is_sound && !verdict.has_warnings {
         DONE
     } else {

@@ -8,10 +8,12 @@ ghost use Rattle.sqz_look_files.specs.Damaged.{IsHeldPast, IsLoadedPast};
 use sqz_image::{Fault, Image, ReadSource, UnreadFile, image_or_file, read_image_bytes};
 use sqz_look_check::{ReadFailure, Unreadable};
 use sqz_mend::{RecoverError, Recovered, recover};
+use sqz_trace::Weak;
 use std::alloc::{AllocError, Global};
 use std::fs::{File, OpenFile};
 use std::io::Read;
 use std::rt::Files;
+use std::thread::Threads;
 
 /// What a file holds.
 #[derive(Drop)]
@@ -44,28 +46,30 @@ impl From<AllocError> for LoadError {
 
 /// Returns what the file with this path holds; if `measures`, with how much can be read of one that
 /// holds no image. The file is read once.
-pub(crate) fn load<T: Files>(
+pub(crate) fn load<T: Files + Threads + Sync>(
     rt: &T,
     alloc: Global,
     path: &str,
+    weak: Weak,
     measures: bool,
 ) -> Result<Loaded, LoadError>
     ensures { IfOk result (IsLoaded T.File.remaining) }
 {
     let bytes = bytes_of(rt, alloc, path)?;
-    Ok(loaded_of(alloc, bytes, measures)?)
+    Ok(loaded_of(rt, alloc, bytes, weak, measures)?)
 }
 
 /// Returns what the file with this path holds past what cannot be read. The file is read once.
-pub(crate) fn load_past_damage<T: Files>(
+pub(crate) fn load_past_damage<T: Files + Threads + Sync>(
     rt: &T,
     alloc: Global,
     path: &str,
+    weak: Weak,
 ) -> Result<LoadedPast, LoadError>
-    ensures { IfOk result (IsLoadedPast T.File.remaining) }
+    ensures { IfOk result (IsLoadedPast T.File.remaining weak) }
 {
     let bytes = bytes_of(rt, alloc, path)?;
-    Ok(recovered_of(alloc, bytes)?)
+    Ok(recovered_of(rt, alloc, bytes, weak)?)
 }
 
 /// Returns the bytes of the file with this path, or only the first ones if these show that it holds
@@ -97,43 +101,56 @@ fn is_directory<F: OpenFile>(file: &F) -> bool {
 }
 
 /// Returns what the file with these bytes holds.
-fn loaded_of(alloc: Global, bytes: Vec<u8>, measures: bool) -> Result<Loaded, AllocError>
+fn loaded_of<T: Threads + Sync>(
+    rt: &T,
+    alloc: Global,
+    bytes: Vec<u8>,
+    weak: Weak,
+    measures: bool,
+) -> Result<Loaded, AllocError>
     ensures { IfOk result (IsHeldBy bytes.items) }
 {
     match image_or_file(alloc, bytes) {
         Ok(image) => Ok(Loaded::Image(image)),
         Err(unread) => match unread.fault {
             Fault::OutOfMemory => Err(AllocError),
-            _ => Ok(Loaded::Unreadable(unreadable_of(alloc, unread, measures)?)),
+            _ => Ok(Loaded::Unreadable(unreadable_of(rt, alloc, unread, weak, measures)?)),
         },
     }
 }
 
 /// Returns what could be read of a file without an image.
-fn unreadable_of(
+fn unreadable_of<T: Threads + Sync>(
+    rt: &T,
     alloc: Global,
     unread: UnreadFile,
+    weak: Weak,
     measures: bool,
 ) -> Result<Unreadable, AllocError>
     requires { IsUnread unread.bytes.items unread }
 {
     if measures {
-        Unreadable::measured(alloc, unread)
+        Unreadable::measured(rt, alloc, unread, weak)
     } else {
         Unreadable::of(alloc, &unread)
     }
 }
 
 /// Returns what the file with these bytes holds past what cannot be read.
-fn recovered_of(alloc: Global, bytes: Vec<u8>) -> Result<LoadedPast, AllocError>
-    ensures { IfOk result (IsHeldPast bytes.items) }
+fn recovered_of<T: Threads + Sync>(
+    rt: &T,
+    alloc: Global,
+    bytes: Vec<u8>,
+    weak: Weak,
+) -> Result<LoadedPast, AllocError>
+    ensures { IfOk result (IsHeldPast weak bytes.items) }
 {
-    match recover(alloc, bytes) {
+    match recover(rt, alloc, bytes, weak) {
         Ok(recovered) => Ok(LoadedPast::Image(recovered)),
         Err(RecoverError::OutOfMemory) => Err(AllocError),
         Err(RecoverError::NoImage(unread)) => match unread.fault {
             Fault::OutOfMemory => Err(AllocError),
-            _ => Ok(LoadedPast::Unreadable(unreadable_of(alloc, unread, false)?)),
+            _ => Ok(LoadedPast::Unreadable(unreadable_of(rt, alloc, unread, weak, false)?)),
         },
     }
 }

@@ -47,12 +47,15 @@ pub fn mend<T: Files + Threads + Sync, C: Sink, E: Sink>(
 }
 
 /// Returns the file with this path as it is mended.
-fn mended_at<T: Files>(session: &Session<'_, T>, path: &str) -> Result<MendedFile, Failure>
-    ensures { IfOk result (ReadsMended T.File.remaining) }
+fn mended_at<T: Files + Threads + Sync>(
+    session: &Session<'_, T>,
+    path: &str,
+) -> Result<MendedFile, Failure>
+    ensures { IfOk result (ReadsMended T.File.remaining session.now.weak) }
 {
     let alloc = session.alloc;
     let bytes = bytes_of(session.rt, alloc, path)?;
-    match mend_file(alloc, bytes) {
+    match mend_file(session.rt, alloc, bytes, session.weak) {
         Ok(mended) => Ok(mended),
         Err(RecoverError::OutOfMemory) => Err(Failure::OutOfMemory),
         Err(RecoverError::NoImage(unread)) => {

@@ -15,6 +15,7 @@ use sqz_trace::Weak;
 use std::alloc::{AllocError, Global};
 use std::io::Read;
 use std::rt::Files;
+use std::thread::Threads;
 
 /// What questions are answered with: the runtime, the allocator, the policy on weak slots, and
 /// whether images are read past damage.
@@ -66,7 +67,7 @@ impl<T> Session<'_, T> {
     }
 }
 
-impl<T: Files> Session<'_, T> {
+impl<T: Files + Threads + Sync> Session<'_, T> {
     /// Reads the file with this path, and prints what was skipped of it, if anything. If
     /// `measures`, finds how much can be read of one that holds no image.
     pub fn read<C: Sink, E: Sink>(
@@ -76,21 +77,24 @@ impl<T: Files> Session<'_, T> {
         out: &mut Out<'_, C>,
         err: &mut E,
     ) -> Result<ReadFile, Failure>
-        ensures read { IfOk result (IsReadAs T.File.remaining self.now.past_damage
-            err.old err.new) }
-        ensures image { IfOk result (IsReadImage T.File.remaining self.now.past_damage) }
+        ensures read { IfOk result (IsReadAs T.File.remaining self.now.weak
+            self.now.past_damage err.old err.new) }
+        ensures image { IfOk result (IsReadImage T.File.remaining self.now.weak
+            self.now.past_damage) }
         ensures failed { IfErr result IsReadFailure }
     {
         if self.past_damage {
             return self.read_past_damage(path, out, err);
         }
-        Ok(match load(self.rt, self.alloc, path, measures)? {
-            Loaded::Image(image) => ReadFile::Image(ReadImage {
-                image,
-                is_whole: true,
-            }),
-            Loaded::Unreadable(unreadable) => ReadFile::Unreadable(unreadable),
-        })
+        Ok(
+            match load(self.rt, self.alloc, path, self.weak, measures)? {
+                Loaded::Image(image) => ReadFile::Image(ReadImage {
+                    image,
+                    is_whole: true,
+                }),
+                Loaded::Unreadable(unreadable) => ReadFile::Unreadable(unreadable),
+            },
+        )
     }
 
     /// Reads the file with this path past what cannot be read, and prints what was skipped of it,
@@ -102,12 +106,13 @@ impl<T: Files> Session<'_, T> {
         err: &mut E,
     ) -> Result<ReadFile, Failure>
         requires { self.now.past_damage ≡ true }
-        ensures read { IfOk result (IsReadAs T.File.remaining self.now.past_damage
-            err.old err.new) }
-        ensures image { IfOk result (IsReadImage T.File.remaining self.now.past_damage) }
+        ensures read { IfOk result (IsReadAs T.File.remaining self.now.weak
+            self.now.past_damage err.old err.new) }
+        ensures image { IfOk result (IsReadImage T.File.remaining self.now.weak
+            self.now.past_damage) }
         ensures failed { IfErr result IsReadFailure }
     {
-        let recovered = match load_past_damage(self.rt, self.alloc, path)? {
+        let recovered = match load_past_damage(self.rt, self.alloc, path, self.weak)? {
             LoadedPast::Image(recovered) => recovered,
             LoadedPast::Unreadable(unreadable) => return Ok(ReadFile::Unreadable(unreadable)),
         };

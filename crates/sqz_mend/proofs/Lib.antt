@@ -1,2 +1,3 @@
 pub mod DataLemmas
 mod MendLemmas
+mod SoundnessLemmas

@@ -1,3 +1,4 @@
+pub mod Soundness
 pub mod Damaged
 pub mod Mended
 pub mod Recovery

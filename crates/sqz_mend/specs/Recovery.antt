@@ -1,9 +1,12 @@
 -- What a damaged image file holds besides its damage.
-use Rattle.std.specs.Prelude.{◌≡◌, ◌⊎◌, ℕ, List}
+use Rattle.std.specs.Prelude.{◌≡◌, ◌⊎◌, ℕ, List, Some}
+use Rattle.sqz_image.specs.declared.fault.Fault.{Fault}
 use Rattle.sqz_image.specs.declared.header.Header.{Header}
 use Rattle.sqz_image.specs.declared.reading.UnreadFile.{UnreadFile}
-use Rattle.sqz_image.specs.Refusals.{Holds}
+use Rattle.sqz_image.specs.File.{IsHeader, HasNoHeader}
+use Rattle.sqz_image.specs.Refusals.{Holds, words_fault}
 use Rattle.sqz_image.specs.Unread.{IsUnread}
+use Rattle.sqz_trace.specs.declared.weak.Weak.{Weak}
 use Rattle.sqz_mend.specs.declared.damage.Damage.{Damage}
 use Rattle.sqz_mend.specs.declared.recovery.MendedFile.{MendedFile}
 use Rattle.sqz_mend.specs.declared.recovery.Recovered.{Recovered}
@@ -19,40 +22,49 @@ pub record AreReadAs (file : List ℕ) (header : Header) (damage : Damage) (byte
   pub mended : (IsNone damage → ⊥) → IsMended file header damage bytes
 
 -- the file as it is mended
-pub record IsMendedFile (file : List ℕ) (mended : MendedFile) : Type 0 where
+pub record IsMendedFile (weak : Weak) (file : List ℕ) (mended : MendedFile) : Type 0 where
   pub header : HasSoundWords file mended.header
-  pub damage : IsDamageOf file mended.header mended.damage
+  pub damage : IsDamageOf weak file mended.header mended.damage
   pub read_as : AreReadAs file mended.header mended.damage mended.bytes.items
+
+-- the header of a file has this fault: the file has no header, or the words of its header have it
+abbrev pub HasHeaderFault : List ℕ → Fault → Type 0
+HasHeaderFault file fault =
+    HasNoHeader file ⊎ ((header : Header) × IsHeader file header × (words_fault header.words ≡ Some fault))
+
+-- the file holds no image, since its header has a fault
+pub record HasBadHeader (file : List ℕ) (unread : UnreadFile) : Type 0 where
+  pub is_unread : IsUnread file unread
+  pub bad : HasHeaderFault file unread.fault
 
 -- the file was not mended, for this reason
 abbrev pub StopsMending : List ℕ → RecoverError → Type 0
 StopsMending file OutOfMemory = Unit {0}
-StopsMending file (NoImage unread) = IsUnread file unread
+StopsMending file (NoImage unread) = HasBadHeader file unread
 
 -- the image that the file holds besides its damage
-pub record IsRecovered (file : List ℕ) (recovered : Recovered) : Type 0 where
+pub record IsRecovered (weak : Weak) (file : List ℕ) (recovered : Recovered) : Type 0 where
   pub header : HasSoundWords file recovered.header
-  pub damage : IsDamageOf file recovered.header recovered.damage
+  pub damage : IsDamageOf weak file recovered.header recovered.damage
   pub bytes : List ℕ
   pub read_as : AreReadAs file recovered.header recovered.damage bytes
   pub holds : Holds bytes recovered.image
 
 -- the file with its damage mended holds no image
-pub record HoldsNoneMended (file : List ℕ) (unread : UnreadFile) : Type 0 where
+pub record HoldsNoneMended (weak : Weak) (file : List ℕ) (unread : UnreadFile) : Type 0 where
   pub header : Header
   pub is_header : HasSoundWords file header
   pub damage : Damage
-  pub is_damage : IsDamageOf file header damage
+  pub is_damage : IsDamageOf weak file header damage
   pub bytes : List ℕ
   pub read_as : AreReadAs file header damage bytes
   pub is_unread : IsUnread bytes unread
 
--- the file holds no image: the words of its header have a fault, or it has none, or it holds none
--- after its damage was mended
-abbrev pub IsNotRecovered : List ℕ → UnreadFile → Type 0
-IsNotRecovered file unread = IsUnread file unread ⊎ HoldsNoneMended file unread
+-- the file holds no image: its header has a fault, or it holds none after its damage was mended
+abbrev pub IsNotRecovered : Weak → List ℕ → UnreadFile → Type 0
+IsNotRecovered weak file unread = HasBadHeader file unread ⊎ HoldsNoneMended weak file unread
 
 -- nothing was recovered of the file, for this reason
-abbrev pub StopsRecovery : List ℕ → RecoverError → Type 0
-StopsRecovery file OutOfMemory = Unit {0}
-StopsRecovery file (NoImage unread) = IsNotRecovered file unread
+abbrev pub StopsRecovery : Weak → List ℕ → RecoverError → Type 0
+StopsRecovery weak file OutOfMemory = Unit {0}
+StopsRecovery weak file (NoImage unread) = IsNotRecovered weak file unread

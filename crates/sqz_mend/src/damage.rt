@@ -4,13 +4,16 @@ ghost use Rattle.std.specs.Prelude.{◌≡◌, ◌+◌, ◌-◌, ◌*◌, ◌^�
 ghost use Rattle.std.specs.Prelude.{length, take, drop, IfOk, IsTrue};
 ghost use Rattle.sqz_object.specs.Bytes.{words_of};
 ghost use Rattle.sqz_image.specs.File.{data_size};
-ghost use Rattle.sqz_mend.specs.Damaged.{HasSoundWords, IsDamageOf, IsNone, words_there};
+ghost use Rattle.sqz_mend.specs.Damaged.{HasSoundWords, IsDamageOf, IsNone, LacksData, words_there};
 ghost use Rattle.sqz_mend.specs.Mended.{data_offset};
 
+use crate::faults::fault_of;
 use sqz_damage::{Gap, gaps_of};
 use sqz_image::{HEADER_SIZE, Header};
 use sqz_object::Words;
+use sqz_trace::Weak;
 use std::alloc::{AllocError, Global};
+use std::thread::Threads;
 
 /// What of the data of an image file cannot be read.
 #[derive(Drop)]
@@ -58,16 +61,39 @@ impl DataRange {
     }
 }
 
-/// Returns what of the data of a file with this header cannot be read, by the reading of the data
-/// words that contradicts the fewest pointers. Fails only if out of memory.
-pub fn damage_of(alloc: Global, file: &[u8], header: &Header) -> Result<Damage, AllocError>
+/// Returns what of the data of a file with this header cannot be read. Nothing if the file holds an
+/// image without a fault; otherwise the gaps that `gaps_of` finds in the data words that are there,
+/// and the bytes that are not. Fails only if out of memory.
+pub fn damage_of<T: Threads + Sync>(
+    rt: &T,
+    alloc: Global,
+    file: &[u8],
+    header: &Header,
+    weak: Weak,
+) -> Result<Damage, AllocError>
     requires { HasSoundWords file.now header.now }
-    ensures { IfOk result (IsDamageOf file.now header.now) }
+    ensures { IfOk result (IsDamageOf weak file.now header.now) }
+{
+    match fault_of(rt, alloc, file, weak)? {
+        None => Ok(Damage {
+            gaps: Vec::new(alloc),
+            missing: 0,
+        }),
+        Some(_) => Ok(missing_data(alloc, file, header)?),
+    }
+}
+
+/// Returns the gaps in the data words that are there, and the number of bytes that are not. Fails
+/// only if out of memory.
+fn missing_data(alloc: Global, file: &[u8], header: &Header) -> Result<Damage, AllocError>
+    requires { HasSoundWords file.now header.now }
+    ensures { IfOk result (LacksData file.now header.now) }
 {
     let stated = header.data_size();
     let range = DataRange::of(file, header);
     let words = Words::of(header.order, &file[range.start..range.end]);
     let gaps = gaps_of(alloc, header.base(), &words)?;
-    let missing = stated - 4 * words.len() as u32;
+    let there = (file.len() - range.start).min(stated as usize) as u32;
+    let missing = stated - there;
     Ok(Damage { gaps, missing })
 }

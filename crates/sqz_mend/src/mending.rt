@@ -3,7 +3,7 @@
 ghost use Rattle.std.specs.Prelude.{◌≡◌, ◌+◌, ◌-◌, ◌/◌, ◌^◌, ◌<◌, ◌≤◌, length, take, drop};
 ghost use Rattle.sqz_object.specs.Bytes.{bytes_of, words_of};
 ghost use Rattle.sqz_damage.specs.Filled.{AreGapsIn, filled};
-ghost use Rattle.sqz_mend.specs.Damaged.{HasSoundWords, IsDamageOf};
+ghost use Rattle.sqz_mend.specs.Damaged.{HasSoundWords, LacksDataIfAny};
 ghost use Rattle.sqz_mend.specs.Mended.{between};
 ghost use Rattle.sqz_mend.specs.Recovery.{AreReadAs};
 
@@ -19,7 +19,7 @@ const SIZE_OFFSET: usize = 8;
 /// Returns the bytes of a file, mended as `mend` does it.
 pub(crate) fn mended(mut file: Vec<u8>, header: &Header, damage: &Damage) -> Vec<u8>
     requires header { HasSoundWords file.items header.now }
-    requires damage { IsDamageOf file.items header.now damage.now }
+    requires damage { LacksDataIfAny file.items header.now damage.now }
     ensures { AreReadAs file.items header.now damage.now result.items }
 {
     mend(&mut file, header, damage);
@@ -31,7 +31,7 @@ pub(crate) fn mended(mut file: Vec<u8>, header: &Header, damage: &Damage) -> Vec
 /// file without damage stays as it is.
 fn mend(file: &mut [u8], header: &Header, damage: &Damage)
     requires header { HasSoundWords file.old header.now }
-    requires damage { IsDamageOf file.old header.now damage.now }
+    requires damage { LacksDataIfAny file.old header.now damage.now }
     ensures mended { AreReadAs file.old header.now damage.now file.new }
     ensures sized { length file.new ≡ length file.old }
 {

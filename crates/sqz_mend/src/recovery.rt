@@ -1,13 +1,17 @@
 //! What a damaged file still holds.
 
 ghost use Rattle.std.specs.Prelude.{◌≡◌, IfOk, IfErr};
+ghost use Rattle.sqz_image.specs.Refusals.{Holds};
+ghost use Rattle.sqz_mend.specs.Soundness.{IsSound};
 ghost use Rattle.sqz_mend.specs.Recovery.{IsMendedFile, IsRecovered, StopsMending, StopsRecovery};
 ghost use Rattle.sqz_mend.specs.declared.recovery.RecoverError.TheVariants.{OutOfMemory};
 
 use crate::damage::{Damage, damage_of};
 use crate::mending::mended;
 use sqz_image::{Header, Image, UnreadFile, image_or_file};
+use sqz_trace::Weak;
 use std::alloc::{AllocError, Global};
+use std::thread::Threads;
 
 /// A file that was mended.
 #[derive(Drop)]
@@ -47,15 +51,22 @@ impl From<AllocError> for RecoverError {
     }
 }
 
-/// Mends a file: each gap of the reading of its data words that contradicts the fewest pointers
-/// becomes a free chunk, and the header states the size of the data that are there. The first word
-/// of each gap and the size are written anew, and all other bytes stay. A file without damage stays
-/// as it is.
+/// Mends a file: each gap that `damage_of` finds becomes a free chunk, and the header states the size
+/// of the data that are there. The first word of each gap and the size are written anew, and all
+/// other bytes stay. A file without damage stays as it is, and so does one that holds an image
+/// without a fault.
 ///
 /// Fails with the fault of the header if it has one (`TooShort`, `BadVersion`, `BadHeaderSize`,
 /// `BadDataSize`, `BadBase`). Otherwise fails only if out of memory.
-pub fn mend_file(alloc: Global, file: Vec<u8>) -> Result<MendedFile, RecoverError>
-    ensures mended { IfOk result (IsMendedFile file.items) }
+pub fn mend_file<T: Threads + Sync>(
+    rt: &T,
+    alloc: Global,
+    file: Vec<u8>,
+    weak: Weak,
+) -> Result<MendedFile, RecoverError>
+    ensures mended { IfOk result (IsMendedFile weak file.items) }
+    ensures unharmed { IfOk result (λ mended. IsSound weak file.items
+        → mended.bytes.items ≡ file.items) }
     ensures stopped { IfErr result (StopsMending file.items) }
 {
     let header = match Header::of(&file) {
@@ -75,7 +86,7 @@ pub fn mend_file(alloc: Global, file: Vec<u8>) -> Result<MendedFile, RecoverErro
             bytes: file,
         }));
     }
-    let damage = damage_of(alloc, &file, &header)?;
+    let damage = damage_of(rt, alloc, &file, &header, weak)?;
     let bytes = mended(file, &header, &damage);
     Ok(MendedFile {
         bytes,
@@ -88,11 +99,21 @@ pub fn mend_file(alloc: Global, file: Vec<u8>) -> Result<MendedFile, RecoverErro
 ///
 /// Fails as `mend_file` does, and with `BadSpecialObjects` if the special objects array cannot be
 /// read.
-pub fn recover(alloc: Global, file: Vec<u8>) -> Result<Recovered, RecoverError>
-    ensures recovered { IfOk result (IsRecovered file.items) }
-    ensures stopped { IfErr result (StopsRecovery file.items) }
+pub fn recover<T: Threads + Sync>(
+    rt: &T,
+    alloc: Global,
+    file: Vec<u8>,
+    weak: Weak,
+) -> Result<Recovered, RecoverError>
+    ensures recovered { IfOk result (IsRecovered weak file.items) }
+    ensures unharmed { IfOk result (λ recovered. IsSound weak file.items
+        → Holds file.items recovered.image) }
+    ensures stopped { IfErr result (StopsRecovery weak file.items) }
 {
-    let mended = mend_file(alloc, file)?;
+    let mended = match mend_file(rt, alloc, file, weak) {
+        Ok(mended) => mended,
+        Err(error) => return Err(error),
+    };
     match image_or_file(alloc, mended.bytes) {
         Ok(image) => Ok(Recovered {
             image,

@@ -14,27 +14,11 @@ use Rattle.sqz_dangling.specs.declared.nil_error.NilError.{NilError}
 use Rattle.sqz_dangling.specs.declared.nil_error.NilError.TheVariants as nil_errors
 use Rattle.sqz_dangling.specs.Patches.{AreNilPatches, IsNilError, patched}
 use Rattle.sqz_mend.specs.Damaged.{HasSoundWords, words_there}
+use Rattle.sqz_mend.specs.Soundness.{HasFault, IsSound}
 use Rattle.sqz_mend.specs.Mended.{data_offset}
 use Rattle.sqz_repair.specs.declared.repairing.Repaired.{Repaired}
 use Rattle.sqz_repair.specs.declared.repairing.RepairError.{RepairError}
 use Rattle.sqz_repair.specs.declared.repairing.RepairError.TheVariants.{OutOfMemory, NoImage, NoNil, NoSpecialObjects, Unsound}
-
--- the file holds an image, and a fact of its first fault is true; the marks are those of its
--- reachable objects
-pub record HasFirstFault (weak : Weak) (P : Option Fault → Type 0) (bytes : List ℕ) : Type 0 where
-  pub image : SavedImage
-  pub holds : Holds bytes image
-  pub marks : List Bool
-  pub reachable : ∥ IsReachability image.memory weak marks ∥₁
-  pub fault : P (first_fault image.memory weak marks)
-
--- the file holds an image without a fault for which a compaction rejects it
-abbrev pub IsSound : Weak → List ℕ → Type 0
-IsSound weak bytes = HasFirstFault weak (λ fault. fault ≡ None) bytes
-
--- a compaction rejects the file for this fault
-abbrev pub HasFault : Weak → List ℕ → Fault → Type 0
-HasFault weak bytes fault = HasFirstFault weak (λ first. first ≡ Some fault) bytes ⊎ IsUnreadable bytes fault
 
 -- the patches of the live objects of the image that the file holds
 pub record ArePatchesOf (weak : Weak) (file : List ℕ) (patches : List Patch) : Type 0 where

@@ -1,16 +1,16 @@
 //! What the image in a file lacks.
 
-ghost use Rattle.std.specs.Prelude.{IfOk, IfErr, MatchOption, MatchResult};
-ghost use Rattle.sqz_image.specs.Refusals.{Holds, IsUnreadable};
+ghost use Rattle.std.specs.Prelude.{IfOk, IfErr};
+ghost use Rattle.sqz_image.specs.Refusals.{IsUnreadable};
 ghost use Rattle.sqz_mend.specs.Damaged.{HasSoundWords};
-ghost use Rattle.sqz_repair.specs.Repairs.{ArePatchesOf, HasFault, IsSound, LacksPatches};
+ghost use Rattle.sqz_repair.specs.Repairs.{ArePatchesOf, LacksPatches};
 
 use crate::repairing::RepairError;
 use sqz_dangling::{NilError, Patch, nil_patches};
-use sqz_image::{Fault, Header, Image, read_image};
-use sqz_trace::{Live, ObjectGraph, Weak, first_fault};
-use std::alloc::{AllocError, Global};
-use std::thread::Threads;
+use sqz_image::{Fault, Header};
+use sqz_mend::image_in;
+use sqz_trace::{Live, ObjectGraph, Weak};
+use std::alloc::Global;
 
 /// Returns the header of a file, if its words have no fault.
 pub(crate) fn sound_header(file: &[u8]) -> Result<Header, Fault>
@@ -21,19 +21,6 @@ pub(crate) fn sound_header(file: &[u8]) -> Result<Header, Fault>
     match header.words_fault() {
         Some(fault) => Err(fault),
         None => Ok(header),
-    }
-}
-
-/// Returns the image in a file, or why there is none.
-fn image_in(alloc: Global, file: &[u8]) -> Result<Result<Image, Fault>, AllocError>
-    ensures { IfOk result (λ read. MatchResult read (Holds file.now) (IsUnreadable file.now)) }
-{
-    match read_image(alloc, file) {
-        Ok(image) => Ok(Ok(image)),
-        Err(fault) => match fault {
-            Fault::OutOfMemory => Err(AllocError),
-            _ => Ok(Err(fault)),
-        },
     }
 }
 
@@ -57,23 +44,4 @@ pub(crate) fn patches_of(alloc: Global, file: &[u8], weak: Weak) -> Result<Vec<P
             NilError::NoSpecialObjects => RepairError::NoSpecialObjects,
         }),
     }
-}
-
-/// Returns the first fault for which a compaction rejects a file. None if there is none.
-pub(crate) fn fault_of<T: Threads + Sync>(
-    rt: &T,
-    alloc: Global,
-    file: &[u8],
-    weak: Weak,
-) -> Result<Option<Fault>, AllocError>
-    ensures { IfOk result (λ fault. MatchOption fault (IsSound weak file.now)
-        (HasFault weak file.now)) }
-{
-    let image = match image_in(alloc, file)? {
-        Ok(image) => image,
-        Err(fault) => return Ok(Some(fault)),
-    };
-    let heap = image.heap();
-    let live = Live::of(alloc, ObjectGraph { heap, weak })?;
-    Ok(first_fault(rt, &live))
 }

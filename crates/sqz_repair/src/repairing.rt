@@ -5,9 +5,10 @@ ghost use Rattle.sqz_repair.specs.Repairs.{IsRepaired, StopsRepair};
 ghost use Rattle.sqz_repair.specs.declared.repairing.RepairError.TheVariants.{OutOfMemory, NoImage};
 
 use crate::patched::patched;
-use crate::reading::{fault_of, patches_of, sound_header};
+use crate::reading::{patches_of, sound_header};
 use sqz_dangling::Patch;
 use sqz_image::Fault;
+use sqz_mend::fault_of;
 use sqz_trace::Weak;
 use std::alloc::{AllocError, Global};
 use std::fmt;

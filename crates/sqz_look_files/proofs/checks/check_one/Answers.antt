@@ -1,22 +1,7 @@
-use Rattle.std.proofs.Common.{◌∙◌, refl, ap, inl, inr, arith}
+use Rattle.std.proofs.Common.{◌∙◌, refl, ap, inl, inr}
 use Rattle.sqz_image.specs.Objects.{SavedImage}
-use Rattle.sqz_look_files.proofs.CheckLemmas.{IsChecked-image}
+use Rattle.sqz_look_files.proofs.CheckLemmas.{IsChecked-read}
 use Rattle.sqz_look_files.proofs.checks.check_one.Goals as goal
-use Rattle.sqz_look_files.proofs.checks.check_one.Goals.{then-read, else-read}
-
-pub returns-after-read-clause-checked : goal.returns-after-read-clause-checked
-returns-after-read-clause-checked g c =
-    let was_read = rw c.in-Ok-Image.field-0-is at c.in-Ok-Image.ensures.read in
-    let subject = c.in_ok-subject-in-Ok-Image.subject in
-    let same_memory = subject.one_heap ∙ ap (λ (image : SavedImage). image.memory) c.in_ok-subject-in-Ok-Image.ensures.image in
-    let exit = c.in_ok-exit-in-Ok-Image in
-    elim c.if-read.branch [
-      | then-read w ↦
-          rw w.result-is
-          (IsChecked-image _ _ _ _ c.in-Ok-Image.read.image _ _ subject.live.marks exit.exit (was_read.0 w.if-read.true).1 same_memory
-          c.in_ok-subject-in-Ok-Image.ensures.weak subject.live.reachable exit.ensures)
-      | else-read w ↦ rw w.result-is (inr (inl (refl, inl (inr (was_read.1 w.if-read.false)))))
-    ]
 
 pub returns-in_ok-print_check_unreadable-in-Ok-Unreadable-clause-checked :
     goal.returns-in_ok-print_check_unreadable-in-Ok-Unreadable-clause-checked
@@ -30,10 +15,20 @@ returns-in_ok-print_check_unreadable-in-Ok-Unreadable-clause-checked g c =
       ],
     ))
 
-pub returns-after-read-clause-silent : goal.returns-after-read-clause-silent
-returns-after-read-clause-silent g c zero =
+pub returns-in_ok-check_image-in-Ok-Image-clause-checked : goal.returns-in_ok-check_image-in-Ok-Image-clause-checked
+returns-in_ok-check_image-in-Ok-Image-clause-checked g c =
     let was_read = rw c.in-Ok-Image.field-0-is at c.in-Ok-Image.ensures.read in
-    elim c.if-read.branch [
-      | then-read w ↦ (was_read.0 w.if-read.true).0
-      | else-read w ↦ let one = w.result-is in absurd (omega (arith, one, zero))
-    ]
+    let subject = c.in_ok-subject-in-Ok-Image.subject in
+    let known = c.in_ok-subject-in-Ok-Image.ensures in
+    let same_memory = subject.one_heap ∙ ap (λ (image : SavedImage). image.memory) known.image in
+    (IsChecked-read _ _ _ _ c.in-Ok-Image.read _ _ subject.live.marks c.in_ok-check_image-in-Ok-Image.field-0 _ _ was_read
+    same_memory known.weak subject.live.reachable c.in_ok-check_image-in-Ok-Image.ensures).0
+
+pub returns-in_ok-check_image-in-Ok-Image-clause-silent : goal.returns-in_ok-check_image-in-Ok-Image-clause-silent
+returns-in_ok-check_image-in-Ok-Image-clause-silent g c =
+    let was_read = rw c.in-Ok-Image.field-0-is at c.in-Ok-Image.ensures.read in
+    let subject = c.in_ok-subject-in-Ok-Image.subject in
+    let known = c.in_ok-subject-in-Ok-Image.ensures in
+    let same_memory = subject.one_heap ∙ ap (λ (image : SavedImage). image.memory) known.image in
+    (IsChecked-read _ _ _ _ c.in-Ok-Image.read _ _ subject.live.marks c.in_ok-check_image-in-Ok-Image.field-0 _ _ was_read
+    same_memory known.weak subject.live.reachable c.in_ok-check_image-in-Ok-Image.ensures).1

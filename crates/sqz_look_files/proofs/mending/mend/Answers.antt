@@ -13,7 +13,7 @@ returns-in-Ok-clause-silent g c =
       | then-not-is_none+in_ok-view+in_ok-to_string w ↦
           inr (inl (inr (
             c.requires,
-            ReadsSome-mended _ _ c.in_ok-mended.mended reads.read reads.is_mended
+            ReadsSome-mended _ _ _ c.in_ok-mended.mended reads.read reads.is_mended
                 (λ none. let yes = c.is_none.ensures.1 none in let no = w.if-not-is_none.true in cc),
           )))
       | else-not-is_none w ↦ inl w.err-is

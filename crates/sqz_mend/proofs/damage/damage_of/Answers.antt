@@ -1,43 +1,11 @@
-use Rattle.std.proofs.Common.{◌∙◌, ℕ, List, length, ap, subst, arith}
-use Rattle.sqz_damage.specs.Readings.{AreBestGaps}
-use Rattle.sqz_image.specs.File.{base_address}
-use Rattle.sqz_mend.proofs.DataLemmas.{AreSound-none}
+use Rattle.sqz_mend.proofs.SoundnessLemmas.{HasFault-unsound}
 use Rattle.sqz_mend.proofs.damage.damage_of.Goals as goal
 
-pub gaps_of-requires-clause-few : goal.gaps_of-requires-clause-few
-gaps_of-requires-clause-few c =
-    let words = ap (length {A = ℕ}) (c.of-words.ensures ∙ c.of-range.ensures.words) in
-    omega (arith, c.of-range.ensures.end, c.of-range.ensures.stated, words, c.data_size-stated.ensures, c.data_size-stated.type_inv)
-
-pub gaps_of-requires-clause-within : goal.gaps_of-requires-clause-within
-gaps_of-requires-clause-within c =
-    let words = ap (length {A = ℕ}) (c.of-words.ensures ∙ c.of-range.ensures.words) in
-    let within = (AreSound-none c.args.header.now.words c.requires.sound).within in
-    omega (arith, within, c.of-range.ensures.end, c.of-range.ensures.stated, words, c.base.ensures)
-
-pub overflow_cast-missing : goal.overflow_cast-missing
-overflow_cast-missing c =
-    let words = ap (length {A = ℕ}) (c.of-words.ensures ∙ c.of-range.ensures.words) in
-    omega (arith, c.of-range.ensures.end, c.of-range.ensures.stated, words, c.data_size-stated.ensures, c.data_size-stated.type_inv, c.len.ensures)
-
-pub overflow_mul-missing : goal.overflow_mul-missing
-overflow_mul-missing c =
-    let words = ap (length {A = ℕ}) (c.of-words.ensures ∙ c.of-range.ensures.words) in
-    omega (arith, c.of-range.ensures.end, c.of-range.ensures.stated, words, c.data_size-stated.ensures, c.data_size-stated.type_inv, c.len.ensures)
-
-pub overflow_sub-missing : goal.overflow_sub-missing
-overflow_sub-missing c =
-    let words = ap (length {A = ℕ}) (c.of-words.ensures ∙ c.of-range.ensures.words) in
-    omega (arith, c.of-range.ensures.end, c.of-range.ensures.stated, words, c.data_size-stated.ensures, c.len.ensures)
-
-pub returns : goal.returns
-returns c =
-    let words = c.of-words.ensures ∙ c.of-range.ensures.words in
-    let count = ap (length {A = ℕ}) words in
+pub returns-in_ok-missing_data-in-Some : goal.returns-in_ok-missing_data-in-Some
+returns-in_ok-missing_data-in-Some g c =
     record {
-      gaps =
-          subst (λ (w : List ℕ). AreBestGaps (base_address c.args.header.now.words) w c.in_ok-gaps.gaps.items) words
-          (subst (λ (b : ℕ). AreBestGaps b c.of-words.result c.in_ok-gaps.gaps.items) c.base.ensures c.in_ok-gaps.ensures);
-      missing =
-          omega (arith, c.of-range.ensures.end, c.of-range.ensures.stated, count, c.data_size-stated.ensures, c.len.ensures);
+      sound = λ sound. absurd (
+          HasFault-unsound c.args.weak c.args.file.now c.in-Some.field-0 (rw c.in-Some.is at c.in_ok-fault_of.ensures) sound
+          );
+      unsound = λ unsound. c.in_ok-missing_data-in-Some.ensures;
     }

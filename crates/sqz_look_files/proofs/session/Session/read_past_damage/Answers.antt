@@ -11,12 +11,12 @@ returns-clause-read g c =
           | then-not-is_whole+in_ok-print_skipped w ↦ let no = w.if-not-is_whole.true in cc
           | else-not-is_whole w ↦ w.err-is
         ],
-        IsLoaded-recovered _ _ loaded (known.0 whole),
+        IsLoaded-recovered _ _ _ loaded (known.0 whole),
       ),
-      λ damaged. (c.requires, ReadsSome-recovered _ _ loaded (λ none. let yes = known.1 none in cc)),
+      λ damaged. (c.requires, ReadsSome-recovered _ _ _ loaded (λ none. let yes = known.1 none in cc)),
     )
 
 pub returns-clause-image : goal.returns-clause-image
 returns-clause-image g c =
     let loaded = rw c.in-Image.is at c.in_ok-recovered.ensures in
-    rw c.requires (HoldsPast-recovered _ _ loaded)
+    rw c.requires (HoldsPast-recovered _ _ _ loaded)
