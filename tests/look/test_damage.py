@@ -285,8 +285,11 @@ class SavedDamageTest(SavedImageTest):
 
     def changes(self, image):
         """Damaged files of the image, each with the range of words that was changed, by name."""
-        numbers = range(len(image.objects) // 4, len(image.objects))
-        short, other = [it for it in numbers if self.has_short_header(it)][:2000:1000]
+        numbers = range(len(image.objects) // 4, len(image.objects) - 10)
+        places = [it.first for it in image.objects]
+        # With a size of 63 words, it covers ten others.
+        short = next(it for it in numbers if places[it + 10] < places[it] + 63)
+        other = next(it for it in numbers[1000:] if self.has_short_header(it))
         large, small, lost = image.words[:], image.words[:], image.words[:]
         large[image.objects[short].base] |= 63 << 2
         small[image.objects[other].base] &= ~(63 << 2) | 2 << 2
