@@ -39,12 +39,12 @@ module _ (file : List ℕ) where
   -- ---- a file that holds an image is not rejected as unreadable
 
   -- its header is sound
-  no_header_fault : (fault : Fault) → file_fault file ≡ None → file_fault file ≡ Some fault → ⊥
+  pub no_header_fault : (fault : Fault) → file_fault file ≡ None → file_fault file ≡ Some fault → ⊥
   no_header_fault fault sound refused = none-some fault (sym sound ∙ refused)
 
   -- each chunk can be read
-  readable : (image : SavedImage) (fault : Fault) → HasChunks file image → HasUnreadableChunk file fault → ⊥
-  readable image fault chunks unreadable =
+  pub HasChunks-readable : (image : SavedImage) (fault : Fault) → HasChunks file image → HasUnreadableChunk file fault → ⊥
+  HasChunks-readable image fault chunks unreadable =
       let same : unreadable.order ≡ image.memory.order = same_Some _ _ (sym unreadable.in_order ∙ chunks.order) in
       let bytes = image_bytes file in
       let missing = subst (λ (o : Order). HasNoPartition (data_of o bytes) fault) same unreadable.unreadable in
@@ -61,5 +61,5 @@ module _ (file : List ℕ) where
   -- an image that it holds is not rejected before its objects are examined
   pub Holds-readable : (image : SavedImage) (fault : Fault) → Holds file image → IsUnreadable file fault → ⊥
   Holds-readable image fault holds (inl refused) = no_header_fault fault holds.parts.sound refused
-  Holds-readable image fault holds (inr (inl unreadable)) = readable image fault holds.parts unreadable
+  Holds-readable image fault holds (inr (inl unreadable)) = HasChunks-readable image fault holds.parts unreadable
   Holds-readable image fault holds (inr (inr lacks)) = has_special image fault holds lacks

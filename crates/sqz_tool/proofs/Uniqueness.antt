@@ -1,17 +1,17 @@
 -- A file has at most one compaction, is rejected with at most one fault, and not both.
 -- Serves `laws::one_answer` and `laws::one_refusal`.
-use Rattle.std.proofs.Common.{◌≡◌, ℕ, List, Bool, true, false, Some, None, sym, ap, subst, ◌∙◌, inl, inr, is_some}
+use Rattle.std.proofs.Common.{◌≡◌, ℕ, List, Bool, true, false, None, sym, ap, subst, ◌∙◌, inl, inr}
 use Rattle.std.proofs.lemmas.Option.{none-some, same_Some}
 use Rattle.std.proofs.lemmas.Bool.{false≢true}
 use Rattle.sqz_object.specs.declared.order.Order.{Order}
 use Rattle.sqz_object.specs.declared.chunk.ChunkFault.{ChunkFault}
-use Rattle.sqz_object.proofs.PartitionLemmas.{IsStuck-unique, IsStuck-no_partition}
+use Rattle.sqz_object.proofs.PartitionLemmas.{IsStuck-unique}
 use Rattle.sqz_image.specs.declared.fault.Fault.{Fault}
 use Rattle.sqz_image.specs.Objects.{SavedImage, find}
 use Rattle.sqz_image.specs.File.{image_bytes, data_of}
-use Rattle.sqz_image.specs.Refusals.{file_fault, refusal_of, HasChunks, Holds, HasNoPartition, HasUnreadableChunk}
+use Rattle.sqz_image.specs.Refusals.{refusal_of, Holds, HasNoPartition, HasUnreadableChunk}
 use Rattle.sqz_image.specs.Refusals.{LacksSpecialObjects, IsUnreadable}
-use Rattle.sqz_image.proofs.HoldsLemmas.{HasChunks-unique, Holds-unique, Holds-readable}
+use Rattle.sqz_image.proofs.HoldsLemmas.{HasChunks-unique, HasChunks-readable, Holds-unique, Holds-readable, no_header_fault}
 use Rattle.sqz_trace.specs.declared.weak.Weak.{Weak}
 use Rattle.sqz_trace.specs.Reachability.{IsReachability}
 use Rattle.sqz_trace.specs.Defects.{first_defect, lacks_nil}
@@ -28,20 +28,6 @@ IsAccepted-unique weak file one other marks flags p q =
     )
 
 module _ (file : List ℕ) where
-  -- ---- what a file that holds chunks is not refused for
-
-  -- its header is sound
-  no_header_fault : (fault : Fault) → file_fault file ≡ None → file_fault file ≡ Some fault → ⊥
-  no_header_fault fault sound refused = none-some fault (sym sound ∙ refused)
-
-  -- each chunk can be read
-  readable : (image : SavedImage) (fault : Fault) → HasChunks file image → HasUnreadableChunk file fault → ⊥
-  readable image fault chunks unreadable =
-      let same : unreadable.order ≡ image.memory.order = same_Some _ _ (sym unreadable.in_order ∙ chunks.order) in
-      let bytes = image_bytes file in
-      let missing = subst (λ (o : Order). HasNoPartition (data_of o bytes) fault) same unreadable.unreadable in
-      IsStuck-no_partition (data_of image.memory.order bytes) missing.word missing.reason image.memory.chunks chunks.chunks missing.stuck
-
   -- ---- one refusal of each kind
 
   same_refusal : (p q : ℕ) (f g : ChunkFault) → (p ≡ q) × (f ≡ g) → refusal_of f p ≡ refusal_of g q
@@ -61,13 +47,13 @@ module _ (file : List ℕ) where
 
   IsUnreadable-unique : (one other : Fault) → IsUnreadable file one → IsUnreadable file other → one ≡ other
   IsUnreadable-unique one other (inl p) (inl q) = same_Some one other (sym p ∙ q)
-  IsUnreadable-unique one other (inl p) (inr (inl q)) = absurd (no_header_fault one q.sound p)
-  IsUnreadable-unique one other (inl p) (inr (inr q)) = absurd (no_header_fault one q.parts.sound p)
-  IsUnreadable-unique one other (inr (inl p)) (inl q) = absurd (no_header_fault other p.sound q)
+  IsUnreadable-unique one other (inl p) (inr (inl q)) = absurd (no_header_fault file one q.sound p)
+  IsUnreadable-unique one other (inl p) (inr (inr q)) = absurd (no_header_fault file one q.parts.sound p)
+  IsUnreadable-unique one other (inr (inl p)) (inl q) = absurd (no_header_fault file other p.sound q)
   IsUnreadable-unique one other (inr (inl p)) (inr (inl q)) = HasUnreadableChunk-unique one other p q
-  IsUnreadable-unique one other (inr (inl p)) (inr (inr q)) = absurd (readable q.image one q.parts p)
-  IsUnreadable-unique one other (inr (inr p)) (inl q) = absurd (no_header_fault other p.parts.sound q)
-  IsUnreadable-unique one other (inr (inr p)) (inr (inl q)) = absurd (readable p.image other p.parts q)
+  IsUnreadable-unique one other (inr (inl p)) (inr (inr q)) = absurd (HasChunks-readable file q.image one q.parts p)
+  IsUnreadable-unique one other (inr (inr p)) (inl q) = absurd (no_header_fault file other p.parts.sound q)
+  IsUnreadable-unique one other (inr (inr p)) (inr (inl q)) = absurd (HasChunks-readable file p.image other p.parts q)
   IsUnreadable-unique one other (inr (inr p)) (inr (inr q)) = p.refused ∙ sym q.refused
 
   module _ (weak : Weak) where
