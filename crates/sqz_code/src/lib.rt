@@ -6,8 +6,6 @@ mod header;
 mod instruction;
 mod operation;
 mod table;
-#[cfg(test)]
-mod tests;
 
 pub use decoding::instructions_of;
 pub use header::MethodHeader;

@@ -8,8 +8,6 @@ pub mod laws;
 mod reading;
 mod step;
 mod steps;
-#[cfg(test)]
-mod tests;
 mod voted;
 mod votes;
 

@@ -7,8 +7,6 @@ mod nil_error;
 mod patch;
 mod patches;
 mod pushing;
-#[cfg(test)]
-mod tests;
 mod untraceable;
 mod writing;
 

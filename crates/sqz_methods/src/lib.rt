@@ -3,8 +3,6 @@
 
 mod code;
 mod parts;
-#[cfg(test)]
-mod tests;
 mod trailer;
 
 pub use code::{MethodCode, code_of};

@@ -6,8 +6,6 @@ mod class_shape;
 mod findings;
 mod sets;
 mod shapes;
-#[cfg(test)]
-mod tests;
 mod warning;
 mod warnings;
 

@@ -1,6 +1,6 @@
 //! Patches of worked images, whose first data word has the address 0x1000, and patches in bytes.
 
-use crate::{Becomes, NilError, Patch, nil_patches, write_patches};
+use sqz_dangling::{Becomes, NilError, Patch, nil_patches, write_patches};
 use sqz_image::{Image, read_image};
 use sqz_object::Order;
 use sqz_trace::{Live, ObjectGraph, Weak};

@@ -1,7 +1,7 @@
 //! Warnings about worked images, whose first data word has the address 0x1000.
 
-use crate::{ClassShape, Warning, warnings_of};
 use sqz_image::read_image;
+use sqz_strict::{ClassShape, Warning, warnings_of};
 use sqz_trace::{Live, ObjectGraph, Weak};
 use std::process::Abort;
 use std::test::Fail;

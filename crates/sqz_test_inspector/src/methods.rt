@@ -1,8 +1,8 @@
 //! Parts of worked methods, in an image whose first data word has the address 0x1000.
 
-use crate::{MethodCode, code_of, method_literals};
 use sqz_code::{Instruction, Operation, Source};
 use sqz_image::read_image;
+use sqz_methods::{MethodCode, code_of, method_literals};
 use std::process::Abort;
 use std::test::Fail;
 

@@ -1,6 +1,6 @@
 //! Gaps of worked data words, whose first one has the address 64.
 
-use crate::{Gap, fill_gaps, gaps_of};
+use sqz_damage::{Gap, fill_gaps, gaps_of};
 use sqz_object::{Order, Words};
 use std::process::Abort;
 use std::test::Fail;

@@ -1,6 +1,6 @@
 //! Instructions of worked bytecodes.
 
-use crate::{Distance, Instruction, Operation, Returned, Source, Target, instructions_of};
+use sqz_code::{Distance, Instruction, Operation, Returned, Source, Target, instructions_of};
 use std::process::Abort;
 use std::test::Fail;
 
