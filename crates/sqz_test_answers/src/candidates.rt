@@ -8,6 +8,7 @@ use sqz_test_fixtures::accepted::{DEAD_CYCLE, SPECIAL_ARRAY_ALONE};
 use sqz_test_fixtures::with_classes::CLASS_EDGE;
 use sqz_test_fixtures::{TestImage, image_of};
 use sqz_trace::{ObjectGraph, Weak};
+use std::alloc::{AllocError, Global};
 use std::process::Abort;
 use std::test::Fail;
 
@@ -29,9 +30,8 @@ fn graph_of(image: &Image) -> ObjectGraph<'_> {
 }
 
 /// Returns a candidate.
-fn candidate_in<R: Abort + AllocGlobal>(rt: &R, image: &Image) -> Result<PlacedTree, Fail> {
-    let found = dominator_candidate(rt.alloc(), graph_of(image))?;
-    Ok(found.expect(rt, "a candidate"))
+fn candidate_in(alloc: Global, image: &Image) -> Result<PlacedTree, AllocError> {
+    dominator_candidate(alloc, graph_of(image))
 }
 
 /// Asserts whether the check accepts a tree.
@@ -84,7 +84,7 @@ fn accepted(rt: HostRuntime) -> Result<(), Fail> {
     ];
     for image in images {
         let image = image_of(rt.alloc(), image)?;
-        let tree = candidate_in(&rt, &image)?;
+        let tree = candidate_in(rt.alloc(), &image)?;
         assert_check(&rt, &image, &tree, true)?;
     }
     Ok(())
@@ -94,7 +94,7 @@ fn accepted(rt: HostRuntime) -> Result<(), Fail> {
 fn swapped_pair(rt: HostRuntime) -> Result<(), Fail> {
     let image = image_of(rt.alloc(), &DIAMOND)?;
     for side in SIDES {
-        let mut tree = candidate_in(&rt, &image)?;
+        let mut tree = candidate_in(rt.alloc(), &image)?;
         swap(&mut tree, side, BOTTOM);
         assert_check(&rt, &image, &tree, false)?;
         swap(&mut tree, side, BOTTOM);
@@ -106,7 +106,7 @@ fn swapped_pair(rt: HostRuntime) -> Result<(), Fail> {
 #[test]
 fn object_at_another_place(rt: HostRuntime) -> Result<(), Fail> {
     let image = image_of(rt.alloc(), &DIAMOND)?;
-    let mut tree = candidate_in(&rt, &image)?;
+    let mut tree = candidate_in(rt.alloc(), &image)?;
     let place = place_of(&tree, BOTTOM);
     write(&mut tree.found, place, TOP);
     assert_check(&rt, &image, &tree, false)
@@ -116,7 +116,7 @@ fn object_at_another_place(rt: HostRuntime) -> Result<(), Fail> {
 fn parent_too_high(rt: HostRuntime) -> Result<(), Fail> {
     let image = image_of(rt.alloc(), &DIAMOND)?;
     for object in [SIDES[0], SIDES[1], BOTTOM] {
-        let mut tree = candidate_in(&rt, &image)?;
+        let mut tree = candidate_in(rt.alloc(), &image)?;
         let place = place_of(&tree, object);
         let root = place_of(&tree, ROOT);
         write(&mut tree.parents, place, root);
@@ -129,7 +129,7 @@ fn parent_too_high(rt: HostRuntime) -> Result<(), Fail> {
 fn parent_too_low(rt: HostRuntime) -> Result<(), Fail> {
     let image = image_of(rt.alloc(), &DIAMOND)?;
     for side in SIDES {
-        let mut tree = candidate_in(&rt, &image)?;
+        let mut tree = candidate_in(rt.alloc(), &image)?;
         let place = place_of(&tree, BOTTOM);
         let above = place_of(&tree, side);
         write(&mut tree.parents, place, above);
