@@ -2,14 +2,13 @@
 
 use super::images::{CHAIN, CYCLE_WITH_TWO_ENTRIES, DIAMOND, ROOT_IN_CYCLE};
 use sqz_dominators::{PlacedTree, dominator_candidate, is_dominator_tree};
-use sqz_image::Image;
+use sqz_image::Fault;
 use sqz_object::ObjectIndex;
 use sqz_test_fixtures::accepted::{DEAD_CYCLE, SPECIAL_ARRAY_ALONE};
 use sqz_test_fixtures::with_classes::CLASS_EDGE;
 use sqz_test_fixtures::{TestImage, image_of};
 use sqz_trace::{ObjectGraph, Weak};
-use std::alloc::{AllocError, Global};
-use std::process::Abort;
+use std::alloc::Global;
 use std::test::Fail;
 
 /// The objects of the diamond: what leads to both sides, the sides, and what they lead to.
@@ -20,31 +19,6 @@ const SIDES: [ObjectIndex; 2] = [2, 3];
 const BOTTOM: ObjectIndex = 4;
 /// The special objects array of the diamond.
 const ROOT: ObjectIndex = 5;
-
-/// Returns the objects of an image with all their edges.
-fn graph_of(image: &Image) -> ObjectGraph<'_> {
-    ObjectGraph {
-        heap: image.heap(),
-        weak: Weak::Keep,
-    }
-}
-
-/// Returns a candidate.
-fn candidate_in(alloc: Global, image: &Image) -> Result<PlacedTree, AllocError> {
-    dominator_candidate(alloc, graph_of(image))
-}
-
-/// Asserts whether the check accepts a tree.
-fn assert_check<R: Abort + AllocGlobal>(
-    rt: &R,
-    image: &Image,
-    tree: &PlacedTree,
-    wanted: bool,
-) -> Result<(), Fail> {
-    let is_accepted = is_dominator_tree(rt.alloc(), graph_of(image), tree)?;
-    assert_eq!(rt; is_accepted, wanted);
-    Ok(())
-}
 
 /// Returns the place of an object.
 fn place_of(tree: &PlacedTree, object: ObjectIndex) -> u32 {
@@ -71,69 +45,92 @@ fn swap(tree: &mut PlacedTree, one: ObjectIndex, other: ObjectIndex) {
     write(&mut tree.places, other, first);
 }
 
+/// A change of a candidate.
+#[derive(Clone, Copy)]
+enum Change {
+    /// The places of two objects are exchanged.
+    Swap(ObjectIndex, ObjectIndex),
+    /// The places of two objects are exchanged, and then exchanged again.
+    SwapTwice(ObjectIndex, ObjectIndex),
+    /// The first object's place holds the second one.
+    Found(ObjectIndex, ObjectIndex),
+    /// The first object's parent is the second one.
+    Parent(ObjectIndex, ObjectIndex),
+}
+
+/// Makes a change of a candidate.
+fn make_change(tree: &mut PlacedTree, change: Change) {
+    match change {
+        Change::Swap(one, other) => swap(tree, one, other),
+        Change::SwapTwice(one, other) => {
+            swap(tree, one, other);
+            swap(tree, one, other);
+        }
+        Change::Found(object, other) => {
+            let place = place_of(tree, object);
+            write(&mut tree.found, place, other);
+        }
+        Change::Parent(object, parent) => {
+            let place = place_of(tree, object);
+            let above = place_of(tree, parent);
+            write(&mut tree.parents, place, above);
+        }
+    }
+}
+
+/// Returns whether the check accepts the candidate for an image after changes.
+fn is_accepted(alloc: Global, image: &TestImage, changes: &[Change]) -> Result<bool, Fault> {
+    let image = image_of(alloc, image)?;
+    let graph = ObjectGraph {
+        heap: image.heap(),
+        weak: Weak::Keep,
+    };
+    let mut tree = dominator_candidate(alloc, graph)?;
+    for change in changes {
+        make_change(&mut tree, *change);
+    }
+    Ok(is_dominator_tree(alloc, graph, &tree)?)
+}
+
+/// Images, each with a candidate that is the dominator tree.
+const IMAGES: [&TestImage; 7] = [
+    &DIAMOND,
+    &CHAIN,
+    &CLASS_EDGE,
+    &CYCLE_WITH_TWO_ENTRIES,
+    &ROOT_IN_CYCLE,
+    &DEAD_CYCLE,
+    &SPECIAL_ARRAY_ALONE,
+];
+
 #[test]
 fn accepted(rt: HostRuntime) -> Result<(), Fail> {
-    let images: [&TestImage; 7] = [
-        &DIAMOND,
-        &CHAIN,
-        &CLASS_EDGE,
-        &CYCLE_WITH_TWO_ENTRIES,
-        &ROOT_IN_CYCLE,
-        &DEAD_CYCLE,
-        &SPECIAL_ARRAY_ALONE,
-    ];
-    for image in images {
-        let image = image_of(rt.alloc(), image)?;
-        let tree = candidate_in(rt.alloc(), &image)?;
-        assert_check(&rt, &image, &tree, true)?;
+    for (k, image) in IMAGES.iter().enumerate() {
+        assert!(rt; is_accepted(rt.alloc(), image, &[])?, "image {k}");
     }
     Ok(())
 }
 
-#[test]
-fn swapped_pair(rt: HostRuntime) -> Result<(), Fail> {
-    let image = image_of(rt.alloc(), &DIAMOND)?;
-    for side in SIDES {
-        let mut tree = candidate_in(rt.alloc(), &image)?;
-        swap(&mut tree, side, BOTTOM);
-        assert_check(&rt, &image, &tree, false)?;
-        swap(&mut tree, side, BOTTOM);
-        assert_check(&rt, &image, &tree, true)?;
-    }
-    Ok(())
-}
+/// Changes of the candidate for the diamond, and whether it is accepted after each: a swapped pair,
+/// an object at another place, a parent too high, and one too low.
+const CHANGES: &[(Change, bool)] = &[
+    (Change::Swap(SIDES[0], BOTTOM), false),
+    (Change::SwapTwice(SIDES[0], BOTTOM), true),
+    (Change::Swap(SIDES[1], BOTTOM), false),
+    (Change::SwapTwice(SIDES[1], BOTTOM), true),
+    (Change::Found(BOTTOM, TOP), false),
+    (Change::Parent(SIDES[0], ROOT), false),
+    (Change::Parent(SIDES[1], ROOT), false),
+    (Change::Parent(BOTTOM, ROOT), false),
+    (Change::Parent(BOTTOM, SIDES[0]), false),
+    (Change::Parent(BOTTOM, SIDES[1]), false),
+];
 
 #[test]
-fn object_at_another_place(rt: HostRuntime) -> Result<(), Fail> {
-    let image = image_of(rt.alloc(), &DIAMOND)?;
-    let mut tree = candidate_in(rt.alloc(), &image)?;
-    let place = place_of(&tree, BOTTOM);
-    write(&mut tree.found, place, TOP);
-    assert_check(&rt, &image, &tree, false)
-}
-
-#[test]
-fn parent_too_high(rt: HostRuntime) -> Result<(), Fail> {
-    let image = image_of(rt.alloc(), &DIAMOND)?;
-    for object in [SIDES[0], SIDES[1], BOTTOM] {
-        let mut tree = candidate_in(rt.alloc(), &image)?;
-        let place = place_of(&tree, object);
-        let root = place_of(&tree, ROOT);
-        write(&mut tree.parents, place, root);
-        assert_check(&rt, &image, &tree, false)?;
-    }
-    Ok(())
-}
-
-#[test]
-fn parent_too_low(rt: HostRuntime) -> Result<(), Fail> {
-    let image = image_of(rt.alloc(), &DIAMOND)?;
-    for side in SIDES {
-        let mut tree = candidate_in(rt.alloc(), &image)?;
-        let place = place_of(&tree, BOTTOM);
-        let above = place_of(&tree, side);
-        write(&mut tree.parents, place, above);
-        assert_check(&rt, &image, &tree, false)?;
+fn changed(rt: HostRuntime) -> Result<(), Fail> {
+    for (k, (change, wanted)) in CHANGES.iter().enumerate() {
+        let found = is_accepted(rt.alloc(), &DIAMOND, &[*change])?;
+        assert_eq!(rt; found, *wanted, "change {k}");
     }
     Ok(())
 }

@@ -8,57 +8,49 @@ use sqz_test_fixtures::with_defects::LOWER_OF_TWO;
 use sqz_test_fixtures::with_weak_classes::WEAK_TOO_MANY_FIXED;
 use sqz_test_fixtures::{TestImage, image_of};
 use sqz_trace::{Live, ObjectGraph, Weak};
-use std::process::Abort;
+use std::alloc::Global;
 use std::test::Fail;
 
-/// The defect of object 1 of `LOWER_OF_TWO`, its special objects array.
-const BAD_POINTER: Fault = Fault::BadPointer {
-    address: 0x1004,
-    slot: Slot::Field(0),
-};
+/// The defects of the objects 1 and 2 of `LOWER_OF_TWO`. Object 1 is its special objects array.
+const TWO_DEFECTS: &[Fault] = &[
+    Fault::BadPointer {
+        address: 0x1004,
+        slot: Slot::Field(0),
+    },
+    Fault::NoClass { address: 0x1010 },
+];
 
-/// The defect of its object 2.
-const NO_CLASS: Fault = Fault::NoClass { address: 0x1010 };
+/// An image, the policy on weak slots, and the defects of the reachable objects.
+type Case = (&'static TestImage, Weak, &'static [Fault]);
 
-/// Asserts which defects the reachable objects have.
-fn assert_defects<R: Abort + AllocGlobal>(
-    rt: &R,
-    image: &TestImage,
-    weak: Weak,
-    wanted: &[Fault],
-) -> Result<(), Fail> {
-    let image = image_of(rt.alloc(), image)?;
+/// Images without a defect, with two, with one of a weak object, and with defects of dead objects.
+const CASES: &[Case] = &[
+    (&DIAMOND, Weak::Keep, &[]),
+    (&LOWER_OF_TWO, Weak::Keep, TWO_DEFECTS),
+    (&LOWER_OF_TWO, Weak::Clear, TWO_DEFECTS),
+    (&WEAK_TOO_MANY_FIXED, Weak::Keep, &[]),
+    (
+        &WEAK_TOO_MANY_FIXED,
+        Weak::Clear,
+        &[Fault::BadWeak { address: 0x1018 }],
+    ),
+    (&DEAD_BAD_POINTER, Weak::Keep, &[]),
+    (&DEAD_WITHOUT_CLASS, Weak::Keep, &[]),
+];
+
+/// The defects of the reachable objects.
+fn defects_in(alloc: Global, image: &TestImage, weak: Weak) -> Result<Vec<Fault>, Fault> {
+    let image = image_of(alloc, image)?;
     let heap = image.heap();
-    let live = Live::of(rt.alloc(), ObjectGraph { heap, weak })?;
-    let found = defects_of(rt.alloc(), &live)?;
-    assert_eq!(rt; found.as_slice(), wanted);
-    Ok(())
+    let live = Live::of(alloc, ObjectGraph { heap, weak })?;
+    Ok(defects_of(alloc, &live)?)
 }
 
 #[test]
-fn no_defect(rt: HostRuntime) -> Result<(), Fail> {
-    assert_defects(&rt, &DIAMOND, Weak::Keep, &[])
-}
-
-#[test]
-fn two_defects(rt: HostRuntime) -> Result<(), Fail> {
-    for weak in [Weak::Keep, Weak::Clear] {
-        assert_defects(&rt, &LOWER_OF_TWO, weak, &[BAD_POINTER, NO_CLASS])?;
-    }
-    Ok(())
-}
-
-#[test]
-fn defect_of_a_weak_object(rt: HostRuntime) -> Result<(), Fail> {
-    let bad_weak = Fault::BadWeak { address: 0x1018 };
-    assert_defects(&rt, &WEAK_TOO_MANY_FIXED, Weak::Keep, &[])?;
-    assert_defects(&rt, &WEAK_TOO_MANY_FIXED, Weak::Clear, &[bad_weak])
-}
-
-#[test]
-fn defects_of_dead_objects(rt: HostRuntime) -> Result<(), Fail> {
-    for image in [&DEAD_BAD_POINTER, &DEAD_WITHOUT_CLASS] {
-        assert_defects(&rt, image, Weak::Keep, &[])?;
+fn defects_of_reachable_objects(rt: HostRuntime) -> Result<(), Fail> {
+    for (image, weak, wanted) in CASES {
+        let found = defects_in(rt.alloc(), image, *weak)?;
+        assert_eq!(rt; found.as_slice(), *wanted);
     }
     Ok(())
 }
