@@ -34,18 +34,34 @@ fn assert_not_taken<R: Threads + Wait + Sync + Abort + AllocGlobal + Files>(
     Ok(())
 }
 
+/// Words with fewer or more than two paths.
+const OTHER_PATHS: [&[&str]; 4] = [
+    &[],
+    &["whole.image"],
+    &["whole.image", "never.image", "more"],
+    &["--other", "whole.image", "never.image"],
+];
+
 #[test]
 fn wants_two_paths(rt: HostRuntime) -> Result<(), Fail> {
-    assert_not_taken(&rt, &[])?;
-    assert_not_taken(&rt, &["whole.image"])?;
-    assert_not_taken(&rt, &["whole.image", "never.image", "more"])?;
-    assert_not_taken(&rt, &["--other", "whole.image", "never.image"])
+    for words in OTHER_PATHS {
+        assert_not_taken(&rt, words)?;
+    }
+    Ok(())
 }
+
+/// Words with a flag that has a value, and with a flag twice.
+const OTHER_FLAGS: [&[&str]; 2] = [
+    &["--clear-weak=1", "a", "b"],
+    &["--clear-weak", "--clear-weak", "a", "b"],
+];
 
 #[test]
 fn takes_a_flag_once_and_without_a_value(rt: HostRuntime) -> Result<(), Fail> {
-    assert_not_taken(&rt, &["--clear-weak=1", "a", "b"])?;
-    assert_not_taken(&rt, &["--clear-weak", "--clear-weak", "a", "b"])
+    for words in OTHER_FLAGS {
+        assert_not_taken(&rt, words)?;
+    }
+    Ok(())
 }
 
 /// What is printed if the number of workers is rejected.

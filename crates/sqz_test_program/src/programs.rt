@@ -66,13 +66,8 @@ pub(crate) fn run_over<R: Threads + Wait + Sync + Drop>(
     Ok((ended, disk.into_written()))
 }
 
-/// Asserts that the program ended so, and printed this.
-pub(crate) fn assert_printed<R: Abort>(rt: &R, ended: &Ended, exit: u8, out: &str, err: &str) {
-    let found = (ended.exit, ended.out.contents(), ended.err.contents());
-    assert_eq!(rt; found, (exit, out.as_bytes(), err.as_bytes()));
-}
-
 /// Asserts that the program ended so, with this line on standard error and nothing else printed.
 pub(crate) fn assert_ended<R: Abort>(rt: &R, ended: &Ended, exit: u8, line: &str) {
-    assert_printed(rt, ended, exit, "", line);
+    let found = (ended.exit, ended.out.contents(), ended.err.contents());
+    assert_eq!(rt; found, (exit, "".as_bytes(), line.as_bytes()));
 }

@@ -53,7 +53,7 @@ impl Read for TestFile<'_> {
         if left.is_empty() && disk.behavior.read_fails {
             return Err(Error::from(ErrorKind::Other));
         }
-        let count = left.len().min(into.len()).min(disk.behavior.piece);
+        let count = left.len().min(into.len());
         let (front, rest) = left.split_at(count);
         into[..count].copy_from_slice(front);
         *left = rest;

@@ -15,16 +15,12 @@ use std::thread::Threads;
 /// The path of the file that can be read.
 pub(crate) const IN: &str = "in.image";
 
-/// The path of the file that can be made, unless a test asks for another one.
+/// The path of the file that can be made.
 pub(crate) const OUT: &str = "out.image";
 
 /// How the two files behave.
 #[derive(Clone, Copy)]
 pub(crate) struct Behavior {
-    /// The path of the file that can be made.
-    pub output: &'static str,
-    /// How many bytes one read gives, and one write takes, at most.
-    pub piece: usize,
     /// Whether the read after the last byte of IN fails, instead of returning the end.
     pub read_fails: bool,
     /// How many calls fail that are to make OUT. The next one makes it.
@@ -37,10 +33,8 @@ pub(crate) struct Behavior {
     pub flushes_fail: u32,
 }
 
-/// Files that take all at once and never fail.
+/// Files that never fail.
 pub(crate) const SOUND: Behavior = Behavior {
-    output: OUT,
-    piece: usize::MAX,
     read_fails: false,
     makings_fail: 0,
     writes_fail: 0,
@@ -89,7 +83,7 @@ impl Written {
         if room == 0 && !from.is_empty() {
             return Err(Error::from(ErrorKind::StorageFull));
         }
-        let count = from.len().min(room).min(behavior.piece);
+        let count = from.len().min(room);
         self.bytes.extend_from_slice(&from[..count])?;
         self.flushed = false;
         Ok(count)
@@ -157,7 +151,7 @@ impl<'a, R> Files for TestFiles<'a, R> {
 
     fn open_file(&self, how: &OpenOptions, path: &str) -> io::Result<TestFile<'a>> {
         let is_output = how.asks_write() && how.asks_create() && how.asks_truncate();
-        if path == self.disk.behavior.output && is_output {
+        if path == OUT && is_output {
             return TestFile::make_output(self.disk);
         }
         if path == IN && how.asks_read() && !how.asks_write() {

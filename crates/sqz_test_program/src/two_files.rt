@@ -1,8 +1,8 @@
-//! The program, over files that give and take little at a time, and files that fail.
+//! The program, over files that fail.
 
-use super::images::{compacted_image, large_image, whole_image};
+use super::images::{compacted_image, whole_image};
 use super::programs::{assert_ended, run_over};
-use super::test_files::{Behavior, Calls, IN, SOUND, Written};
+use super::test_files::{Behavior, Calls, IN, OUT, SOUND, Written};
 use std::process::Abort;
 use std::sync::Wait;
 use std::test::Fail;
@@ -10,20 +10,6 @@ use std::thread::Threads;
 
 /// What is printed if the image cannot be written.
 const NOT_WRITTEN: &str = "fault 17: cannot write the output\n";
-
-/// Asserts that the program writes this to OUT and flushes it, and prints nothing.
-fn assert_writes<R: Threads + Wait + Sync + Abort + AllocGlobal + Drop>(
-    rt: &R,
-    image: &[u8],
-    behavior: Behavior,
-    wanted: &[u8],
-) -> Result<(), Fail> {
-    let words = [IN, behavior.output];
-    let (ended, written) = run_over(rt, rt.alloc(), &words, image, behavior)?;
-    assert_ended(rt, &ended, 0, "");
-    assert!(rt; written.bytes.as_slice() == wanted && written.flushed);
-    Ok(())
-}
 
 /// Asserts that the program ends with 3 and this line if IN has the image of three objects, or a
 /// prefix of it of this many bytes. Returns what it did to OUT.
@@ -35,37 +21,9 @@ fn assert_fails<R: Threads + Wait + Sync + Abort + AllocGlobal + Drop>(
 ) -> Result<Written, Fail> {
     let mut image = whole_image(rt.alloc())?;
     image.truncate(count);
-    let words = [IN, behavior.output];
-    let (ended, written) = run_over(rt, rt.alloc(), &words, &image, behavior)?;
+    let (ended, written) = run_over(rt, rt.alloc(), &[IN, OUT], &image, behavior)?;
     assert_ended(rt, &ended, 3, line);
     Ok(written)
-}
-
-#[test]
-fn one_byte_at_a_time(rt: HostRuntime) -> Result<(), Fail> {
-    let behavior = Behavior { piece: 1, ..SOUND };
-    let image = whole_image(rt.alloc())?;
-    assert_writes(&rt, &image, behavior, &compacted_image(rt.alloc())?)
-}
-
-#[test]
-fn path_that_ends_with_a_space(rt: HostRuntime) -> Result<(), Fail> {
-    let behavior = Behavior {
-        output: "out.image ",
-        ..SOUND
-    };
-    let image = whole_image(rt.alloc())?;
-    assert_writes(&rt, &image, behavior, &compacted_image(rt.alloc())?)
-}
-
-#[test]
-fn several_blocks(rt: HostRuntime) -> Result<(), Fail> {
-    let image = large_image(rt.alloc(), true)?;
-    let wanted = large_image(rt.alloc(), false)?;
-    for piece in [usize::MAX, 50_000] {
-        assert_writes(&rt, &image, Behavior { piece, ..SOUND }, &wanted)?;
-    }
-    Ok(())
 }
 
 /// Asserts that OUT has been made once and holds as much of the answer as it takes.
