@@ -1,8 +1,9 @@
 //! Gaps of worked data words, whose first one has the address 64.
 
+use super::images::put_words;
 use sqz_damage::{Gap, fill_gaps, gaps_of};
 use sqz_object::{Order, Words};
-use std::process::Abort;
+use std::alloc::{AllocError, Global};
 use std::test::Fail;
 
 /// The base header of an object of one, two, eight or 40 words.
@@ -15,107 +16,174 @@ const EIGHT_WORDS: u32 = 8 * 4 + 3;
 const WORDS_40: u32 = 40 * 4 + 3;
 
 /// The formats of an object with fields, and of one with words that are no pointers.
-const FIELDS: u32 = 1;
+const FIELDS: u32 = 0x100;
 
-const WORDS: u32 = 6;
+const WORDS: u32 = 0x600;
 
 /// A word that begins no chunk.
 const NOTHING: u32 = 0;
 
 /// 20 objects of two words. Each points to the next one, and the last one to the first.
-fn chain<R: Abort + AllocGlobal>(rt: &R) -> Result<Vec<u32>, Fail> {
-    let mut words = Vec::new(rt.alloc());
-    for k in 1..=20u32 {
-        words.push(TWO_WORDS)?;
-        words.push(64 + 8 * (k % 20))?;
-    }
-    Ok(words)
+const CHAIN: [u32; 40] = [
+    TWO_WORDS, 72, TWO_WORDS, 80, TWO_WORDS, 88, TWO_WORDS, 96, TWO_WORDS, 104, TWO_WORDS, 112,
+    TWO_WORDS, 120, TWO_WORDS, 128, TWO_WORDS, 136, TWO_WORDS, 144, TWO_WORDS, 152, TWO_WORDS, 160,
+    TWO_WORDS, 168, TWO_WORDS, 176, TWO_WORDS, 184, TWO_WORDS, 192, TWO_WORDS, 200, TWO_WORDS, 208,
+    TWO_WORDS, 216, TWO_WORDS, 64,
+];
+
+/// A gap each side of three objects, and an object whose slots point to these.
+const THREE_BETWEEN_GAPS: [u32; 9] = [
+    NOTHING,
+    ONE_WORD,
+    ONE_WORD,
+    ONE_WORD,
+    NOTHING,
+    4 * 4 + 3,
+    68,
+    72,
+    76,
+];
+
+/// The same of four objects.
+const FOUR_BETWEEN_GAPS: [u32; 11] = [
+    NOTHING,
+    ONE_WORD,
+    ONE_WORD,
+    ONE_WORD,
+    ONE_WORD,
+    NOTHING,
+    5 * 4 + 3,
+    68,
+    72,
+    76,
+    80,
+];
+
+/// An object whose seven fields would be objects of one word, one that points to it, and one whose
+/// fields are the addresses of these seven. The header of the last object is word 10.
+const PIXELS: [u32; 18] = [
+    EIGHT_WORDS,
+    ONE_WORD,
+    ONE_WORD,
+    ONE_WORD,
+    ONE_WORD,
+    ONE_WORD,
+    ONE_WORD,
+    ONE_WORD,
+    TWO_WORDS,
+    64,
+    EIGHT_WORDS + WORDS,
+    68,
+    72,
+    76,
+    80,
+    84,
+    88,
+    92,
+];
+
+/// Words, words that are changed, by their index, and the gaps.
+struct Case {
+    words: &'static [u32],
+    changed: &'static [(usize, u32)],
+    gaps: &'static [Gap],
 }
 
-/// Asserts which gaps the words have.
-fn assert_gaps<R: Abort + AllocGlobal>(rt: &R, words: &[u32], want: &[Gap]) -> Result<(), Fail> {
-    let mut bytes = Vec::new(rt.alloc());
-    for word in words {
-        bytes.extend_from_slice(&word.to_be_bytes())?;
+/// Words without damage.
+const NO_DAMAGE: &[Case] = &[
+    Case {
+        words: &[],
+        changed: &[],
+        gaps: &[],
+    },
+    Case {
+        words: &CHAIN,
+        changed: &[],
+        gaps: &[],
+    },
+];
+
+/// A size that is too large: it would contradict 19 votes, and a gap counts as 4. Zeroed words, and
+/// a chunk before a gap.
+const DAMAGED: &[Case] = &[
+    Case {
+        words: &CHAIN,
+        changed: &[(0, WORDS_40)],
+        gaps: &[Gap { first: 0, words: 2 }],
+    },
+    Case {
+        words: &CHAIN,
+        changed: &[(4, NOTHING), (5, NOTHING), (6, NOTHING), (7, NOTHING)],
+        gaps: &[Gap { first: 4, words: 4 }],
+    },
+    Case {
+        words: &[TWO_WORDS, TWO_WORDS, NOTHING],
+        changed: &[],
+        gaps: &[Gap { first: 2, words: 1 }],
+    },
+];
+
+/// Gaps are rare: objects between two count if there are four.
+const RARE: &[Case] = &[
+    Case {
+        words: &THREE_BETWEEN_GAPS,
+        changed: &[],
+        gaps: &[Gap { first: 0, words: 5 }],
+    },
+    Case {
+        words: &FOUR_BETWEEN_GAPS,
+        changed: &[],
+        gaps: &[Gap { first: 0, words: 1 }, Gap { first: 5, words: 1 }],
+    },
+];
+
+/// Pixels do not vote, and fields do.
+const VOTES: &[Case] = &[
+    Case {
+        words: &PIXELS,
+        changed: &[],
+        gaps: &[],
+    },
+    Case {
+        words: &PIXELS,
+        changed: &[(10, EIGHT_WORDS + FIELDS)],
+        gaps: &[Gap { first: 0, words: 1 }],
+    },
+];
+
+/// The bytes of the words of a case.
+fn bytes_of(alloc: Global, case: &Case) -> Result<Vec<u8>, AllocError> {
+    let mut words = Vec::from_slice(alloc, case.words)?;
+    for (at, word) in case.changed {
+        if let Some(old) = words.get_mut(*at) {
+            *old = *word;
+        }
     }
+    let mut bytes = Vec::new(alloc);
+    put_words(&mut bytes, &words)?;
+    Ok(bytes)
+}
+
+/// The gaps of the words of a case. There are fewer than 100 words.
+fn gaps_in(alloc: Global, case: &Case) -> Result<Vec<Gap>, AllocError> {
+    let bytes = bytes_of(alloc, case)?;
     let words = Words::of(Order::Big, &bytes);
-    assert!(rt; words.len() < 100);
-    let gaps = gaps_of(rt.alloc(), 64, &words)?;
-    assert_eq!(rt; gaps.as_slice(), want);
+    if words.len() < 100 {
+        gaps_of(alloc, 64, &words)
+    } else {
+        Ok(Vec::new(alloc))
+    }
+}
+
+#[test]
+fn gaps_of_words(rt: HostRuntime) -> Result<(), Fail> {
+    for cases in [NO_DAMAGE, DAMAGED, RARE, VOTES] {
+        for case in cases {
+            let found = gaps_in(rt.alloc(), case)?;
+            assert_eq!(rt; found.as_slice(), case.gaps, "{:?}", case.words);
+        }
+    }
     Ok(())
-}
-
-#[test]
-fn no_damage(rt: HostRuntime) -> Result<(), Fail> {
-    assert_gaps(&rt, &[], &[])?;
-    assert_gaps(&rt, &chain(&rt)?, &[])
-}
-
-#[test]
-fn size_too_large(rt: HostRuntime) -> Result<(), Fail> {
-    let mut words = chain(&rt)?;
-    assert_eq!(rt; words.len(), 40);
-    words[0] = WORDS_40; // would contradict 19 votes, and a gap counts as 4
-    assert_gaps(&rt, &words, &[Gap { first: 0, words: 2 }])
-}
-
-#[test]
-fn zeroed_words(rt: HostRuntime) -> Result<(), Fail> {
-    let mut words = chain(&rt)?;
-    assert_eq!(rt; words.len(), 40);
-    words[4..8].fill(NOTHING);
-    assert_gaps(&rt, &words, &[Gap { first: 4, words: 4 }])
-}
-
-#[test]
-fn chunk_before_gap(rt: HostRuntime) -> Result<(), Fail> {
-    let words = [TWO_WORDS, TWO_WORDS, NOTHING];
-    assert_gaps(&rt, &words, &[Gap { first: 2, words: 1 }])
-}
-
-/// A gap each side of some objects, each of which a slot points to.
-fn objects_between_gaps<R: Abort + AllocGlobal>(rt: &R, count: u32) -> Result<Vec<u32>, Fail> {
-    assert!(rt; count < 10);
-    let mut words = Vec::new(rt.alloc());
-    words.push(NOTHING)?;
-    for _ in 0..count {
-        words.push(ONE_WORD)?;
-    }
-    words.extend_from_slice(&[NOTHING, 4 * (count + 1) + 3])?;
-    for k in 0..count {
-        words.push(64 + 4 * (k + 1))?;
-    }
-    Ok(words)
-}
-
-#[test]
-fn gaps_are_rare(rt: HostRuntime) -> Result<(), Fail> {
-    let one = [Gap { first: 0, words: 5 }];
-    let two = [Gap { first: 0, words: 1 }, Gap { first: 5, words: 1 }];
-    assert_gaps(&rt, &objects_between_gaps(&rt, 3)?, &one)?;
-    assert_gaps(&rt, &objects_between_gaps(&rt, 4)?, &two)
-}
-
-/// An object whose seven fields would be objects of one word, one that points to it, and one of
-/// this format whose fields are the addresses of these seven.
-fn pixels<R: Abort + AllocGlobal>(rt: &R, format: u32) -> Result<Vec<u32>, Fail> {
-    let mut words = Vec::new(rt.alloc());
-    words.push(EIGHT_WORDS)?;
-    for _ in 0..7 {
-        words.push(ONE_WORD)?;
-    }
-    words.extend_from_slice(&[TWO_WORDS, 64])?;
-    words.push(EIGHT_WORDS | format << 8)?;
-    for k in 1..8u32 {
-        words.push(64 + 4 * k)?;
-    }
-    Ok(words)
-}
-
-#[test]
-fn pixels_do_not_vote(rt: HostRuntime) -> Result<(), Fail> {
-    assert_gaps(&rt, &pixels(&rt, WORDS)?, &[])?;
-    assert_gaps(&rt, &pixels(&rt, FIELDS)?, &[Gap { first: 0, words: 1 }])
 }
 
 #[test]

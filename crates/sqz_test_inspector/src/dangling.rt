@@ -1,10 +1,11 @@
 //! Patches of worked images, whose first data word has the address 0x1000, and patches in bytes.
 
+use super::images::image_with;
 use sqz_dangling::{Becomes, NilError, Patch, nil_patches, write_patches};
-use sqz_image::{Image, read_image};
+use sqz_image::Fault;
 use sqz_object::Order;
 use sqz_trace::{Live, ObjectGraph, Weak};
-use std::process::Abort;
+use std::alloc::{AllocError, Global};
 use std::test::Fail;
 
 /// The base header of an object with compact class index 1: fields only, one to four words.
@@ -40,145 +41,127 @@ const ODD: u32 = 2;
 /// SmallIntegers.
 const INT_0: u32 = 1;
 
-/// Returns the image with these data words. The first one is the special objects array.
-fn image_of<R: Abort + AllocGlobal>(rt: &R, words: &[u32]) -> Result<Image, Fail> {
-    assert!(rt; words.len() < 100);
-    let mut bytes = Vec::new(rt.alloc());
-    for word in [6502, 64, 4 * words.len() as u32, 0x1000, 0x1000] {
-        bytes.extend_from_slice(&word.to_be_bytes())?;
+/// A word that is patched: its index, its new value, and what it becomes.
+type Patched = (u32, u32, Becomes);
+
+/// The data words of an image, and the patches of its live objects. Nil is at word 4.
+type Case = (&'static [u32], Result<&'static [Patched], NilError>);
+
+/// Nothing dangles, fields dangle, and dead objects stay.
+const FIELDS: &[Case] = &[
+    (&[FOUR_WORDS, 0x1010, INT_0, 0x1000, ONE_WORD], Ok(&[])),
+    (
+        &[FOUR_WORDS, 0x1010, NOWHERE, ODD, ONE_WORD],
+        Ok(&[(2, 0x1010, Becomes::Nil), (3, 0x1010, Becomes::Nil)]),
+    ),
+    (
+        &[FOUR_WORDS, 0x1010, INT_0, INT_0, ONE_WORD, TWO_WORDS, ODD],
+        Ok(&[]),
+    ),
+];
+
+/// A class word keeps its header type, and an object without a class is freed.
+const CLASSES: &[Case] = &[
+    (
+        &[
+            FOUR_WORDS,
+            0x1010,
+            0x1018,
+            INT_0,
+            ONE_WORD,
+            NOWHERE + 1,
+            WITH_CLASS_WORD,
+            ODD,
+        ],
+        Ok(&[(5, 0x1011, Becomes::Nil), (7, 0x1010, Becomes::Nil)]),
+    ),
+    (
+        &[FOUR_WORDS, 0x1010, 0x1014, INT_0, ONE_WORD, NO_CLASS, ODD],
+        Ok(&[(2, 0x1010, Becomes::Nil), (5, 10, Becomes::FreeChunk)]),
+    ),
+];
+
+/// A method, a bad method, and a bad context.
+const METHODS: &[Case] = &[
+    (
+        &[FOUR_WORDS, 0x1010, 0x1014, INT_0, ONE_WORD, METHOD, INT_0],
+        Ok(&[]),
+    ),
+    (
+        &[
+            FOUR_WORDS,
+            0x1010,
+            0x1014,
+            INT_0,
+            ONE_WORD,
+            METHOD,
+            ONE_LITERAL,
+        ],
+        Ok(&[(2, 0x1010, Becomes::Nil), (5, 10, Becomes::FreeChunk)]),
+    ),
+    (
+        &[
+            FOUR_WORDS, 0x1010, INT_0, 0x1014, ONE_WORD, CONTEXT, INT_0, INT_0, INT_0,
+        ],
+        Ok(&[(3, 0x1010, Becomes::Nil), (5, 18, Becomes::FreeChunk)]),
+    ),
+];
+
+/// Images without nil, of which the last needs none, and one whose special objects array cannot be
+/// traced.
+const NO_NIL: &[Case] = &[
+    (&[TWO_WORDS, NOWHERE], Err(NilError::NoNil)),
+    (&[TWO_WORDS, 0x1008, NO_CLASS, INT_0], Err(NilError::NoNil)),
+    (&[THREE_WORDS, INT_0, ODD], Err(NilError::NoNil)),
+    (&[THREE_WORDS, INT_0, INT_0], Ok(&[])),
+    (
+        &[NO_CLASS, 0x1008, ONE_WORD],
+        Err(NilError::NoSpecialObjects),
+    ),
+];
+
+/// The patches as triples.
+fn triples_of(alloc: Global, patches: &[Patch]) -> Result<Vec<Patched>, AllocError> {
+    let mut triples = Vec::new(alloc);
+    for patch in patches {
+        triples.push((patch.word, patch.value, patch.becomes))?;
     }
-    bytes.extend_from_slice(&[0; 44])?;
-    for word in words {
-        bytes.extend_from_slice(&word.to_be_bytes())?;
-    }
-    Ok(read_image(rt.alloc(), &bytes)?)
+    Ok(triples)
 }
 
-/// Asserts which patches the live objects have.
-fn assert_patches<R: Abort + AllocGlobal>(
-    rt: &R,
+/// The patches of the live objects of an image with these data words.
+fn patches_in(
+    alloc: Global,
     words: &[u32],
-    wanted: Result<&[Patch], NilError>,
-) -> Result<(), Fail> {
-    let image = image_of(rt, words)?;
+    weak: Weak,
+) -> Result<Result<Vec<Patched>, NilError>, Fault> {
+    let image = image_with(alloc, words)?;
     let heap = image.heap();
-    for weak in [Weak::Keep, Weak::Clear] {
-        let live = Live::of(rt.alloc(), ObjectGraph { heap, weak })?;
-        match (nil_patches(rt.alloc(), &live), wanted) {
-            (Ok(found), Ok(wanted)) => assert_eq!(rt; found.as_slice(), wanted),
-            (Err(found), Err(wanted)) => assert_eq!(rt; found, wanted),
-            _ => assert!(rt; false),
+    let live = Live::of(alloc, ObjectGraph { heap, weak })?;
+    match nil_patches(alloc, &live) {
+        Ok(patches) => Ok(Ok(triples_of(alloc, &patches)?)),
+        Err(error) => Ok(Err(error)),
+    }
+}
+
+/// Whether the patches of the live objects are those of a case.
+fn has_patches(alloc: Global, case: &Case, weak: Weak) -> Result<bool, Fault> {
+    match (patches_in(alloc, case.0, weak)?, case.1) {
+        (Ok(found), Ok(wanted)) => Ok(found.as_slice() == wanted),
+        (Err(found), Err(wanted)) => Ok(found == wanted),
+        _ => Ok(false),
+    }
+}
+
+#[test]
+fn patches(rt: HostRuntime) -> Result<(), Fail> {
+    for cases in [FIELDS, CLASSES, METHODS, NO_NIL] {
+        for case in cases {
+            assert!(rt; has_patches(rt.alloc(), case, Weak::Keep)?, "{:?}", case.0);
+            assert!(rt; has_patches(rt.alloc(), case, Weak::Clear)?, "{:?}", case.0);
         }
     }
     Ok(())
-}
-
-/// A pointer to nil, which is at word 4, in place of word `word`. `low` is the header type.
-const fn nil_at(word: u32, low: u32) -> Patch {
-    let value = if low == 1 { 0x1011 } else { 0x1010 };
-    let becomes = Becomes::Nil;
-    Patch {
-        word,
-        value,
-        becomes,
-    }
-}
-
-/// The header of a free chunk in place of word `word`.
-const fn free_at(word: u32, value: u32) -> Patch {
-    let becomes = Becomes::FreeChunk;
-    Patch {
-        word,
-        value,
-        becomes,
-    }
-}
-
-#[test]
-fn nothing_dangles(rt: HostRuntime) -> Result<(), Fail> {
-    let words = [FOUR_WORDS, 0x1010, INT_0, 0x1000, ONE_WORD];
-    assert_patches(&rt, &words, Ok(&[]))
-}
-
-#[test]
-fn fields_dangle(rt: HostRuntime) -> Result<(), Fail> {
-    let words = [FOUR_WORDS, 0x1010, NOWHERE, ODD, ONE_WORD];
-    assert_patches(&rt, &words, Ok(&[nil_at(2, 0), nil_at(3, 0)]))
-}
-
-#[test]
-fn dead_objects_stay(rt: HostRuntime) -> Result<(), Fail> {
-    let words = [FOUR_WORDS, 0x1010, INT_0, INT_0, ONE_WORD, TWO_WORDS, ODD];
-    assert_patches(&rt, &words, Ok(&[]))
-}
-
-#[test]
-fn class_word_keeps_header_type(rt: HostRuntime) -> Result<(), Fail> {
-    let words = [
-        FOUR_WORDS,
-        0x1010,
-        0x1018,
-        INT_0,
-        ONE_WORD,
-        NOWHERE + 1,
-        WITH_CLASS_WORD,
-        ODD,
-    ];
-    assert_patches(&rt, &words, Ok(&[nil_at(5, 1), nil_at(7, 0)]))
-}
-
-#[test]
-fn object_without_class(rt: HostRuntime) -> Result<(), Fail> {
-    let words = [FOUR_WORDS, 0x1010, 0x1014, INT_0, ONE_WORD, NO_CLASS, ODD];
-    let freed = free_at(5, 10);
-    assert_patches(&rt, &words, Ok(&[nil_at(2, 0), freed]))
-}
-
-#[test]
-fn bad_method(rt: HostRuntime) -> Result<(), Fail> {
-    let words = [FOUR_WORDS, 0x1010, 0x1014, INT_0, ONE_WORD, METHOD, INT_0];
-    assert_patches(&rt, &words, Ok(&[]))?;
-    let words = [
-        FOUR_WORDS,
-        0x1010,
-        0x1014,
-        INT_0,
-        ONE_WORD,
-        METHOD,
-        ONE_LITERAL,
-    ];
-    let freed = free_at(5, 10);
-    assert_patches(&rt, &words, Ok(&[nil_at(2, 0), freed]))
-}
-
-#[test]
-fn bad_context(rt: HostRuntime) -> Result<(), Fail> {
-    let words = [
-        FOUR_WORDS, 0x1010, INT_0, 0x1014, ONE_WORD, CONTEXT, INT_0, INT_0, INT_0,
-    ];
-    let freed = free_at(5, 18);
-    assert_patches(&rt, &words, Ok(&[nil_at(3, 0), freed]))
-}
-
-#[test]
-fn no_nil(rt: HostRuntime) -> Result<(), Fail> {
-    assert_patches(&rt, &[TWO_WORDS, NOWHERE], Err(NilError::NoNil))?;
-    assert_patches(
-        &rt,
-        &[TWO_WORDS, 0x1008, NO_CLASS, INT_0],
-        Err(NilError::NoNil),
-    )?;
-    assert_patches(&rt, &[THREE_WORDS, INT_0, ODD], Err(NilError::NoNil))?;
-    assert_patches(&rt, &[THREE_WORDS, INT_0, INT_0], Ok(&[]))
-}
-
-#[test]
-fn no_special_objects(rt: HostRuntime) -> Result<(), Fail> {
-    assert_patches(
-        &rt,
-        &[NO_CLASS, 0x1008, ONE_WORD],
-        Err(NilError::NoSpecialObjects),
-    )
 }
 
 #[test]

@@ -8,6 +8,8 @@ mod damage;
 #[cfg(test)]
 mod dangling;
 #[cfg(test)]
+mod images;
+#[cfg(test)]
 mod methods;
 #[cfg(test)]
 mod strict;

@@ -1,8 +1,10 @@
 //! Parts of worked methods, in an image whose first data word has the address 0x1000.
 
+use super::images::image_with;
 use sqz_code::{Instruction, Operation, Source};
-use sqz_image::read_image;
+use sqz_image::{Fault, Heap};
 use sqz_methods::{MethodCode, code_of, method_literals};
+use std::alloc::{AllocError, Global};
 use std::process::Abort;
 use std::test::Fail;
 
@@ -15,126 +17,149 @@ const METHOD: u32 = 0x1C00 + 3;
 
 const PADDING: u32 = 0x100;
 
-/// The header of a method with two literals.
+/// The header of a method without literals, and of one with two.
+const NO_LITERALS: u32 = 1;
+
 const TWO_LITERALS: u32 = 2 * 1024 + 1;
 
-/// The code of a method with this base header, without its size, and these fields.
-fn code<R: Abort + AllocGlobal>(rt: &R, base: u32, fields: &[u32]) -> Result<MethodCode, Fail> {
-    assert!(rt; fields.len() < 20);
-    assert!(rt; base < 0x4000);
-    let mut bytes = Vec::new(rt.alloc());
-    for word in [6502, 64, 4 * fields.len() as u32 + 8, 0x1000, 0x1000] {
-        bytes.extend_from_slice(&word.to_be_bytes())?;
-    }
-    bytes.extend_from_slice(&[0; 44])?;
-    bytes.extend_from_slice(&ONE_WORD.to_be_bytes())?;
-    bytes.extend_from_slice(&(base + 4 * fields.len() as u32 + 4).to_be_bytes())?;
-    for word in fields {
-        bytes.extend_from_slice(&word.to_be_bytes())?;
-    }
-    let image = read_image(rt.alloc(), &bytes)?;
-    let heap = image.heap();
-    assert_eq!(rt; heap.len(), 2);
-    let code = code_of(rt.alloc(), heap, 1)?;
-    assert_eq!(rt;
-        method_literals(heap, 1).len(),
-        code.parts.literals as usize
-    );
-    assert_eq!(rt;
-        code.parts.code_start,
-        4 * code.parts.literals.saturating_add(1)
-    );
-    Ok(code)
+/// The data words of an image with a method that has this base header, without its size, and these
+/// fields, at most 19.
+fn words_of(alloc: Global, base: u32, fields: &[u32]) -> Result<Vec<u32>, AllocError> {
+    let size = 4 * fields.len().min(19) as u32 + 4;
+    let mut words = Vec::new(alloc);
+    words.extend_from_slice(&[ONE_WORD, base.wrapping_add(size)])?;
+    words.extend_from_slice(fields)?;
+    Ok(words)
 }
 
-/// Asserts which bytecodes a method has whose bytes after the header are these words.
-fn assert_bytecodes<R: Abort + AllocGlobal>(
-    rt: &R,
+/// The code of object 1, and the number of its literals. None unless there are two objects.
+fn code_in(alloc: Global, heap: &Heap) -> Result<Option<(MethodCode, usize)>, AllocError> {
+    if heap.len() != 2 {
+        return Ok(None);
+    }
+    let code = code_of(alloc, heap, 1)?;
+    Ok(Some((code, method_literals(heap, 1).len())))
+}
+
+/// The code of such a method, and the number of its literals.
+fn code_and_literals(
+    alloc: Global,
     base: u32,
-    words: &[u32],
-    want: &[u8],
-) -> Result<(), Fail> {
-    let mut fields = vec![in rt.alloc(); 1u32]?;
-    fields.extend_from_slice(words)?;
-    let code = code(rt, base, &fields)?;
-    assert_eq!(rt; code.parts.literals, 0);
-    assert_eq!(rt; code.parts.bytecodes.as_slice(), want);
-    Ok(())
+    fields: &[u32],
+) -> Result<Option<(MethodCode, usize)>, Fault> {
+    let image = image_with(alloc, &words_of(alloc, base, fields)?)?;
+    Ok(code_in(alloc, image.heap())?)
+}
+
+/// The code of such a method. Asserts that its parts state its literals, and where its bytecodes
+/// begin.
+fn code<R: Abort + AllocGlobal>(rt: &R, base: u32, fields: &[u32]) -> Result<MethodCode, Fail> {
+    let found = code_and_literals(rt.alloc(), base, fields)?;
+    let (code, literals) = found.expect(rt, "two objects");
+    assert_eq!(rt;
+        (code.parts.literals as usize, code.parts.code_start as usize),
+        (literals, literals.saturating_add(1).saturating_mul(4))
+    );
+    Ok(code)
 }
 
 #[test]
 fn literals(rt: HostRuntime) -> Result<(), Fail> {
     let code = code(&rt, METHOD, &[TWO_LITERALS, 5, 7, 0x7021_7C01])?;
-    assert_eq!(rt; code.parts.literals, 2);
-    assert!(rt; code.parts.header.is_some_and(|header| header.literals == 2));
-    assert_eq!(rt; code.parts.bytecodes.as_slice(), [0x70, 0x21].as_slice());
     let push = |start: usize, source: Source| Instruction {
         start,
         length: 1,
         operation: Operation::Push(source),
     };
     let want = [push(0, Source::Receiver), push(1, Source::Literal(1))];
+    assert!(rt; code.parts.header.is_some_and(|header| header.literals == 2));
+    assert_eq!(rt;
+        (code.parts.literals, code.parts.bytecodes.as_slice()),
+        (2, [0x70, 0x21].as_slice())
+    );
     assert_eq!(rt; code.instructions.as_slice(), want.as_slice());
     Ok(())
 }
 
-#[test]
-fn trailers(rt: HostRuntime) -> Result<(), Fail> {
+/// The base header of a method without its size, its fields, the first of which is its header, the
+/// number of its literals and its bytecodes.
+type Case = (u32, &'static [u32], u32, &'static [u8]);
+
+/// Methods with a trailer.
+const TRAILERS: &[Case] = &[
     // the last four bytes are a source pointer
-    assert_bytecodes(
-        &rt,
+    (
         METHOD,
-        &[0x7020_7C78, 0x0102_03FC],
+        &[NO_LITERALS, 0x7020_7C78, 0x0102_03FC],
+        0,
         &[0x70, 0x20, 0x7C, 0x78],
-    )?;
+    ),
     // names of temporary variables in two bytes
-    assert_bytecodes(
-        &rt,
+    (
         METHOD,
-        &[0x7020_7C78, 0x8709_0902],
+        &[NO_LITERALS, 0x7020_7C78, 0x8709_0902],
+        0,
         &[0x70, 0x20, 0x7C, 0x78, 0x87],
-    )?;
+    ),
     // more than there are
-    assert_bytecodes(&rt, METHOD, &[0x7020_7C09], &[])?;
+    (METHOD, &[NO_LITERALS, 0x7020_7C09], 0, &[]),
     // one to four zeros
-    assert_bytecodes(&rt, METHOD, &[0x7020_7C00], &[0x70, 0x20, 0x7C])?;
-    assert_bytecodes(&rt, METHOD, &[0x7020_0000], &[0x70, 0x20])?;
-    assert_bytecodes(&rt, METHOD, &[0x7020_7C78, 0], &[0x70, 0x20, 0x7C, 0x78])?;
-    // with five zeros the last one stands alone
-    assert_bytecodes(
-        &rt,
+    (METHOD, &[NO_LITERALS, 0x7020_7C00], 0, &[0x70, 0x20, 0x7C]),
+    (METHOD, &[NO_LITERALS, 0x7020_0000], 0, &[0x70, 0x20]),
+    (
         METHOD,
-        &[0x7020_7C00, 0],
-        &[0x70, 0x20, 0x7C, 0, 0, 0, 0],
-    )
-}
-
-#[test]
-fn padding(rt: HostRuntime) -> Result<(), Fail> {
-    assert_bytecodes(
-        &rt,
-        METHOD + 3 * PADDING,
-        &[0x7020_7C78, 0x0099_9999],
+        &[NO_LITERALS, 0x7020_7C78, 0],
+        0,
         &[0x70, 0x20, 0x7C, 0x78],
-    )?;
-    assert_bytecodes(&rt, METHOD + PADDING, &[0x7002_0199], &[0x70])
-}
+    ),
+    // with five zeros the last one stands alone
+    (
+        METHOD,
+        &[NO_LITERALS, 0x7020_7C00, 0],
+        0,
+        &[0x70, 0x20, 0x7C, 0, 0, 0, 0],
+    ),
+];
+
+/// Methods whose last word has bytes of padding.
+const PADDED: &[Case] = &[
+    (
+        METHOD + 3 * PADDING,
+        &[NO_LITERALS, 0x7020_7C78, 0x0099_9999],
+        0,
+        &[0x70, 0x20, 0x7C, 0x78],
+    ),
+    (METHOD + PADDING, &[NO_LITERALS, 0x7002_0199], 0, &[0x70]),
+];
+
+/// Methods without a header: one without fields, and one whose header is not a SmallInteger.
+const WITHOUT_HEADER: &[Case] = &[
+    (METHOD, &[], 0, &[]),
+    (METHOD, &[TWO_LITERALS - 1, 0x7878_7801], 0, &[0x78, 0x78]),
+];
+
+/// A method with fewer literals than its header says.
+const TOO_FEW: &[Case] = &[(METHOD, &[TWO_LITERALS, 5], 1, &[])];
+
+/// Tables of methods, and whether these have a header.
+const TABLES: [(&[Case], bool); 4] = [
+    (TRAILERS, true),
+    (PADDED, true),
+    (WITHOUT_HEADER, false),
+    (TOO_FEW, true),
+];
 
 #[test]
-fn bad_methods(rt: HostRuntime) -> Result<(), Fail> {
-    // no fields
-    let none = code(&rt, METHOD, &[])?;
-    assert_eq!(rt; none.parts.header.is_none(), true);
-    assert_eq!(rt; none.parts.literals, 0);
-    assert_eq!(rt; none.parts.bytecodes.len(), 0);
-    // a header that is not a SmallInteger
-    let odd = code(&rt, METHOD, &[TWO_LITERALS - 1, 0x7878_7801])?;
-    assert_eq!(rt; odd.parts.header.is_none(), true);
-    assert_eq!(rt; odd.parts.literals, 0);
-    assert_eq!(rt; odd.parts.bytecodes.as_slice(), [0x78, 0x78].as_slice());
-    // fewer literals than the header says
-    let few = code(&rt, METHOD, &[TWO_LITERALS, 5])?;
-    assert_eq!(rt; few.parts.literals, 1);
-    assert_eq!(rt; few.parts.bytecodes.len(), 0);
+fn parts_of_methods(rt: HostRuntime) -> Result<(), Fail> {
+    for (cases, has_header) in &TABLES {
+        for (base, fields, literals, bytecodes) in *cases {
+            let parts = code(&rt, *base, fields)?.parts;
+            assert_eq!(rt; parts.bytecodes.as_slice(), *bytecodes);
+            assert_eq!(rt;
+                (parts.literals, parts.header.is_some()),
+                (*literals, *has_header)
+            );
+        }
+    }
     Ok(())
 }

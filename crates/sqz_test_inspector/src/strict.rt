@@ -1,8 +1,10 @@
 //! Warnings about worked images, whose first data word has the address 0x1000.
 
-use sqz_image::read_image;
+use super::images::image_with;
+use sqz_image::Fault;
 use sqz_strict::{ClassShape, Warning, warnings_of};
 use sqz_trace::{Live, ObjectGraph, Weak};
+use std::alloc::Global;
 use std::process::Abort;
 use std::test::Fail;
 
@@ -33,137 +35,196 @@ const COMPACT: u32 = 0x1000;
 /// A class states two fixed fields, format 0 and compact class index 0.
 const STATES_TWO: u32 = 3 * 4 + 1;
 
+/// The warnings about an image with these data words.
+fn warnings_in(alloc: Global, words: &[u32], weak: Weak) -> Result<Vec<Warning>, Fault> {
+    let image = image_with(alloc, words)?;
+    let heap = image.heap();
+    let live = Live::of(alloc, ObjectGraph { heap, weak })?;
+    Ok(warnings_of(alloc, &live)?)
+}
+
 /// Asserts which warnings there are about an image with these data words.
 fn assert_warnings<R: Abort + AllocGlobal>(
     rt: &R,
     words: &[u32],
     wanted: &[Warning],
 ) -> Result<(), Fail> {
-    assert!(rt; words.len() < 100);
-    let mut bytes = Vec::new(rt.alloc());
-    for word in [6502, 64, 4 * words.len() as u32, 0x1000, 0x1000] {
-        bytes.extend_from_slice(&word.to_be_bytes())?;
-    }
-    bytes.extend_from_slice(&[0; 44])?;
-    for word in words {
-        bytes.extend_from_slice(&word.to_be_bytes())?;
-    }
-    let image = read_image(rt.alloc(), &bytes)?;
-    let heap = image.heap();
     for weak in [Weak::Keep, Weak::Clear] {
-        let live = Live::of(rt.alloc(), ObjectGraph { heap, weak })?;
-        let warnings = warnings_of(rt.alloc(), &live)?;
-        assert_eq!(rt; warnings.as_slice(), wanted);
+        let found = warnings_in(rt.alloc(), words, weak)?;
+        assert_eq!(rt; found.as_slice(), wanted);
     }
     Ok(())
 }
 
-/// Asserts whether an object with this base header and two fields is as its class states, whose
-/// field 2 is `shape`.
-fn assert_fits<R: Abort + AllocGlobal>(
-    rt: &R,
-    header: u32,
-    shape: u32,
-    wanted: &[ClassShape],
-) -> Result<(), Fail> {
-    let mut warnings = Vec::new(rt.alloc());
-    for stated in wanted {
-        warnings.push(Warning::Shape {
-            object: 2,
-            stated: *stated,
-        })?;
+/// The base header of an object with two fields, field 2 of its class, and what the class states if
+/// the object is not so: a format, a number of fixed fields and a compact class index.
+type Case = (u32, u32, Option<(u32, u32, u32)>);
+
+/// Asserts whether objects are as their classes state.
+fn assert_fits<R: Abort + AllocGlobal>(rt: &R, cases: &[Case]) -> Result<(), Fail> {
+    for (header, shape, wanted) in cases {
+        let words = [
+            TWO_WORDS, 0x101C, FOUR_WORDS, INT, INT, *shape, 0x1009, *header, INT, INT,
+        ];
+        match *wanted {
+            Some(stated) => assert_warnings(rt, &words, &[shape_warning(stated)])?,
+            None => assert_warnings(rt, &words, &[])?,
+        }
     }
-    let words = [
-        TWO_WORDS, 0x101C, FOUR_WORDS, INT, INT, shape, 0x1009, header, INT, INT,
-    ];
-    assert_warnings(rt, &words, &warnings)
+    Ok(())
 }
 
-/// What a class states.
-const fn stated(format: u32, fixed: u32, compact: u32) -> ClassShape {
-    ClassShape {
+/// The warning that object 2 is not as its class states.
+fn shape_warning((format, fixed, compact): (u32, u32, u32)) -> Warning {
+    let stated = ClassShape {
         format,
         fixed,
         compact,
-    }
+    };
+    Warning::Shape { object: 2, stated }
 }
 
-#[test]
-fn number_of_fields(rt: HostRuntime) -> Result<(), Fail> {
-    for format in [0, 1, 2, 3, 4] {
-        let (more, less) = (
-            STATES_TWO + 4 + FORMAT * format,
-            STATES_TWO - 4 + FORMAT * format,
-        );
-        let header = TWO_FIELDS + FORMAT * format;
-        assert_fits(&rt, header, STATES_TWO + FORMAT * format, &[])?;
-        assert_fits(&rt, header, more, &[stated(format, 3, 0)])?;
-        if format < 2 {
-            assert_fits(&rt, header, less, &[stated(format, 1, 0)])?;
-        } else {
-            assert_fits(&rt, header, less, &[])?;
-        }
-    }
-    assert_fits(&rt, TWO_FIELDS, STATES_TWO + 0x20000, &[stated(0, 66, 0)])
-}
+/// Classes that state two fields, three fields and one field, for each format with fields.
+const NUMBERS_OF_FIELDS: &[Case] = &[
+    (TWO_FIELDS, STATES_TWO, None),
+    (TWO_FIELDS, STATES_TWO + 4, Some((0, 3, 0))),
+    (TWO_FIELDS, STATES_TWO - 4, Some((0, 1, 0))),
+    (TWO_FIELDS + FORMAT, STATES_TWO + FORMAT, None),
+    (
+        TWO_FIELDS + FORMAT,
+        STATES_TWO + FORMAT + 4,
+        Some((1, 3, 0)),
+    ),
+    (
+        TWO_FIELDS + FORMAT,
+        STATES_TWO + FORMAT - 4,
+        Some((1, 1, 0)),
+    ),
+    (TWO_FIELDS + 2 * FORMAT, STATES_TWO + 2 * FORMAT, None),
+    (
+        TWO_FIELDS + 2 * FORMAT,
+        STATES_TWO + 2 * FORMAT + 4,
+        Some((2, 3, 0)),
+    ),
+    (TWO_FIELDS + 2 * FORMAT, STATES_TWO + 2 * FORMAT - 4, None),
+    (TWO_FIELDS + 3 * FORMAT, STATES_TWO + 3 * FORMAT, None),
+    (
+        TWO_FIELDS + 3 * FORMAT,
+        STATES_TWO + 3 * FORMAT + 4,
+        Some((3, 3, 0)),
+    ),
+    (TWO_FIELDS + 3 * FORMAT, STATES_TWO + 3 * FORMAT - 4, None),
+    (TWO_FIELDS + 4 * FORMAT, STATES_TWO + 4 * FORMAT, None),
+    (
+        TWO_FIELDS + 4 * FORMAT,
+        STATES_TWO + 4 * FORMAT + 4,
+        Some((4, 3, 0)),
+    ),
+    (TWO_FIELDS + 4 * FORMAT, STATES_TWO + 4 * FORMAT - 4, None),
+    (TWO_FIELDS, STATES_TWO + 0x20000, Some((0, 66, 0))),
+];
 
-#[test]
-fn formats(rt: HostRuntime) -> Result<(), Fail> {
-    assert_fits(&rt, TWO_FIELDS + FORMAT, STATES_TWO, &[stated(0, 2, 0)])?;
-    assert_fits(&rt, TWO_FIELDS + 6 * FORMAT, 5 + 6 * FORMAT, &[])?;
-    assert_fits(&rt, TWO_FIELDS + 11 * FORMAT, 5 + 8 * FORMAT, &[])?;
-    assert_fits(
-        &rt,
-        TWO_FIELDS + 8 * FORMAT,
-        5 + 6 * FORMAT,
-        &[stated(6, 0, 0)],
-    )
-}
+/// Classes that state another format.
+const FORMATS: &[Case] = &[
+    (TWO_FIELDS + FORMAT, STATES_TWO, Some((0, 2, 0))),
+    (TWO_FIELDS + 6 * FORMAT, 5 + 6 * FORMAT, None),
+    (TWO_FIELDS + 11 * FORMAT, 5 + 8 * FORMAT, None),
+    (TWO_FIELDS + 8 * FORMAT, 5 + 6 * FORMAT, Some((6, 0, 0))),
+];
 
-#[test]
-fn compact_index(rt: HostRuntime) -> Result<(), Fail> {
-    assert_fits(&rt, TWO_FIELDS, STATES_TWO + 5 * COMPACT, &[])?;
-    assert_fits(&rt, TWO_FIELDS + 5 * COMPACT, STATES_TWO + 5 * COMPACT, &[])?;
-    assert_fits(
-        &rt,
+/// Classes that state a compact class index.
+const COMPACT_INDEXES: &[Case] = &[
+    (TWO_FIELDS, STATES_TWO + 5 * COMPACT, None),
+    (TWO_FIELDS + 5 * COMPACT, STATES_TWO + 5 * COMPACT, None),
+    (
         TWO_FIELDS + 4 * COMPACT,
         STATES_TWO + 5 * COMPACT,
-        &[stated(0, 2, 5)],
-    )
-}
+        Some((0, 2, 5)),
+    ),
+];
+
+/// A class whose field 2 is one more than no number, and one whose field 2 is not a SmallInteger.
+const NOTHING_STATED: &[Case] = &[(TWO_FIELDS, INT, None), (TWO_FIELDS, 0x1000, None)];
 
 #[test]
-fn nothing_stated(rt: HostRuntime) -> Result<(), Fail> {
-    assert_fits(&rt, TWO_FIELDS, INT, &[])?; // one more than no number
-    assert_fits(&rt, TWO_FIELDS, 0x1000, &[]) // not a SmallInteger
+fn shapes(rt: HostRuntime) -> Result<(), Fail> {
+    for cases in [NUMBERS_OF_FIELDS, FORMATS, COMPACT_INDEXES, NOTHING_STATED] {
+        assert_fits(&rt, cases)?;
+    }
+    Ok(())
 }
 
-#[test]
-fn method_dictionary(rt: HostRuntime) -> Result<(), Fail> {
-    let mut words = [
-        TWO_WORDS, 0x101C, FOUR_WORDS, INT, 0x1028, STATES_TWO, 0x1009, TWO_FIELDS, INT, INT,
-        FOUR_WORDS, INT, 0x1038, 0x1000, TWO_WORDS, INT,
-    ];
-    assert_warnings(&rt, &words, &[])?;
-    words[14] = ONE_WORD;
-    words[15] = ONE_WORD;
-    assert_warnings(&rt, &words, &[Warning::MethodDictionary { object: 3 }])
-}
+/// The data words of images, and the warnings: a method dictionary whose array of methods is long
+/// enough, and one that is too short; an association without a key, and one with a key.
+const WARNINGS: &[(&[u32], &[Warning])] = &[
+    (
+        &[
+            TWO_WORDS, 0x101C, FOUR_WORDS, INT, 0x1028, STATES_TWO, 0x1009, TWO_FIELDS, INT, INT,
+            FOUR_WORDS, INT, 0x1038, 0x1000, TWO_WORDS, INT,
+        ],
+        &[],
+    ),
+    (
+        &[
+            TWO_WORDS, 0x101C, FOUR_WORDS, INT, 0x1028, STATES_TWO, 0x1009, TWO_FIELDS, INT, INT,
+            FOUR_WORDS, INT, 0x1038, 0x1000, ONE_WORD, ONE_WORD,
+        ],
+        &[Warning::MethodDictionary { object: 3 }],
+    ),
+    (
+        &[
+            TEN_WORDS,
+            0x1028,
+            INT,
+            INT,
+            INT,
+            INT,
+            INT,
+            INT,
+            INT,
+            0x102C,
+            ONE_WORD,
+            THREE_WORDS,
+            INT,
+            0x1038,
+            TWO_WORDS,
+            0x1040,
+            THREE_WORDS,
+            0x1028,
+            INT,
+        ],
+        &[Warning::NoKey { object: 4 }],
+    ),
+    (
+        &[
+            TEN_WORDS,
+            0x1028,
+            INT,
+            INT,
+            INT,
+            INT,
+            INT,
+            INT,
+            INT,
+            0x102C,
+            ONE_WORD,
+            THREE_WORDS,
+            INT,
+            0x1038,
+            TWO_WORDS,
+            0x1040,
+            THREE_WORDS,
+            0x1038,
+            INT,
+        ],
+        &[],
+    ),
+];
 
 #[test]
-fn no_key(rt: HostRuntime) -> Result<(), Fail> {
-    let mut words = [INT; 19];
-    words[0] = TEN_WORDS;
-    words[1] = 0x1028;
-    words[9] = 0x102C;
-    words[10] = ONE_WORD;
-    words[11] = THREE_WORDS;
-    words[13] = 0x1038;
-    words[14] = TWO_WORDS;
-    words[15] = 0x1040;
-    words[16] = THREE_WORDS;
-    words[17] = 0x1028;
-    assert_warnings(&rt, &words, &[Warning::NoKey { object: 4 }])?;
-    words[17] = 0x1038;
-    assert_warnings(&rt, &words, &[])
+fn warnings(rt: HostRuntime) -> Result<(), Fail> {
+    for (words, wanted) in WARNINGS {
+        assert_warnings(&rt, words, wanted)?;
+    }
+    Ok(())
 }
