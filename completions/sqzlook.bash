@@ -2,7 +2,7 @@
 _sqzlook() {
   local word=${COMP_WORDS[COMP_CWORD]} options='--clear-weak --human --json --past-damage --help'
   if ((COMP_CWORD == 1)); then
-    mapfile -t COMPREPLY < <(compgen -W 'check mend info census digest list show why refs top diff code senders implementors stacks find dump --help --version' -- "$word")
+    mapfile -t COMPREPLY < <(compgen -W 'check mend info census digest list show why refs top diff code senders implementors stacks find dump explore --help --version' -- "$word")
     return
   fi
   case ${COMP_WORDS[1]} in

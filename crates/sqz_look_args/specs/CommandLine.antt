@@ -10,7 +10,7 @@ use Rattle.clap.specs.declared.builder.command.Command.TheViews.{out-Command as 
 use Rattle.clap.specs.declared.builder.value_parser.ValueParser.TheVariants as vp
 use Rattle.sqz_look_args.specs.declared.subcommands.Name.{Name}
 use Rattle.sqz_look_args.specs.declared.subcommands.Name.TheVariants.{Check, Mend, Info, Census, Digest, List as ListName, Show, Why, Refs, Top, Diff}
-use Rattle.sqz_look_args.specs.declared.subcommands.Name.TheVariants.{Code, Senders, Implementors, Stacks, Find, Dump}
+use Rattle.sqz_look_args.specs.declared.subcommands.Name.TheVariants.{Code, Senders, Implementors, Stacks, Find, Dump, Explore}
 use Rattle.sqz_look_args.specs.declared.subcommands.Subcommand.{Subcommand}
 use Rattle.sqz_look_args.specs.declared.arguments.Argument.{Argument}
 use Rattle.sqz_look_args.specs.declared.arguments.Argument.TheVariants.{Image, Images, Old, New, Object, Root, Class, AllFaults, All}
@@ -106,6 +106,7 @@ subcommands =
     ∷ listed Stacks (codes "stacks") (Image ∷ All ∷ [])
     ∷ listed Find (codes "find") (Image ∷ Pattern ∷ All ∷ [])
     ∷ listed Dump (codes "dump") (Image ∷ [])
+    ∷ listed Explore (codes "explore") (Image ∷ [])
     ∷ []
 
 -- the subcommand that a word stands for

@@ -65,6 +65,7 @@ pub(crate) fn question_of<'a>(
         Name::Stacks => about_image(matches, Ok(NamedQuestion::Stacks)),
         Name::Find => about_image(matches, strings(alloc, matches)),
         Name::Dump => about_image(matches, Ok(NamedQuestion::Dump)),
+        Name::Explore => about_image(matches, Ok(NamedQuestion::Explore)),
     }
 }
 

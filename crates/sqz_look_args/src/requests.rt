@@ -96,6 +96,8 @@ pub enum NamedQuestion {
     /// The strings that match a regular expression.
     Find(Regex),
     Dump,
+    /// A page that shows the image in a browser.
+    Explore,
 }
 
 /// A question that is asked about each of some objects.

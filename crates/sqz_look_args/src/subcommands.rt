@@ -25,6 +25,7 @@ pub(crate) enum Name {
     Stacks,
     Find,
     Dump,
+    Explore,
 }
 
 impl Name {
@@ -219,8 +220,16 @@ const DUMP: Subcommand = Subcommand {
     example: "Example:\n  sqzlook dump Scratch.image | jq -c .label",
 };
 
+const EXPLORE: Subcommand = Subcommand {
+    name: Name::Explore,
+    word: "explore",
+    about: "Write a page that shows an image in a browser",
+    arguments: &[Argument::Image],
+    example: "Example:\n  sqzlook explore Scratch.image > scratch.html",
+};
+
 /// Returns all subcommands, in the order of the help.
-pub(crate) fn subcommands() -> [Subcommand; 17]
+pub(crate) fn subcommands() -> [Subcommand; 18]
     ensures { map listed_of result ≡ subcommands }
 {
     // no constant, since a contract cannot name one that holds references
@@ -242,5 +251,6 @@ pub(crate) fn subcommands() -> [Subcommand; 17]
         STACKS,
         FIND,
         DUMP,
+        EXPLORE,
     ]
 }

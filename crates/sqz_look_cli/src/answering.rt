@@ -142,9 +142,11 @@ fn printed<T: Files + Threads + Sync, C: Sink, E: Sink>(
     pass_on(answered, rest.as_str(), out)
 }
 
-/// Returns the form in which the answer to a request is printed. A dump is always JSON.
+/// Returns the form in which the answer to a request is printed. A dump is always JSON, and a page
+/// is text.
 fn format_of(request: &Request<'_>) -> Format {
-    if request.json || is_dump(&request.question) {
+    let is_json = request.json && !is_page(&request.question);
+    if is_json || is_dump(&request.question) {
         Format::Json
     } else {
         Format::Text {
@@ -160,6 +162,17 @@ fn is_dump(question: &Question<'_>) -> bool {
         question,
         Question::About {
             question: NamedQuestion::Dump,
+            ..
+        }
+    )
+}
+
+/// Returns whether a question asks for a page.
+fn is_page(question: &Question<'_>) -> bool {
+    matches!(
+        question,
+        Question::About {
+            question: NamedQuestion::Explore,
             ..
         }
     )

@@ -19,9 +19,11 @@ use sqz_look::{print_dead_list, print_dump, print_list, print_matches, print_why
 use sqz_look_args::{Instances, NamedQuestion, Question, TopOptions};
 use sqz_look_check::CheckOptions;
 use sqz_look_code::{print_implementors, print_senders, print_stacks};
-use sqz_look_files::{Failure, ReadFile, Session, check_all, warn};
+use sqz_look_explore::{FileNotes, print_explore};
+use sqz_look_files::{Failure, ReadFile, Session, check_all, fault_text, warn};
 use sqz_look_top::print_top;
-use sqz_look_view::{Inspector, Out};
+use sqz_look_view::{Inspector, Out, Subject};
+use std::alloc::AllocError;
 use std::io::Read;
 use std::rt::Files;
 use std::thread::Threads;
@@ -79,18 +81,44 @@ fn answer_about<T: Files + Threads + Sync, C: Sink, E: Sink>(
         ReadFile::Image(read) => {
             let subject = session.subject(&read.image)?;
             warn(session.rt, &subject, path, err)?;
+            let fault = fault_for(session, &subject, question)?;
             let inspector = Inspector::of(subject)?;
-            let exit = answer_by_names(&inspector, path, question, out, err)?;
+            let skipped = read.skipped.as_deref();
+            let notes = notes_of(path, fault.as_deref(), skipped);
+            let exit = answer_by_names(session.rt, &inspector, notes, question, out, err)?;
             Ok(exit)
         }
         ReadFile::Unreadable(unreadable) => Err(Failure::NotThere(unreadable.message(alloc)?)),
     }
 }
 
-/// Prints the answer to a question about what the image of a file holds, and returns the exit.
-fn answer_by_names<C: Sink, E: Sink>(
+/// Returns what a page says about a file with this path.
+fn notes_of<'a>(path: &'a str, fault: Option<&'a str>, skipped: Option<&'a str>) -> FileNotes<'a> {
+    FileNotes {
+        path,
+        fault,
+        skipped,
+    }
+}
+
+/// Returns the first fault of an image as text, if a page is asked for, which has it.
+fn fault_for<T: Threads + Sync>(
+    session: &Session<'_, T>,
+    subject: &Subject<'_>,
+    question: &NamedQuestion,
+) -> Result<Option<String>, AllocError> {
+    match question {
+        NamedQuestion::Explore => fault_text(session.rt, subject),
+        _ => Ok(None),
+    }
+}
+
+/// Prints the answer to a question about what the image of a file holds, and returns the exit. A
+/// page has the notes about the file.
+fn answer_by_names<T: Threads + Sync, C: Sink, E: Sink>(
+    rt: &T,
     inspector: &Inspector<'_>,
-    path: &str,
+    notes: FileNotes<'_>,
     question: &NamedQuestion,
     out: &mut Out<'_, C>,
     err: &mut E,
@@ -100,7 +128,7 @@ fn answer_by_names<C: Sink, E: Sink>(
 {
     match question {
         NamedQuestion::About(asked) => {
-            return answer_about_objects(inspector, path, asked, out, err);
+            return answer_about_objects(inspector, notes.path, asked, out, err);
         }
         NamedQuestion::List { class, which } => {
             answer_about_class(inspector, class.as_str(), *which, out)?;
@@ -116,6 +144,7 @@ fn answer_by_names<C: Sink, E: Sink>(
         NamedQuestion::Stacks => print_stacks(inspector, out)?,
         NamedQuestion::Find(pattern) => print_matches(inspector, pattern, out)?,
         NamedQuestion::Dump => print_dump(inspector, out)?,
+        NamedQuestion::Explore => print_explore(rt, inspector, notes, out)?,
     }
     Ok(DONE)
 }

@@ -14,4 +14,4 @@ pub use failure::Failure;
 pub use mending::mend;
 pub use messages::{explain_failure, print_fault, print_message, print_names};
 pub use session::{ReadFile, ReadImage, Session};
-pub use warnings::warn;
+pub use warnings::{fault_text, warn};

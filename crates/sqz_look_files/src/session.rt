@@ -34,11 +34,12 @@ pub enum ReadFile {
     Unreadable(Unreadable),
 }
 
-/// An image that was read, and whether nothing was skipped.
+/// An image that was read, and whether nothing was skipped; else what was, as text.
 #[derive(Drop)]
 pub struct ReadImage {
     pub image: Image,
     pub is_whole: bool,
+    pub skipped: Option<String>,
 }
 
 impl<T> Session<'_, T> {
@@ -50,20 +51,22 @@ impl<T> Session<'_, T> {
         Subject::of(self.alloc, image, self.weak)
     }
 
-    /// Prints what was skipped of a file: as text a line on `err`, as JSON a line on `out`.
+    /// Prints what was skipped of a file: as text a line on `err`, as JSON a line on `out`. Returns
+    /// the text.
     fn print_skipped<C: Sink, E: Sink>(
         &self,
         recovered: &Recovered,
         path: &str,
         out: &mut Out<'_, C>,
         err: &mut E,
-    ) -> Result<(), Failure>
+    ) -> Result<String, Failure>
         ensures { IfErr result IsReadFailure }
     {
         let view = SkippedView::of(self.alloc, path, &recovered.header, &recovered.damage)?;
-        print_message(Some(path), view.to_string(self.alloc)?.as_str(), err);
+        let text = view.to_string(self.alloc)?;
+        print_message(Some(path), text.as_str(), err);
         out.data(&view)?;
-        Ok(())
+        Ok(text)
     }
 }
 
@@ -91,6 +94,7 @@ impl<T: Files + Threads + Sync> Session<'_, T> {
                 Loaded::Image(image) => ReadFile::Image(ReadImage {
                     image,
                     is_whole: true,
+                    skipped: None,
                 }),
                 Loaded::Unreadable(unreadable) => ReadFile::Unreadable(unreadable),
             },
@@ -117,10 +121,15 @@ impl<T: Files + Threads + Sync> Session<'_, T> {
             LoadedPast::Unreadable(unreadable) => return Ok(ReadFile::Unreadable(unreadable)),
         };
         let is_whole = recovered.damage.is_none();
+        let mut skipped = None;
         if !is_whole {
-            self.print_skipped(&recovered, path, out, err)?;
+            skipped = Some(self.print_skipped(&recovered, path, out, err)?);
         }
         let image = recovered.image;
-        Ok(ReadFile::Image(ReadImage { image, is_whole }))
+        Ok(ReadFile::Image(ReadImage {
+            image,
+            is_whole,
+            skipped,
+        }))
     }
 }

@@ -29,3 +29,14 @@ pub fn warn<T: Threads + Sync, E: Sink>(
     print_message(Some(path), message.as_str(), err);
     Ok(())
 }
+
+/// Returns the first fault of an image as text. None if the image is sound.
+pub fn fault_text<T: Threads + Sync>(
+    rt: &T,
+    subject: &Subject<'_>,
+) -> Result<Option<String>, AllocError> {
+    match first_fault(rt, &subject.live) {
+        Some(fault) => Ok(Some(fault_message(subject, fault)?)),
+        None => Ok(None),
+    }
+}

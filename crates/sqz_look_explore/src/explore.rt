@@ -1,0 +1,76 @@
+//! An image as a page.
+
+use crate::classes::add_classes;
+use crate::head::add_head;
+use crate::objects::add_objects;
+use crate::page_out::PageOut;
+use sqz_answers::retained_histogram;
+use sqz_dominators::dominators_of;
+use sqz_image::Sink;
+use sqz_look_page::PAGE;
+use sqz_look_view::{Categories, Inspector, Out, PrintError, organizer_of};
+use std::thread::Threads;
+
+/// What a page says about the file of an image.
+#[derive(Clone, Copy)]
+pub struct FileNotes<'a> {
+    /// The path of the file.
+    pub path: &'a str,
+    /// The first fault of the image.
+    pub fault: Option<&'a str>,
+    /// What of the file was skipped.
+    pub skipped: Option<&'a str>,
+}
+
+/// Prints a page that shows an image: its file, its classes, and each live object once, by address.
+/// Fails with `WriteFailed` if the sink does, and with `OutOfMemory`.
+///
+/// After the page come blocks of data. Each is a script element of the type `application/json`, in
+/// which no text has a `<`, and its class says what its lines are. Each line is a JSON value:
+///
+/// - `image`: one line, an object. Texts that are not there are 0, as everywhere.
+/// - `classes`: an array for each class of a live object, those that retain most first: the place
+///   of the class, or -1 less the compact index if there is no class; its name and category; how
+///   many objects it has, their bytes, and the bytes that they retain; and the array of the names
+///   of its instance variables.
+/// - `objects`: an array for each live object, by address: its place; its bytes, and the bytes that
+///   it retains; the place of its immediate dominator, or -1; its class, as above; its identity
+///   hash times 2048, its header words times 512, its compact class index times 16 and its format,
+///   added up; its label, if it is
+///   more than the class and the address; the value of a number or a character; the bytes of a
+///   byte object as text; and then its traced fields.
+/// - `end`: one line, the array of the number of live objects. A page without it was cut.
+///
+/// A place is the number of a data word, so the address is that of the first one and four times the
+/// place. A field is an odd number, one more than twice the SmallInteger; or an even one, twice the
+/// place of an object; an array of such a number if it is weak; or a text with the hexadecimal
+/// digits of a word that leads to no object.
+pub fn print_explore<C: Sink>(
+    rt: &(impl Threads + Sync),
+    inspector: &Inspector<'_>,
+    notes: FileNotes<'_>,
+    out: &mut Out<'_, C>,
+) -> Result<(), PrintError> {
+    let (alloc, live) = (inspector.alloc, &inspector.live);
+    let dominators = dominators_of(alloc, live.graph)?;
+    let histogram = retained_histogram(rt, alloc, live)?;
+    let organizer = organizer_of(inspector)?;
+    let categories = Categories::of(inspector, organizer)?;
+    let mut page = PageOut::new(alloc, out);
+    page.plain(PAGE);
+    add_head(inspector, &notes, &mut page);
+    add_classes(
+        inspector,
+        organizer,
+        &categories,
+        &histogram.rows,
+        &mut page,
+    );
+    add_objects(inspector, &dominators, &mut page);
+    page.begin("end");
+    page.open('[');
+    page.number(i64::from(histogram.objects));
+    page.end_line(']');
+    page.end_block();
+    page.end()
+}

@@ -1,0 +1,133 @@
+//! Lines of objects.
+
+ghost use Rattle.std.specs.Prelude.{◌<◌};
+ghost use Rattle.sqz_image.specs.Objects.{object_count};
+
+use crate::page_out::PageOut;
+use crate::places::{offset_of, place_of};
+use sqz_answers::{ShownSlot, slot_at, slot_count};
+use sqz_dominators::Dominators;
+use sqz_facts::{Held, ObjectFacts, object_facts};
+use sqz_histogram::first_bytes;
+use sqz_image::{Sink, Slot};
+use sqz_look_view::{Hex, Inspector, value_text};
+use sqz_names::{Label, escaped};
+use sqz_object::ObjectIndex;
+use std::alloc::AllocError;
+
+/// Adds a line for each live object, by address.
+pub(crate) fn add_objects<C: Sink>(
+    inspector: &Inspector<'_>,
+    dominators: &Dominators,
+    page: &mut PageOut<'_, '_, C>,
+) {
+    page.begin("objects");
+    for object in 0..inspector.live.graph.heap.len() {
+        if page.has_failed() {
+            break;
+        }
+        if inspector.live.marks.has(object) {
+            page.open('[');
+            add_numbers(inspector, dominators, object, page);
+            add_texts(inspector, object, page);
+            add_slots(inspector, object, page);
+            page.end_line(']');
+        }
+    }
+    page.end_block();
+}
+
+/// Adds the numbers of an object: its place, its bytes, the bytes that it retains, the place of its
+/// immediate dominator, its class, and its header.
+fn add_numbers<C: Sink>(
+    inspector: &Inspector<'_>,
+    dominators: &Dominators,
+    object: ObjectIndex,
+    page: &mut PageOut<'_, '_, C>,
+)
+    requires { object < object_count inspector.now.live.graph.heap.now }
+{
+    let graph = inspector.live.graph;
+    let facts = object_facts(graph, object);
+    page.number(place_of(inspector, object));
+    page.size(facts.bytes);
+    page.size(dominators.retained(object).bytes);
+    match dominators.immediate(object) {
+        Some(above) if above < graph.heap.len() => page.number(place_of(inspector, above)),
+        _ => page.number(-1),
+    }
+    match facts.class {
+        Some(class) => page.number(place_of(inspector, class)),
+        None => page.number(-1 - i64::from(facts.compact_index)),
+    }
+    page.number(i64::from(header_of(facts)));
+}
+
+/// Returns the identity hash, the number of header words, the compact class index and the format of
+/// an object in one number.
+fn header_of(facts: ObjectFacts) -> u32 {
+    (facts.hash << 11) | (facts.header_words << 9) | (facts.compact_index << 4) | facts.format
+}
+
+/// Adds the label of an object, its value if it is a number or a character, and the bytes of a byte
+/// object as text, if it has these.
+fn add_texts<C: Sink>(inspector: &Inspector<'_>, object: ObjectIndex, page: &mut PageOut<'_, '_, C>)
+    requires { object < object_count inspector.now.live.graph.heap.now }
+{
+    page.made_if_any(label_of(inspector, object));
+    page.made_if_any(value_text(inspector, object));
+    page.made_if_any(text_of(inspector, object));
+}
+
+/// Returns the label of an object, unless it is only its class and address.
+fn label_of(inspector: &Inspector<'_>, object: ObjectIndex) -> Result<Option<String>, AllocError>
+    requires { object < object_count inspector.now.live.graph.heap.now }
+{
+    match inspector.names.label_of(object)? {
+        Label::Other => Ok(None),
+        _ => Ok(Some(inspector.names.label(object)?)),
+    }
+}
+
+/// Returns the bytes of a byte object as text.
+fn text_of(inspector: &Inspector<'_>, object: ObjectIndex) -> Result<Option<String>, AllocError>
+    requires { object < object_count inspector.now.live.graph.heap.now }
+{
+    let (alloc, heap) = (inspector.alloc, inspector.live.graph.heap);
+    match first_bytes(alloc, heap.order(), &heap.object(object), usize::MAX)? {
+        Some(bytes) => Ok(Some(escaped(alloc, &bytes)?)),
+        None => Ok(None),
+    }
+}
+
+/// Adds the traced fields of an object.
+fn add_slots<C: Sink>(inspector: &Inspector<'_>, object: ObjectIndex, page: &mut PageOut<'_, '_, C>)
+    requires { object < object_count inspector.now.live.graph.heap.now }
+{
+    let heap = inspector.live.graph.heap;
+    for place in 0..slot_count(heap, object) {
+        add_slot(inspector, slot_at(heap, object, place), page);
+    }
+}
+
+/// Adds a slot, unless it is the class word or not traced. What the words of images have in their
+/// last bit says here, too, what a number is: an odd one a SmallInteger, and an even one a place.
+fn add_slot<C: Sink>(inspector: &Inspector<'_>, shown: ShownSlot, page: &mut PageOut<'_, '_, C>) {
+    if shown.slot == Slot::ClassWord {
+        return;
+    }
+    let word = shown.facts.word;
+    match shown.facts.held {
+        Held::Integer(number) => {
+            page.number(i64::from(number).saturating_mul(2).saturating_add(1));
+        }
+        Held::Pointer(_) => page.number(i64::from(offset_of(inspector, word) / 2)),
+        Held::Weak(_) => {
+            page.open('[');
+            page.number(i64::from(offset_of(inspector, word) / 2));
+            page.close(']');
+        }
+        Held::Bad => page.made(Hex(word).to_string(inspector.alloc)),
+        Held::Untraced => {}
+    }
+}
