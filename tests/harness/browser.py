@@ -193,6 +193,7 @@ class Browser:
         """Presses a key, and releases it."""
         code = KEYS.get(key)
         text = {} if code else {"text": key}
+        text = {"text": "\r"} if key == "Enter" else text  # which submits a form
         numbers = {"windowsVirtualKeyCode": code} if code else {}
         self.ask("Input.dispatchKeyEvent", type="keyDown", key=key, **text, **numbers)
         self.ask("Input.dispatchKeyEvent", type="keyUp", key=key, **numbers)

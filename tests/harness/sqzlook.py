@@ -24,6 +24,7 @@ COMMANDS = (
     "stacks",
     "find",
     "dump",
+    "explore",
 )
 
 

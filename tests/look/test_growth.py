@@ -46,7 +46,7 @@ def lines_about(it):
     first, *others = it.objects
     lines = [("check", "--all"), ("check", "--strict"), ("info",), ("top", "--min", "0")]
     lines += [("code", "--all"), ("code", "--unsent"), ("code", "--unimplemented")]
-    lines += [("stacks",), ("dump",)]
+    lines += [("stacks",), ("dump",), ("explore",)]
     lines += [("census", "--dead"), ("census", "--retained")]
     lines += [("top", *form) for form in (("--json",), ("--svg",), ("--folded", "--min", "0"))]
     lines += [("show", "--json"), ("why", "--raw")]

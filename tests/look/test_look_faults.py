@@ -38,6 +38,7 @@ QUESTIONS = (
     ("stacks", "accepted/dead_cycle.image"),
     ("find", "accepted/class_names.image", "P"),
     ("dump", "accepted/dead_cycle.image"),
+    ("explore", "accepted/dead_cycle.image"),
     ("mend", "--nil", "accepted/dead_cycle.image"),
     ("diff", "accepted/dozen_classes.image", "accepted/class_names.image"),
     ("diff", "accepted/metaclass.image", "accepted/class_names.image", "--json"),
