@@ -30,7 +30,7 @@ pub const PAGE: &str = r##"<!doctype html>
      this script and this style alone; `bench/embed_page.py` writes their hashes. -->
 <html lang="en">
 <meta charset="utf-8">
-<meta http-equiv="Content-Security-Policy" content="default-src 'none'; script-src 'sha256-IXIjFK3pj89jKlwnW085DFQSSdcpYTGt74JE4LO6F5g='; style-src 'sha256-GxO1RD6lhjWxsHtYU6NLE8r+tf0mUnaM2XWcZ1yXJkQ='; base-uri 'none'; form-action 'none'">
+<meta http-equiv="Content-Security-Policy" content="default-src 'none'; script-src 'sha256-5nZ7qZsM27ZJ0W7PoMDeFxq9HUiitYtTQIwCY8krXww='; style-src 'sha256-GxO1RD6lhjWxsHtYU6NLE8r+tf0mUnaM2XWcZ1yXJkQ='; base-uri 'none'; form-action 'none'">
 <meta name="viewport" content="width=device-width, initial-scale=1">
 <meta name="color-scheme" content="light dark">
 <title>Squeak image</title>
@@ -425,11 +425,19 @@ function read() {
     }
   }
   if (image.head) {
-    const total = image.head.live_objects;
-    report(`${grouped(count())} of ${counted(total, "object")} read`, count() / (total || 1));
+    const total = image.head.live_objects, part = count() / (total || 1);
+    report(`${grouped(count())} of ${counted(total, "object")} read${timeLeft(part)}`, part);
   }
   if (!reading.block && !nextBlock() && document.readyState !== "loading") startIndex();
   else later(read);
+}
+
+const STARTED = performance.now();
+
+/** Returns how long reading will take, if it is long, after a part of it. */
+function timeLeft(part) {
+  const elapsed = (performance.now() - STARTED) / 1000, left = elapsed / part - elapsed;
+  return elapsed > 1 && left > 1 ? `, about ${Math.ceil(left)} s left` : "";
 }
 
 function report(stage, part) {
@@ -998,7 +1006,7 @@ function show() {
         + "`sqzlook explore IMAGE` writes one that does."));
     return;
   }
-  const parts = [...(VIEWS[name] ?? overview)(parameters)];
+  const parts = [...(Object.hasOwn(VIEWS, name) ? VIEWS[name] : overview)(parameters)];
   if (image.isIndexed && !image.isWhole) {
     parts.unshift(make("p", { class: "warning", id: "cut" }, `This page was cut: it has `
       + `${grouped(count())} of ${counted(image.head.live_objects, "live object")}. Sums and `
