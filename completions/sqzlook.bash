@@ -13,7 +13,7 @@ _sqzlook() {
     list) options+=' --all --by --dead' ;;
     census) options+=' --all --dead --retained' ;;
     why) options+=' --all --raw' ;;
-    top) options+=' --by --depth --min --folded --svg' ;;
+    top) options+=' --by --depth --min --folded' ;;
   esac
   if [[ $word == -* ]]; then
     mapfile -t COMPREPLY < <(compgen -W "$options" -- "$word")

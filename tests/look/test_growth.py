@@ -48,7 +48,7 @@ def lines_about(it):
     lines += [("code", "--all"), ("code", "--unsent"), ("code", "--unimplemented")]
     lines += [("stacks",), ("dump",), ("explore",)]
     lines += [("census", "--dead"), ("census", "--retained")]
-    lines += [("top", *form) for form in (("--json",), ("--svg",), ("--folded", "--min", "0"))]
+    lines += [("top", *form) for form in (("--json",), ("--folded", "--min", "0"))]
     lines += [("show", "--json"), ("why", "--raw")]
     lines = [(*line, NAME, *((first,) if line[0] in ("show", "why") else ())) for line in lines]
     for form in ((), ("--all",), ("--json",)):

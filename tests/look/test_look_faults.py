@@ -31,7 +31,6 @@ QUESTIONS = (
     ("top", "accepted/dozen_classes.image", "--min", "0"),
     ("top", "accepted/class_names.image", "--json"),
     ("top", "accepted/class_names.image", "--folded"),
-    ("top", "accepted/class_names.image", "--svg"),
     ("code", "accepted/class_names.image"),
     ("code", "accepted/class_names.image", "--unsent"),
     ("senders", "accepted/class_names.image", "+"),

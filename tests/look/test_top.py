@@ -1,5 +1,5 @@
-"""Asks `sqzlook top` about worked, random and real images, and compares its rows, its folded stacks
-and its drawings with a second implementation."""
+"""Asks `sqzlook top` about worked, random and real images, and compares its rows and its folded
+stacks with a second implementation."""
 
 import functools
 import random
@@ -9,7 +9,6 @@ import unittest
 from tests.harness.failed_outputs import FailedOutputs
 from tests.harness.json_rows import rows_of
 from tests.harness.known_image import NAME, KnownImageTest, answers_about
-from tests.harness.programs import ROOT
 from tests.harness.saved_image import SavedImageTest
 from tests.harness.sqzlook import CLEAR, look, look_at_all
 from tests.harness.top_checks import USUAL, Asked, Shape, TopTest
@@ -44,8 +43,8 @@ GROUP_SHAPES = USUAL, Shape(100, "0"), Shape(least="12.5")
 OBJECT_SHAPES = (USUAL, Shape(1, "0"), Shape(least="12.5"))
 SMALL_OBJECTS, REAL_OBJECTS = 4, 20
 REAL_SHAPES = (USUAL, Shape(least="5"), Shape(3, "0"), Shape(12, "0.05"))
-FORMS = ((), ("--json",), ("--folded",), ("--svg",))
-# Texts that mean something to the readers of folded stacks and of drawings.
+FORMS = ((), ("--json",), ("--folded",))
+# Texts that mean something to the readers of folded stacks.
 TEXTS = (b"one;two", b"<b title=\"x\">&amp;'", b"]]>", b"a\nb;c\x00", b"\xff\xfe")
 # A line of text: retained bytes, percent, objects, and a label that is two spaces deeper a level.
 LINE = re.compile(r" *(\d+) +(\d+\.\d) +(\d+)   ((?:  )*)(\S.*)")
@@ -219,10 +218,6 @@ class TextTest(KnownImageTest):
         ):
             self.assertRegex(text, line)
 
-    def test_drawing_in_docs(self):
-        printed = self.printed("top", "--svg", "--depth", "4", "--min", "2")
-        self.assertEqual(printed, (ROOT / "docs" / "top.svg").read_bytes())
-
     def test_lines(self):
         tree = tree_of(self.answers)
         for shape in (USUAL, Shape(least="5"), Shape(12, "0.2")):
@@ -289,13 +284,13 @@ class CommandLineTest(FailedOutputs, DeadArrayTest):
             self.assert_explained(self.top("in", option))
 
     def test_one_form(self):
-        self.assert_explained(self.top("--folded", "--svg", "in"))
+        self.assert_explained(self.top("--folded", "--json", "in"))
 
     def test_help(self):
         outcome = self.top("--help")
         self.assert_quiet(outcome)
         text = outcome.stdout.decode()
         self.assertRegex(text, r"(?m)^ *(\$ )?sqzlook top .*\.image")
-        for option in ("--depth <N>", "--min <PERCENT>", "--folded", "--svg", "--json"):
+        for option in ("--depth <N>", "--min <PERCENT>", "--folded", "--json"):
             with self.subTest(option):
                 self.assertIn(option, text)

@@ -9,7 +9,7 @@ import typing
 from tests.reference.changes import Side
 from tests.reference.fields import ClassField
 from tests.reference.names import shortened
-from tests.reference.tree import BOX_DEPTH, BOX_MIN, DEPTH, MIN
+from tests.reference.tree import DEPTH, MIN
 
 CLASS, CATEGORY = "class", "category"
 NO_CATEGORY = "(no category)"
@@ -99,10 +99,6 @@ class GroupedTree:
             rows.append(row)
         return rows
 
-    def boxes(self, depth=BOX_DEPTH, least=BOX_MIN):
-        """The rows that have boxes in a drawing."""
-        return self.rows(depth, max(least, BOX_MIN, key=fractions.Fraction))
-
     def retained(self, members):
         return sum(self.tree.retained[it] for it in members)
 
@@ -134,10 +130,6 @@ class GroupedTree:
             row = self.row(members, None, label, above)
             rows.append(row._replace(groups=len(smaller), own=row.retained))
         return rows
-
-    def class_name(self, row):
-        """The name by which a box has its colour."""
-        return row.group
 
     def json(self, rows):
         """What `--json` prints about rows."""

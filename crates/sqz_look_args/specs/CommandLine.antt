@@ -16,7 +16,7 @@ use Rattle.sqz_look_args.specs.declared.arguments.Argument.{Argument}
 use Rattle.sqz_look_args.specs.declared.arguments.Argument.TheVariants.{Image, Images, Old, New, Object, Root, Class, AllFaults, All}
 use Rattle.sqz_look_args.specs.declared.arguments.Argument.TheVariants.{ClassOrMethod, Selector, Pattern, Nil, Strict}
 use Rattle.sqz_look_args.specs.declared.arguments.Argument.TheVariants.{Classes, Unsent, Unimplemented}
-use Rattle.sqz_look_args.specs.declared.arguments.Argument.TheVariants.{Dead, Retained, DeadInstances, By, GroupBy, Raw, Depth, Min, Folded, Svg}
+use Rattle.sqz_look_args.specs.declared.arguments.Argument.TheVariants.{Dead, Retained, DeadInstances, By, GroupBy, Raw, Depth, Min, Folded}
 
 -- a required word
 abbrev pub required_word : Text → Rule
@@ -75,7 +75,6 @@ argument_rule Raw = flag_option (codes "raw")
 argument_rule Depth = number_option (codes "depth") 100
 argument_rule Min = value_option (codes "min")
 argument_rule Folded = exclusive_flag (codes "folded")
-argument_rule Svg = exclusive_flag (codes "svg")
 
 -- a subcommand: its name, the word that stands for it, and its own arguments
 pub record Listed : Type 0 where
@@ -98,7 +97,7 @@ subcommands =
     ∷ listed Show (codes "show") (Image ∷ Object ∷ All ∷ [])
     ∷ listed Why (codes "why") (Image ∷ Object ∷ Raw ∷ All ∷ [])
     ∷ listed Refs (codes "refs") (Image ∷ Object ∷ All ∷ [])
-    ∷ listed Top (codes "top") (Image ∷ Root ∷ GroupBy ∷ Depth ∷ Min ∷ Folded ∷ Svg ∷ [])
+    ∷ listed Top (codes "top") (Image ∷ Root ∷ GroupBy ∷ Depth ∷ Min ∷ Folded ∷ [])
     ∷ listed Diff (codes "diff") (Old ∷ New ∷ All ∷ [])
     ∷ listed Code (codes "code") (Image ∷ ClassOrMethod ∷ Classes ∷ Unsent ∷ Unimplemented ∷ All ∷ [])
     ∷ listed Senders (codes "senders") (Image ∷ Selector ∷ All ∷ [])

@@ -38,7 +38,6 @@ pub(crate) enum Argument {
     Depth,
     Min,
     Folded,
-    Svg,
 }
 
 /// Returns an argument.
@@ -113,7 +112,6 @@ pub(crate) fn arg_of<'a>(alloc: Global, argument: Argument) -> Result<Arg<'a>, A
         Argument::Depth => Ok(depth(alloc)),
         Argument::Min => Ok(min(alloc)),
         Argument::Folded => folded(alloc),
-        Argument::Svg => svg(alloc),
     }
 }
 
@@ -163,7 +161,7 @@ fn depth<'a>(alloc: Global) -> Arg<'a>
     Arg::new(alloc, "depth")
         .long("depth")
         .value_name("N")
-        .help("Print N levels below the first row, at most 100 [default: 4, or 12 with --svg]")
+        .help("Print N levels below the first row, at most 100 [default: 4]")
         .action(ArgAction::Set)
         .value_parser(ValueParser::unsigned(0, 100))
 }
@@ -175,9 +173,7 @@ fn min<'a>(alloc: Global) -> Arg<'a>
     Arg::new(alloc, "min")
         .long("min")
         .value_name("PERCENT")
-        .help(
-            "Print rows of at least PERCENT of the first row's bytes [default: 1, or 0.02 with --svg]",
-        )
+        .help("Print rows of at least PERCENT of the first row's bytes [default: 1]")
         .action(ArgAction::Set)
 }
 
@@ -213,15 +209,7 @@ fn folded<'a>(alloc: Global) -> Result<Arg<'a>, AllocError>
         "folded",
         "Print folded stacks, which tools for flame graphs read",
     )
-    .conflicts_with("svg")?
     .conflicts_with("json")
-}
-
-/// Returns the option that asks for a drawing.
-fn svg<'a>(alloc: Global) -> Result<Arg<'a>, AllocError>
-    ensures { IfOk result (HasRule (exclusive_flag (codes "svg"))) }
-{
-    flag(alloc, "svg", "Print a drawing, as SVG").conflicts_with("json")
 }
 
 /// Returns a required positional argument.

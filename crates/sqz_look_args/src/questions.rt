@@ -217,9 +217,7 @@ fn asked_root(alloc: Global, matches: &ArgMatches<'_>) -> Result<Option<String>,
 
 /// Returns what is asked for of a tree.
 fn top_options<'a>(matches: &ArgMatches<'a>) -> Result<TopOptions, BadRequest<'a>> {
-    let form = if flag_of(matches, "svg") {
-        TopForm::Drawing
-    } else if flag_of(matches, "folded") {
+    let form = if flag_of(matches, "folded") {
         TopForm::Folded
     } else {
         TopForm::Rows

@@ -152,7 +152,6 @@ const TOP: Subcommand = Subcommand {
         Argument::Depth,
         Argument::Min,
         Argument::Folded,
-        Argument::Svg,
     ],
     example: "Example:\n  sqzlook top --min 5 Scratch.image",
 };

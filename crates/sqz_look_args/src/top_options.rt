@@ -10,8 +10,6 @@ pub enum TopForm {
     Rows,
     /// Folded stacks: a line for each row with the labels of the rows above it.
     Folded,
-    /// An icicle drawing, as SVG.
-    Drawing,
 }
 
 /// How much of a tree is printed, and in which form.

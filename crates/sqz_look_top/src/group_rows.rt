@@ -78,7 +78,7 @@ impl LabelledGroups {
             GroupedObjects::Root | GroupedObjects::Smaller { .. } => None,
         };
         let label = label_of(inspector, root, row, name.as_ref())?;
-        self.rows.push(row_of(row, label, name.as_ref())?)?;
+        self.rows.push(row_of(row, label))?;
         self.names.push(name)?;
         Ok(())
     }
@@ -153,21 +153,17 @@ fn label_of(
     }
 }
 
-/// Returns a row with a label and the name of its group.
-fn row_of(row: GroupedRow, label: String, name: Option<&String>) -> Result<Row, AllocError> {
-    let class = match name {
-        Some(name) => Some(name.clone()?),
-        None => None,
-    };
-    Ok(Row {
+/// Returns a row with a label.
+fn row_of(row: GroupedRow, label: String) -> Row {
+    Row {
         label,
         address: None,
-        class,
+        class: None,
         depth: row.depth as usize,
         parent: None,
         own: row.own,
         apart: row.apart,
         retained: row.retained,
         objects: row.objects,
-    })
+    }
 }

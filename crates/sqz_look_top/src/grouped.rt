@@ -3,13 +3,11 @@
 ghost use Rattle.std.specs.Prelude.{◌≡◌, true};
 ghost use Rattle.sqz_trace.specs.Graph.{is_marked};
 
-use crate::drawing::{Whole, print_drawing};
 use crate::folded::print_folded;
 use crate::group_rows::{GroupRowView, LabelledGroups};
 use crate::grouping::ObjectGroups;
 use crate::options::limits_of;
 use crate::share::Share;
-use crate::top::whole_of;
 use sqz_answers::{GroupedRow, grouped_rows};
 use sqz_dominators::dominators_of;
 use sqz_image::Sink;
@@ -36,9 +34,6 @@ pub(crate) fn print_grouped<C: Sink>(
     let found = grouped_rows(alloc, live, &dominators, &groups.keys, limits)?;
     let labelled = LabelledGroups::of(inspector, &groups, root, &found)?;
     match options.form {
-        TopForm::Drawing => {
-            print_drawing(alloc, &labelled.rows, whole_of(inspector, root, bytes), out)
-        }
         TopForm::Folded => print_folded(alloc, &labelled.rows, out),
         TopForm::Rows => print_group_rows(inspector, &found, &labelled, bytes, out),
     }

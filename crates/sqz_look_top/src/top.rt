@@ -5,7 +5,6 @@ ghost use Rattle.sqz_image.specs.Objects.{object_count};
 ghost use Rattle.sqz_answers.specs.GroupCounts.{AreCountsWithin};
 ghost use Rattle.sqz_trace.specs.Graph.{is_marked};
 
-use crate::drawing::{Whole, print_drawing};
 use crate::folded::print_folded;
 use crate::grouped::print_grouped;
 use crate::options::limits_of;
@@ -43,18 +42,8 @@ pub fn print_top<C: Sink>(
     let top = top_rows(alloc, live, &dominators, &variables, limits)?;
     let rows = labelled(inspector, &top)?;
     match options.form {
-        TopForm::Drawing => print_drawing(alloc, &rows, whole_of(inspector, root, bytes), out),
         TopForm::Folded => print_folded(alloc, &rows, out),
         TopForm::Rows => print_rows(inspector, &rows, &top.groups, bytes, out),
-    }
-}
-
-/// Returns what the first row retains, which is the row of this object.
-pub(crate) fn whole_of(inspector: &Inspector<'_>, root: ObjectIndex, bytes: u64) -> Whole {
-    let is_special = root == inspector.live.graph.heap.special();
-    Whole {
-        bytes,
-        kind: if is_special { "live" } else { "retained" },
     }
 }
 
