@@ -1,6 +1,7 @@
 """Runs `sqzlook` on damaged images: `mend`, and other commands with `--past-damage`."""
 
 import array
+import os
 import random
 import re
 
@@ -15,10 +16,11 @@ from tests.making.changed_images import at_base, with_words
 from tests.making.random_images import random_files
 from tests.making.seed import SEED
 from tests.reference.damage import is_sound, mend_file
+from tests.reference.fields import SpecialField
 from tests.reference.file_format import HEADER_WORDS, VERSION, bytes_of
 from tests.reference.image import Image
-from tests.reference.objects import Format
-from tests.reference.repair import repaired_file
+from tests.reference.objects import FREE, Format
+from tests.reference.repair import repair_row, repaired_file
 
 HEADER = 4 * HEADER_WORDS
 SECTOR = 512
@@ -33,6 +35,8 @@ BITMAP = 49 << 2 | 3 | Format.WORDS << 8 | 1 << 12
 # of memory, and `EACH_WORD` bytes for each of these words.
 SMALL, LARGE = 1 << 22, 1 << 24
 REST, EACH_WORD = 64 << 20, 32
+# Random damages of an image that Squeak saved.
+SAVED_DAMAGES = int(os.environ.get("SQZ_DAMAGES", "8"))
 # The maximum number of words that `mend --nil` lists.
 MOST_WORDS = 20
 
@@ -58,6 +62,21 @@ def skipped_line(it, path):
     return f"sqzlook: {path}: {'; '.join(parts)}\n"
 
 
+def counted(count, noun):
+    """A number with a noun."""
+    return f"{count} {noun}" if count == 1 else f"{count} {noun}s"
+
+
+def repair_text(row):
+    """What text says of a repair."""
+    return (
+        f"{row['kept_objects']} of {row['live_objects']} live objects, "
+        f"{counted(row['kept_bytes'], 'byte')} of {counted(row['live_bytes'], 'byte')}; "
+        f"{counted(row['cleared_pointers'], 'pointer')} cleared, "
+        f"{counted(row['freed_objects'], 'object')} freed"
+    )
+
+
 class SmallDamageTest(LookTest):
     """Small images of which some words or bytes were changed."""
 
@@ -80,13 +99,26 @@ class SmallDamageTest(LookTest):
         expected, patches = repaired_file(file, options == CLEAR)
         if expected is None:
             self.assertEqual((outcome.status, outcome.stdout), (1, b""))
+            self.assert_check_says(name, None, options)
             return
         self.assertEqual((outcome.status, outcome.stdout), (0, expected))
         words = [int(it) for it in re.findall(rb"^word (\d+) ", outcome.stderr, re.MULTILINE)]
         self.assertEqual(words, [place for place, _ in patches][:MOST_WORDS])
+        row = repair_row(file, options == CLEAR)
+        line = f"sqzlook: {name}: kept {repair_text(row)}\n"
+        self.assertEqual(line in outcome.stderr.decode(), patches != [])
+        self.assert_check_says(name, None if is_sound(file, options == CLEAR) else row, options)
         self.write("repaired.image", expected)
         compacted = run(SQZCOMPACT, [*options, "repaired.image", "out.image"], folder=self.folder)
         self.assertEqual((compacted.status, compacted.stderr), (0, b""))
+
+    def assert_check_says(self, name, row, options):
+        """Checks that `check` says before what `mend --nil` keeps."""
+        outcome = look("check", "--json", *options, name, folder=self.folder)
+        self.assertEqual(rows_of(outcome.stdout)[0]["repair"], row)
+        text = look("check", *options, name, folder=self.folder).stdout.decode()
+        lines = [] if row is None else [f"{name}: mend --nil keeps {repair_text(row)}"]
+        self.assertEqual([it for it in text.splitlines() if ": mend --nil " in it], lines)
 
     def damaged(self, generator, file):
         """The file with one to three changes: a word, a sector, or its end."""
@@ -320,6 +352,52 @@ class SavedDamageTest(SavedImageTest):
                 self.assertIn((it.first, it.end), found)
         self.assertRegex(outcome.stderr, rb"^sqzlook: damaged.image: skipped \d+ bytes at word \d+")
 
+    def test_random_damages(self):
+        """`mend --nil` changes no word that was not damaged but to clear a pointer or to free a
+        chunk, and reads each object without a damaged word as it was."""
+        generator = random.Random(SEED)
+        for number in range(SAVED_DAMAGES):
+            image = at_base(self.image, generator.randrange(0, 1 << 31, 0x1000))
+            words, damaged = self.randomly_damaged(generator, image)
+            with self.subTest(number=number, base=image.base, damaged=damaged):
+                self.write("damaged.image", with_words(image, words).file())
+                self.assert_compacts("damaged.image")
+                repaired, _ = Image.read((self.folder / "repaired.image").read_bytes())
+                self.assert_keeps(image, repaired, damaged)
+
+    def randomly_damaged(self, generator, image):
+        """The words of the image with a damage, and the range of words that it covers."""
+        words, count = image.words[:], len(image.words)
+        start = generator.randrange(0, count - 1024, 128)
+        match generator.randrange(4):
+            case 0:
+                damaged = range(start, start + 128)
+            case 1:
+                damaged = range(start, start + 1024)
+            case 2:
+                damaged = range(start + generator.randrange(128), start + 128)
+            case 3:
+                it = generator.choice(image.objects)
+                words[it.base] ^= 1 << generator.randrange(2)
+                return words, range(it.first, it.end)
+        for place in damaged:
+            words[place] = 0
+        return words, damaged
+
+    def assert_keeps(self, image, repaired, damaged):
+        """Checks which words of an image were changed by its damage and its repair, and that each
+        object without a damaged word is an object, or was freed."""
+        nil = image.address(image.objects[image.field(image.special, SpecialField.NIL)])
+        freed = set()
+        for place, (old, new) in enumerate(zip(image.words, repaired.words)):
+            if old != new and place not in damaged and new & ~3 != nil:
+                self.assertEqual(new & 3, FREE)
+                freed.update(range(place, place + (new >> 2)))
+        found = {(it.first, it.end) for it in repaired.objects}
+        for it in image.objects:
+            if it.end <= damaged.start or damaged.stop <= it.first:
+                self.assertTrue((it.first, it.end) in found or it.first in freed)
+
     def test_check_says_how_much_can_be_read(self):
         file = self.damages()["cut"]
         it = mend_file(file)
@@ -335,7 +413,8 @@ class SavedDamageTest(SavedImageTest):
         self.assertEqual(
             text,
             f"cut.image: fault 6: data are truncated: {it.missing} bytes are missing, {size} bytes "
-            f"cannot be read; {readable['objects']} objects before and after\n",
+            f"cannot be read; {readable['objects']} objects before and after\n"
+            f"cut.image: mend --nil keeps {repair_text(row['repair'])}\n",
         )
 
     def test_undamaged(self):

@@ -18,6 +18,7 @@ from tests.reference.damage import readable
 from tests.reference.faults import Fault, cause
 from tests.reference.file_format import HEADER_WORDS, PREFIX, VERSION, words_of
 from tests.reference.image import Image
+from tests.reference.repair import repair_row
 
 # The objects of each random image that are asked about.
 RANDOM_OBJECTS = 10
@@ -125,7 +126,9 @@ class UnreadableImagesTest(LookTest):
             row = fault.row(header[1] if header else 0)
             known = header_row(*header) if header else None
             past = readable(file) if fault.number in (6, 7, 8, 9) else None
-            checked, informed = unreadable_check(name, row, past), unreadable_info(name, row, known)
+            repair = repair_row(file) if past is not None else None
+            checked = unreadable_check(name, row, past, repair)
+            informed = unreadable_info(name, row, known)
             questions.append(Question(("check", "--json", name), [checked], 1))
             questions.append(Question(("check", "--all", "--json", name), [checked], 1))
             questions.append(Question(("info", "--json", name), [informed], 1))

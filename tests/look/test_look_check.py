@@ -86,6 +86,8 @@ class FolderTest(SavedImageTest):
     def assert_lines(self, outcome, names):
         """Checks for a line about each of these files."""
         lines = outcome.stdout.decode().splitlines()
+        # what a repair keeps is tested with damage
+        lines = [line for line in lines if ": mend --nil keeps " not in line]
         self.assertEqual(len(lines), len(names))
         count, words = len(self.image.objects), len(self.image.words)
         size = f"{count} objects, {count} live, {4 * words} bytes live"

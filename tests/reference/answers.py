@@ -8,6 +8,7 @@ from tests.reference.fields import SPECIAL_NAMES, AssociationField
 from tests.reference.names import Names, escaped
 from tests.reference.objects import Format, compact_index, format_of, has_bytes, traced_end
 from tests.reference.reachability import Reachability
+from tests.reference.repair import repair_row
 from tests.reference.values import method_of, preview, signed, value_of
 
 
@@ -70,7 +71,12 @@ class Answers:
             "live_bytes": self.reach.live_bytes,
             "faults": self.faults(show_all),
             "readable": None,
+            "repair": self.repair() if self.defects else None,
         }
+
+    def repair(self):
+        """What `mend --nil` keeps and clears of the file of this image."""
+        return repair_row(self.image.file(), self.names.clear_weak)
 
     def info(self, path):
         image = self.image
@@ -357,9 +363,9 @@ class Answers:
         ]
 
 
-def unreadable_check(path, fault, readable=None):
+def unreadable_check(path, fault, readable=None, repair=None):
     """The row of `check` about an image that cannot be read for this fault, itself a row, with how
-    much can be read past damage."""
+    much can be read past damage, and what `mend --nil` keeps."""
     return {
         "image": path,
         "sound": False,
@@ -368,6 +374,7 @@ def unreadable_check(path, fault, readable=None):
         "live_bytes": None,
         "faults": [fault],
         "readable": readable,
+        "repair": repair,
     }
 
 

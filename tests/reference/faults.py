@@ -142,7 +142,8 @@ class Defects:
             if not word & 1 and word not in self.image.numbers:
                 slot = "class" if place < it.base else f"field {place - it.base - 1}"
                 text = f"bad pointer in object {address}, {slot}"
-                cause = {"word": f"{word:08x}", "near": self.neighbour(word)}
+                near = self.neighbour(word, is_class_word=place < it.base)
+                cause = {"word": f"{word:08x}", "near": near}
                 return Fault(14, text, address, place, cause, number)
         return None
 
@@ -154,11 +155,16 @@ class Defects:
         for place in range(it.base + 1, traced_end(words, it)):
             yield place, words[place]
 
-    def neighbour(self, word):
+    def neighbour(self, word, is_class_word):
         """The object whose address differs from a word in one bit, if there is exactly one, with
-        the name of its class."""
-        near = [word ^ 1 << bit for bit in range(32) if word ^ 1 << bit in self.image.numbers]
+        the name of its class; for a class word the only one that can be a class, if there is
+        one."""
+        numbers = self.image.numbers
+        near = [numbers[word ^ 1 << bit] for bit in range(32) if word ^ 1 << bit in numbers]
+        classes = [number for number in near if self.image.can_be_class(number)]
+        if is_class_word and len(classes) == 1:
+            near = classes
         if len(near) != 1:
             return None
-        number = self.image.numbers[near[0]]
-        return {"address": f"{near[0]:08x}", "class": self.names.class_name(number)}
+        address = self.image.address(self.image.objects[near[0]])
+        return {"address": f"{address:08x}", "class": self.names.class_name(near[0])}

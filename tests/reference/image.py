@@ -130,11 +130,16 @@ class Image:
             return None
         return self.strong_field(number, field, clear_weak)
 
+    def class_word(self, number):
+        """The address in an object's class word, if its header has one."""
+        it = self.objects[number]
+        return self.words[it.base - 1] & ~3 if it.base > it.first else None
+
     def class_of(self, number, clear_weak=False):
         """The number of an object's class, if it has one."""
-        it = self.objects[number]
-        if it.base > it.first:
-            return self.numbers.get(self.words[it.base - 1] & ~3)
+        it, word = self.objects[number], self.class_word(number)
+        if word is not None:
+            return self.numbers.get(word)
         compact_classes = self.class_field(self.special, SpecialField.COMPACT_CLASSES, clear_weak)
         if compact_classes is None or compact_index(self.words[it.base]) == 0:
             return None
@@ -150,6 +155,16 @@ class Image:
         if place >= it.end or not self.words[place] & 1:
             return None
         return (self.words[place] >> 17 & 3) * 64 + (self.words[place] >> 2 & 63) - 1
+
+    def can_be_class(self, number):
+        """Whether an object has fixed fields alone, states how many fixed fields its instances
+        have, and has no SmallIntegers where a class has its superclass and its methods."""
+        it, fixed = self.objects[number], self.fixed_fields(number)
+        if format_of(self.words[it.base]) != Format.FIXED or fixed is None or fixed < 0:
+            return False
+        return not any(
+            self.words[it.base + 1 + field] & 1 for field in (ClassField.SUPERCLASS, ClassField.METHODS)
+        )
 
     def first_weak(self, number):
         """The data word of an object's first weak field, if it is a weak object.

@@ -94,14 +94,26 @@ class Strict:
         keys = max(self.size(number) - DictionaryField.SELECTORS, 0)
         return methods is not None and self.size(methods) < keys
 
+    def lacks_dictionary(self, number):
+        """Whether the method dictionary of a class is nil, or no object."""
+        nil = self.image.field(self.image.special, SpecialField.NIL)
+        methods = self.image.field(number, ClassField.METHODS)
+        return self.image.can_be_class(number) and methods in (None, nil)
+
     def warnings(self):
-        """All warnings, by object; the shape of an object comes first, and its key last."""
-        dictionaries = self.targets(self.classes(), ClassField.METHODS)
+        """All warnings, by object; the class of an object comes first, and its key last."""
+        classes = self.classes()
+        dictionaries = self.targets(classes, ClassField.METHODS)
         associations, nil = self.associations(), self.image.field(self.image.special, 0)
         for number in self.live:
+            a_class = self.class_of(number)
+            if a_class is not None and not self.image.can_be_class(a_class):
+                yield Warned("no class", number)
             shape = self.stated(self.class_of(number))
             if shape is not None and not self.fits(number, shape):
                 yield Warned("shape", number, shape)
+            if number in classes and self.lacks_dictionary(number):
+                yield Warned("no method dictionary", number)
             if number in dictionaries and self.is_short(number):
                 yield Warned("method dictionary", number)
             key = self.image.field(number, AssociationField.KEY)

@@ -8,6 +8,7 @@ use Rattle.sqz_object.specs.Chunk.{fields}
 use Rattle.sqz_image.specs.declared.slot.Slot.{Slot}
 use Rattle.sqz_image.specs.declared.slot.Slot.TheVariants.{Field}
 use Rattle.sqz_image.specs.Objects.{Memory, Object}
+use Rattle.sqz_trace.specs.declared.weak.Weak.{Weak}
 use Rattle.sqz_trace.specs.Slots.{traced, field_slots}
 use Rattle.sqz_trace.proofs.SlotLemmas.{slot_word-field, field_slots-append, fields-push}
 use Rattle.sqz_places.specs.Words.{slot_index}
@@ -18,47 +19,47 @@ use Rattle.sqz_dangling.specs.Dangling.{is_dangling, is_dangling_word, dangles, 
 use Rattle.sqz_dangling.specs.Patches.{nil_patch, slot_patch, nil_word}
 use Rattle.sqz_dangling.specs.Pushed.{nil_or_zero, ArePushed, IsPushError, IsMissing}
 
-module _ (memory : Memory) (chunk : List ℕ) where
+module _ (memory : Memory) (weak : Weak) (chunk : List ℕ) where
   -- a field dangles if its word leads nowhere
   pub dangles-field : (index : ℕ) → index < traced chunk
-      → dangles memory chunk (Field index) ≡ is_dangling memory (slice_index (fields chunk) index)
-  dangles-field index lt = ap (is_dangling_word memory) (slot_word-field chunk index lt)
+      → dangles memory weak chunk (Field index) ≡ is_dangling memory weak (slice_index (fields chunk) index)
+  dangles-field index lt = ap (is_dangling_word memory weak) (slot_word-field chunk index lt)
 
   among : List Slot → List Slot
-  among slots = dangling_among memory chunk slots
+  among slots = dangling_among memory weak chunk slots
 
   pub dangling_among-append : (xs ys : List Slot)
-      → dangling_among memory chunk (xs ++ ys) ≡ dangling_among memory chunk xs ++ dangling_among memory chunk ys
-  dangling_among-append xs ys = filter-append (dangles memory chunk) xs ys
+      → dangling_among memory weak chunk (xs ++ ys) ≡ dangling_among memory weak chunk xs ++ dangling_among memory weak chunk ys
+  dangling_among-append xs ys = filter-append (dangles memory weak chunk) xs ys
 
-  dangling_among-one : (slot : Slot) (answer : Bool) → dangles memory chunk slot ≡ answer
-      → dangling_among memory chunk (slot ∷ []) ≡ cond answer (slot ∷ []) []
+  dangling_among-one : (slot : Slot) (answer : Bool) → dangles memory weak chunk slot ≡ answer
+      → dangling_among memory weak chunk (slot ∷ []) ≡ cond answer (slot ∷ []) []
   dangling_among-one slot answer is = ap (λ (test : Bool). cond test (slot ∷ []) []) is
 
   -- one field more
-  pub dangling_among-field : (index : ℕ) (answer : Bool) → dangles memory chunk (Field index) ≡ answer
-      → dangling_among memory chunk (field_slots 0 (index + 1))
-      ≡ dangling_among memory chunk (field_slots 0 index) ++ cond answer (Field index ∷ []) []
+  pub dangling_among-field : (index : ℕ) (answer : Bool) → dangles memory weak chunk (Field index) ≡ answer
+      → dangling_among memory weak chunk (field_slots 0 (index + 1))
+      ≡ dangling_among memory weak chunk (field_slots 0 index) ++ cond answer (Field index ∷ []) []
   dangling_among-field index answer is =
-      ap (dangling_among memory chunk) (fields-push index)
+      ap (dangling_among memory weak chunk) (fields-push index)
       ∙ dangling_among-append (field_slots 0 index) (Field index ∷ [])
-      ∙ ap (λ last. dangling_among memory chunk (field_slots 0 index) ++ last) (dangling_among-one (Field index) answer is)
+      ∙ ap (λ last. dangling_among memory weak chunk (field_slots 0 index) ++ last) (dangling_among-one (Field index) answer is)
 
   -- a field that dangles is one of the slots that dangle
-  pub dangling_among-has : (index count : ℕ) → index < count → dangles memory chunk (Field index) ≡ true
-      → Contains (dangling_among memory chunk (field_slots 0 count)) (Field index)
+  pub dangling_among-has : (index count : ℕ) → index < count → dangles memory weak chunk (Field index) ≡ true
+      → Contains (dangling_among memory weak chunk (field_slots 0 count)) (Field index)
   dangling_among-has index count lt is =
       let rest = field_slots (0 + (index + 1)) (count - (index + 1)) in
       let all : count ≡ index + 1 + (count - (index + 1)) = omega arith in
-      let front = dangling_among memory chunk (field_slots 0 index) in
+      let front = dangling_among memory weak chunk (field_slots 0 index) in
       let parts =
-      ap (λ (n : ℕ). dangling_among memory chunk (field_slots 0 n)) all
-      ∙ ap (dangling_among memory chunk) (field_slots-append 0 (index + 1) (count - (index + 1)))
+      ap (λ (n : ℕ). dangling_among memory weak chunk (field_slots 0 n)) all
+      ∙ ap (dangling_among memory weak chunk) (field_slots-append 0 (index + 1) (count - (index + 1)))
       ∙ dangling_among-append (field_slots 0 (index + 1)) rest
-      ∙ ap (λ slots. slots ++ dangling_among memory chunk rest) (dangling_among-field index true is)
+      ∙ ap (λ slots. slots ++ dangling_among memory weak chunk rest) (dangling_among-field index true is)
       in
       rw parts
-      (Contains-append_left (front ++ Field index ∷ []) (dangling_among memory chunk rest) (Field index)
+      (Contains-append_left (front ++ Field index ∷ []) (dangling_among memory weak chunk rest) (Field index)
       (Contains-append_right front (Field index ∷ []) (Field index) (0, omega arith, refl)))
 
 -- ---- patches of slots after others

@@ -5,6 +5,7 @@ use Rattle.std.specs.List.{flat_map, range_with_len}
 use Rattle.sqz_image.specs.declared.slot.Slot.{Slot}
 use Rattle.sqz_image.specs.declared.slot.Slot.TheVariants.{ClassWord, Field}
 use Rattle.sqz_image.specs.Objects.{Memory, Object, object_count, object_at, chunk_words, find}
+use Rattle.sqz_trace.specs.declared.weak.Weak.{Weak}
 use Rattle.sqz_trace.specs.Graph.{is_marked}
 use Rattle.sqz_damage.specs.Filled.{free_header}
 use Rattle.sqz_places.specs.Words.{slot_index}
@@ -12,7 +13,7 @@ use Rattle.sqz_dangling.specs.declared.patch.Becomes.TheVariants.{Nil, FreeChunk
 use Rattle.sqz_dangling.specs.declared.patch.Patch.{Patch}
 use Rattle.sqz_dangling.specs.declared.nil_error.NilError.{NilError}
 use Rattle.sqz_dangling.specs.declared.nil_error.NilError.TheVariants.{OutOfMemory, NoNil, NoSpecialObjects}
-use Rattle.sqz_dangling.specs.Dangling.{is_untraceable, dangling_slots, nil_address}
+use Rattle.sqz_dangling.specs.Dangling.{is_lost, dangling_slots, nil_address}
 
 -- the word of a slot that points to nil; a class word keeps its header type, the low two bits
 abbrev pub nil_word : ℕ → List ℕ → Slot → ℕ
@@ -31,56 +32,56 @@ slot_patch nil object slot = nil_patch (object.first + slot_index object.chunk s
 abbrev pub free_patch : Object → Patch
 free_patch object = record { word = object.first; value = free_header (length object.chunk); becomes = FreeChunk }
 
--- the patches of an object: an object that cannot be traced becomes a free chunk, and in any other
--- one each slot that dangles points to nil. `nil` is the address of nil
-abbrev pub patches_of : Memory → ℕ → Object → List Patch
-patches_of memory nil object =
-    if is_untraceable object.chunk then free_patch object ∷ []
-    else map (slot_patch nil object) (dangling_slots memory object.chunk)
+-- the patches of the object with an index: an object that is lost becomes a free chunk, and in any
+-- other one each slot that dangles points to nil. `nil` is the address of nil
+abbrev pub patches_of : Memory → Weak → ℕ → ℕ → List Patch
+patches_of memory weak nil index =
+    let object = object_at memory index in
+    if is_lost memory weak index then free_patch object ∷ []
+    else map (slot_patch nil object) (dangling_slots memory weak object.chunk)
 
 -- the patches of the object with an index, if it is marked
-abbrev pub patches_at : Memory → List Bool → ℕ → ℕ → List Patch
-patches_at memory marks nil index = if is_marked marks index then patches_of memory nil (object_at memory index) else []
+abbrev pub patches_at : Memory → Weak → List Bool → ℕ → ℕ → List Patch
+patches_at memory weak marks nil index = if is_marked marks index then patches_of memory weak nil index else []
 
 -- the patches of all marked objects, by object
-abbrev pub patches_for : Memory → List Bool → ℕ → List Patch
-patches_for memory marks nil = flat_map (patches_at memory marks nil) (range_with_len 0 (object_count memory))
+abbrev pub patches_for : Memory → Weak → List Bool → ℕ → List Patch
+patches_for memory weak marks nil = flat_map (patches_at memory weak marks nil) (range_with_len 0 (object_count memory))
 
--- the slots of an object that dangle, unless it cannot be traced
-abbrev pub dangling_of : Memory → List ℕ → List Slot
-dangling_of memory chunk = if is_untraceable chunk then [] else dangling_slots memory chunk
+-- the slots of the object with an index that dangle, unless it is lost
+abbrev pub dangling_of : Memory → Weak → ℕ → List Slot
+dangling_of memory weak index = if is_lost memory weak index then [] else dangling_slots memory weak (chunk_words memory index)
 
 -- no slot of a marked object dangles
-abbrev pub NothingDangles : Memory → List Bool → Type 0
-NothingDangles memory marks =
-    (index : ℕ) → index < object_count memory → is_marked marks index ≡ true
-    → dangling_of memory (chunk_words memory index) ≡ []
+abbrev pub NothingDangles : Memory → Weak → List Bool → Type 0
+NothingDangles memory weak marks =
+    (index : ℕ) → index < object_count memory → is_marked marks index ≡ true → dangling_of memory weak index ≡ []
 
 -- a slot of a marked object dangles
-pub record SomethingDangles (memory : Memory) (marks : List Bool) : Type 0 where
+pub record SomethingDangles (memory : Memory) (weak : Weak) (marks : List Bool) : Type 0 where
   pub index : ℕ
   pub inside : index < object_count memory
   pub marked : is_marked marks index ≡ true
   pub slot : Slot
-  pub dangles : Contains (dangling_of memory (chunk_words memory index)) slot
+  pub dangles : Contains (dangling_of memory weak index) slot
 
--- the special objects array can be traced, or not
-abbrev pub special_is_untraceable : Memory → Bool → Type 0
-special_is_untraceable memory answer = IfSome (find memory memory.special) (λ index. is_untraceable (chunk_words memory index) ≡ answer)
+-- whether the special objects array is lost
+abbrev pub special_is_lost : Memory → Weak → Bool → Type 0
+special_is_lost memory weak answer = IfSome (find memory memory.special) (λ index. is_lost memory weak index ≡ answer)
 
 -- the patches of the marked objects. There is a nil that slots can point to, or no slot dangles
-pub record AreNilPatches (memory : Memory) (marks : List Bool) (patches : List Patch) : Type 0 where
-  pub special : special_is_untraceable memory false
+pub record AreNilPatches (memory : Memory) (weak : Weak) (marks : List Bool) (patches : List Patch) : Type 0 where
+  pub special : special_is_lost memory weak false
   pub nil : ℕ
-  pub is_nil : MatchOption (nil_address memory) (NothingDangles memory marks) (λ address. nil ≡ address)
-  pub exact : patches ≡ patches_for memory marks nil
+  pub is_nil : MatchOption (nil_address memory weak) (NothingDangles memory weak marks) (λ address. nil ≡ address)
+  pub exact : patches ≡ patches_for memory weak marks nil
 
--- why there are no such patches: a slot dangles and there is no nil, or the special objects array
--- cannot be traced
-abbrev pub IsNilError : Memory → List Bool → NilError → Type 0
-IsNilError memory marks OutOfMemory = Unit {0}
-IsNilError memory marks NoNil = (nil_address memory ≡ None) × SomethingDangles memory marks
-IsNilError memory marks NoSpecialObjects = special_is_untraceable memory true
+-- why there are no such patches: a slot dangles and there is no nil, or the special objects array is
+-- lost
+abbrev pub IsNilError : Memory → Weak → List Bool → NilError → Type 0
+IsNilError memory weak marks OutOfMemory = Unit {0}
+IsNilError memory weak marks NoNil = (nil_address memory weak ≡ None) × SomethingDangles memory weak marks
+IsNilError memory weak marks NoSpecialObjects = special_is_lost memory weak true
 
 -- the words with each patch written
 abbrev pub patched : List ℕ → List Patch → List ℕ

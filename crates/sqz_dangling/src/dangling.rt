@@ -3,20 +3,19 @@
 ghost use Rattle.std.specs.Prelude.{◌≡◌, ◌+◌, ◌^◌, ◌≤◌, IfSome};
 ghost use Rattle.sqz_dangling.specs.Dangling.{is_dangling, nil_address};
 
-use crate::untraceable::is_untraceable;
-use sqz_image::Heap;
+use crate::lost::is_lost;
 use sqz_object::{Address, Value, value_of};
-use sqz_trace::{Weak, nil};
+use sqz_trace::{ObjectGraph, Weak, nil};
 
 /// Returns whether a word leads nowhere: it is neither a SmallInteger nor the address of an object
-/// that can be traced.
-pub(crate) fn is_dangling(heap: &Heap, word: u32) -> bool
-    ensures { result ≡ is_dangling heap.now word }
+/// that is not lost.
+pub(crate) fn is_dangling(graph: ObjectGraph<'_>, word: u32) -> bool
+    ensures { result ≡ is_dangling graph.entry.heap.now graph.entry.weak word }
 {
     match value_of(word) {
         Value::Int(_) => false,
-        Value::Pointer(address) => match heap.find(address) {
-            Some(found) => is_untraceable(&heap.object(found)),
+        Value::Pointer(address) => match graph.heap.find(address) {
+            Some(found) => is_lost(graph, found),
             None => true,
         },
         Value::Odd(_) => true,
@@ -24,14 +23,14 @@ pub(crate) fn is_dangling(heap: &Heap, word: u32) -> bool
 }
 
 /// Returns the address of nil: the object that field 0 of the special objects array points to.
-/// None if there is no such object, or if it cannot be traced.
-pub(crate) fn nil_address(heap: &Heap) -> Option<Address>
-    ensures nil { result ≡ nil_address heap.now }
+/// None if there is no such object, or if it is lost.
+pub(crate) fn nil_address(graph: ObjectGraph<'_>) -> Option<Address>
+    ensures nil { result ≡ nil_address graph.entry.heap.now graph.entry.weak }
     ensures within { IfSome result (λ address. address + 4 ≤ 2 ^ 32) }
 {
-    let nil = nil(heap, Weak::Keep)?;
-    if is_untraceable(&heap.object(nil)) {
+    let nil = nil(graph.heap, Weak::Keep)?;
+    if is_lost(graph, nil) {
         return None;
     }
-    Some(heap.address(nil))
+    Some(graph.heap.address(nil))
 }

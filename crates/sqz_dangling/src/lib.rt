@@ -3,6 +3,7 @@
 #![tactic(auto)]
 
 mod dangling;
+mod lost;
 mod nil_error;
 mod patch;
 mod patches;

@@ -10,10 +10,10 @@ use std::alloc::{AllocError, AllocFailed};
 pub enum NilError {
     /// Out of memory.
     OutOfMemory,
-    /// A slot dangles, and field 0 of the special objects array points to no object that can be
-    /// traced.
+    /// A slot dangles, and field 0 of the special objects array points to no object that is not
+    /// lost.
     NoNil,
-    /// The special objects array cannot be traced.
+    /// The special objects array is lost.
     NoSpecialObjects,
 }
 

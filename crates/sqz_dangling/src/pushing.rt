@@ -10,62 +10,62 @@ ghost use Rattle.sqz_dangling.specs.Patches.{patches_of, nil_patch, dangling_of}
 ghost use Rattle.sqz_dangling.specs.Pushed.{ArePushed, IsPushError, IsMissing, nil_or_zero};
 
 use crate::dangling::is_dangling;
+use crate::lost::is_lost;
 use crate::nil_error::NilError;
 use crate::patch::{Becomes, Patch};
-use crate::untraceable::is_untraceable;
-use sqz_image::Heap;
 use sqz_object::{Address, Kind, ObjectIndex, WordIndex};
-use sqz_trace::traced_fields;
+use sqz_trace::{ObjectGraph, traced_fields};
 
 /// Appends the patches of an object. `nil` is the address of nil, if there is one.
 ///
 /// Fails with `NoNil` if a slot of the object dangles and there is no nil. Otherwise fails only if
 /// out of memory.
 pub(crate) fn push_patches(
-    heap: &Heap,
+    graph: ObjectGraph<'_>,
     nil: Option<Address>,
     object: ObjectIndex,
     patches: &mut Vec<Patch>,
 ) -> Result<(), NilError>
-    requires inside { object < object_count heap.now }
+    requires inside { object < object_count graph.heap.now }
     requires nil { IfSome nil (λ address. address + 4 ≤ 2 ^ 32) }
     ensures pushed { OnOk result (patches.new.items
-        ≡ patches.old.items ++ patches_of heap.now (nil_or_zero nil) (object_at heap.now object)) }
+        ≡ patches.old.items ++ patches_of graph.entry.heap.now graph.entry.weak (nil_or_zero nil) object) }
     ensures needed { OnOk result (nil ≡ None
-        → dangling_of heap.now (chunk_words heap.now object) ≡ []) }
+        → dangling_of graph.entry.heap.now graph.entry.weak object ≡ []) }
     ensures refused { IfErr result
-        (λ error. IsPushError nil (dangling_of heap.now (chunk_words heap.now object)) error) }
+        (λ error. IsPushError nil (dangling_of graph.entry.heap.now graph.entry.weak object) error) }
 {
-    let chunk = heap.object(object);
-    if is_untraceable(&chunk) {
+    let heap = graph.heap;
+    if is_lost(graph, object) {
         patches.push(Patch {
             word: heap.first(object),
-            value: 4 * chunk.header().length + 2,
+            value: 4 * heap.object(object).header().length + 2,
             becomes: Becomes::FreeChunk,
         })?;
         return Ok(());
     }
-    push_class(heap, nil, object, patches)?;
-    push_fields(heap, nil, object, patches)?;
+    push_class(graph, nil, object, patches)?;
+    push_fields(graph, nil, object, patches)?;
     Ok(())
 }
 
 /// Appends the patch of the object's class word, if the header has one and it leads nowhere.
 fn push_class(
-    heap: &Heap,
+    graph: ObjectGraph<'_>,
     nil: Option<Address>,
     object: ObjectIndex,
     patches: &mut Vec<Patch>,
 ) -> Result<(), NilError>
-    requires inside { object < object_count heap.now }
+    requires inside { object < object_count graph.heap.now }
     requires nil { IfSome nil (λ address. address + 4 ≤ 2 ^ 32) }
-    ensures pushed { let chunk = chunk_words heap.now object in
-        OnOk result (ArePushed nil (object_at heap.now object)
-        (dangling_among heap.now chunk (class_slots (chunk_kind chunk)))
+    ensures pushed { let chunk = chunk_words graph.entry.heap.now object in
+        OnOk result (ArePushed nil (object_at graph.entry.heap.now object)
+        (dangling_among graph.entry.heap.now graph.entry.weak chunk (class_slots (chunk_kind chunk)))
         patches.old.items patches.new.items) }
-    ensures refused { let chunk = chunk_words heap.now object in IfErr result (λ error.
-        IsPushError nil (dangling_among heap.now chunk (class_slots (chunk_kind chunk))) error) }
+    ensures refused { let chunk = chunk_words graph.entry.heap.now object in IfErr result (λ error.
+        IsPushError nil (dangling_among graph.entry.heap.now graph.entry.weak chunk (class_slots (chunk_kind chunk))) error) }
 {
+    let heap = graph.heap;
     let chunk = heap.object(object);
     let place = match chunk.header().kind {
         Kind::Three => 1,
@@ -73,7 +73,7 @@ fn push_class(
         Kind::Free | Kind::Short => return Ok(()),
     };
     let class = chunk.words().at(place as usize);
-    if is_dangling(heap, class - class % 4) {
+    if is_dangling(graph, class - class % 4) {
         push_nil(nil, heap.first(object) + place, class % 4, patches)?;
     }
     Ok(())
@@ -81,25 +81,26 @@ fn push_class(
 
 /// Appends the patches of the object's traced fields that lead nowhere.
 fn push_fields(
-    heap: &Heap,
+    graph: ObjectGraph<'_>,
     nil: Option<Address>,
     object: ObjectIndex,
     patches: &mut Vec<Patch>,
 ) -> Result<(), NilError>
-    requires inside { object < object_count heap.now }
+    requires inside { object < object_count graph.heap.now }
     requires nil { IfSome nil (λ address. address + 4 ≤ 2 ^ 32) }
-    ensures pushed { let chunk = chunk_words heap.now object in
-        OnOk result (ArePushed nil (object_at heap.now object)
-        (dangling_among heap.now chunk (field_slots 0 (traced chunk)))
+    ensures pushed { let chunk = chunk_words graph.entry.heap.now object in
+        OnOk result (ArePushed nil (object_at graph.entry.heap.now object)
+        (dangling_among graph.entry.heap.now graph.entry.weak chunk (field_slots 0 (traced chunk)))
         patches.old.items patches.new.items) }
-    ensures refused { let chunk = chunk_words heap.now object in IfErr result (λ error.
-        IsPushError nil (dangling_among heap.now chunk (field_slots 0 (traced chunk))) error) }
+    ensures refused { let chunk = chunk_words graph.entry.heap.now object in IfErr result (λ error.
+        IsPushError nil (dangling_among graph.entry.heap.now graph.entry.weak chunk (field_slots 0 (traced chunk))) error) }
 {
+    let heap = graph.heap;
     let chunk = heap.object(object);
     let fields = chunk.fields();
     let first = heap.first(object) + chunk.header().before + 1;
     for index in 0..traced_fields(&chunk) {
-        if is_dangling(heap, fields.at(index as usize)) {
+        if is_dangling(graph, fields.at(index as usize)) {
             push_nil(nil, first + index, 0, patches)?;
         }
     }

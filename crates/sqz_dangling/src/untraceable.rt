@@ -58,7 +58,7 @@ fn is_bad_context(object: &Object<'_>) -> bool
 }
 
 /// Returns whether no number is stated, or a number above this count.
-fn states_too_many(stated: Option<u32>, count: u32) -> bool
+pub(crate) fn states_too_many(stated: Option<u32>, count: u32) -> bool
     ensures { result ≡ states_too_many stated count }
 {
     match stated {

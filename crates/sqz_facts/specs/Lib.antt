@@ -6,3 +6,4 @@ pub mod Sums
 pub mod Members
 pub mod Referrers
 pub mod AllDefects
+pub mod Classes

@@ -1,8 +1,10 @@
 //! Facts about an image as data: what its file holds, what an object and a slot hold, what lies at
-//! an address, the live objects of a class, the references to an object, and all defects.
+//! an address, the live objects of a class, the references to an object, which objects can be classes,
+//! and all defects.
 #![tactic(auto)]
 
 mod all_defects;
+mod classes;
 mod files;
 mod groups;
 pub mod laws;
@@ -15,6 +17,7 @@ mod slots;
 mod sums;
 
 pub use all_defects::defects_of;
+pub use classes::can_be_class;
 pub use files::{FileFacts, file_facts};
 pub use groups::group_of;
 pub use members::{Member, members_of};

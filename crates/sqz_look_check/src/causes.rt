@@ -1,7 +1,10 @@
 //! What is known of the cause of a fault.
 
 use serde::Serialize;
-use sqz_look_view::Hex;
+use sqz_image::Slot;
+use sqz_look_view::{Hex, Subject};
+use sqz_places::near_object;
+use std::alloc::AllocError;
 use std::fmt;
 
 /// What is known of the cause of a fault.
@@ -28,7 +31,7 @@ pub(crate) enum FileKind {
 #[derive(Drop, Serialize)]
 pub(crate) struct BadWord {
     pub(crate) word: Hex,
-    /// The only object whose address differs from the word in one bit.
+    /// The object whose address differs from the word in one bit, if it is clear which one.
     pub(crate) near: Option<NearObject>,
 }
 
@@ -57,11 +60,32 @@ impl fmt::Display for BadWord {
         let word = self.word;
         write!(f, ": word {word}")?;
         match &self.near {
-            Some(near) => {
-                let (address, class) = (near.address, near.class.as_str());
-                write!(f, ", one bit from {address} {class}")
-            }
+            Some(near) => write!(f, "{near}"),
             None => Ok(()),
         }
+    }
+}
+
+impl fmt::Display for NearObject {
+    fn fmt<W: fmt::Write>(&self, f: &mut fmt::Formatter<W>) -> fmt::Result {
+        let (address, class) = (self.address, self.class.as_str());
+        write!(f, ", one bit from {address} {class}")
+    }
+}
+
+impl NearObject {
+    /// Returns the object that is near the word of a slot, if one is.
+    pub(crate) fn of(
+        subject: &Subject<'_>,
+        slot: Slot,
+        word: u32,
+    ) -> Result<Option<Self>, AllocError> {
+        let Some(near) = near_object(subject.live.graph.heap, slot, word) else {
+            return Ok(None);
+        };
+        Ok(Some(NearObject {
+            address: subject.address(near),
+            class: subject.name_of_class_of(near)?,
+        }))
     }
 }

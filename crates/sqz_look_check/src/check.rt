@@ -7,12 +7,14 @@ ghost use Rattle.sqz_look_check.specs.Warned.{IsWarned};
 use crate::causes::Cause;
 use crate::faults::FaultView;
 use crate::read_failure::ReadFailure;
+use crate::repaired::SummaryView;
 use crate::unreadable::{Extent, Unreadable};
 use crate::warnings::{WarningView, warning_views};
 use serde::Serialize;
 use sqz_answers::{Findings, findings_of};
 use sqz_image::{Fault, Sink};
 use sqz_look_view::{Counted, Hex, Inspector, Out, PrintError, Subject, write_bytes};
+use sqz_repair::RepairSummary;
 use sqz_strict::findings_of as strict_findings_of;
 use std::alloc::{AllocError, Global};
 use std::fmt;
@@ -32,6 +34,8 @@ struct CheckView<'a> {
     warnings: Option<Vec<WarningView>>,
     /// How much can be read past what cannot be read.
     readable: Option<Extent>,
+    /// What `mend --nil` keeps and clears.
+    repair: Option<SummaryView>,
     /// The address of the last object before a chunk that cannot be read.
     #[serde(skip)]
     last_object: Option<Hex>,
@@ -58,6 +62,7 @@ impl<'a> CheckView<'a> {
             faults,
             warnings: None,
             readable: None,
+            repair: None,
             last_object: None,
         })
     }
@@ -85,6 +90,7 @@ impl<'a> CheckView<'a> {
             faults,
             warnings: None,
             readable: None,
+            repair: None,
             last_object: None,
         })
     }
@@ -94,6 +100,9 @@ impl fmt::Display for CheckView<'_> {
     fn fmt<W: fmt::Write>(&self, f: &mut fmt::Formatter<W>) -> fmt::Result {
         self.write_faults(f)?;
         let path = self.image;
+        if let Some(repair) = self.repair {
+            write!(f, "\n{path}: mend --nil keeps {repair}")?;
+        }
         if let Some(warnings) = &self.warnings {
             for warning in warnings {
                 write!(f, "\n{path}: warning: {warning}")?;
@@ -166,12 +175,14 @@ pub struct Verdict {
 /// Prints whether an image is sound: its first fault, or all if these are asked for, with the names
 /// of the objects at fault, or its objects and live bytes; and the warnings, if these are asked for.
 /// `is_whole` is whether nothing of its file was skipped; an image without a fault is damaged if
-/// something was. Returns what was found, as it is printed.
+/// something was. `repair` is what `mend --nil` keeps and clears, if that was found. Returns what was
+/// found, as it is printed.
 pub fn print_check<C: Sink>(
     rt: &(impl Threads + Sync),
     subject: Subject<'_>,
     path: &str,
     is_whole: bool,
+    repair: Option<RepairSummary>,
     options: CheckOptions,
     out: &mut Out<'_, C>,
 ) -> Result<Verdict, PrintError>
@@ -188,7 +199,8 @@ pub fn print_check<C: Sink>(
         is_sound: is_whole && findings.is_sound(),
         has_warnings: warned.are_some,
     };
-    let view = view_of(subject, path, &findings, verdict.is_sound, warned.views)?;
+    let mut view = view_of(subject, path, &findings, verdict.is_sound, warned.views)?;
+    view.repair = repair.map(SummaryView::of);
     out.emit(&view)?;
     Ok(verdict)
 }
@@ -244,6 +256,7 @@ pub fn print_check_unreadable<C: Sink>(
     let mut view = CheckView::unread(alloc, path, unreadable.view(alloc)?)?;
     view.last_object = unreadable.last_object.map(Hex);
     view.readable = unreadable.extent;
+    view.repair = unreadable.repair.map(SummaryView::of);
     out.emit(&view)
 }
 

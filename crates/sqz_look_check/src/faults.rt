@@ -11,7 +11,7 @@ use sqz_look_path::PathLine;
 use sqz_look_view::{Hex, Inspector, SlotNames, Subject};
 use sqz_names::Label;
 use sqz_object::ObjectIndex;
-use sqz_places::{fault_place, near_object};
+use sqz_places::fault_place;
 use std::alloc::{AllocError, Global};
 use std::fmt;
 
@@ -156,13 +156,7 @@ fn bad_word(
     let Some(held) = slot_facts(heap, object, slot) else {
         return Ok(None);
     };
-    let near = match near_object(heap, held.word) {
-        Some(near) => Some(NearObject {
-            address: subject.address(near),
-            class: subject.name_of_class_of(near)?,
-        }),
-        None => None,
-    };
+    let near = NearObject::of(subject, slot, held.word)?;
     let word = Hex(held.word);
     Ok(Some(BadWord { word, near }))
 }

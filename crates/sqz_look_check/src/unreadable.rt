@@ -8,9 +8,10 @@ use crate::file_kinds::kind_of;
 use serde::Serialize;
 use sqz_image::{Fault, Header, UnreadFile};
 use sqz_look_view::{Counted, Hex, write_bytes};
-use sqz_mend::{RecoverError, recover};
+use sqz_mend::{RecoverError, image_in, mend_file};
 use sqz_object::Address;
 use sqz_places::{bytes_in_gaps, unread_place};
+use sqz_repair::{RepairSummary, repair_summary};
 use sqz_trace::Weak;
 use std::alloc::{AllocError, Global};
 use std::fmt;
@@ -26,6 +27,8 @@ pub struct Unreadable {
     pub(crate) last_object: Option<Address>,
     /// How much can be read past what cannot be read, if that was asked for.
     pub(crate) extent: Option<Extent>,
+    /// What `mend --nil` keeps and clears, if that was asked for.
+    pub(crate) repair: Option<RepairSummary>,
 }
 
 /// How much of a file can be read past what cannot be read.
@@ -36,27 +39,6 @@ pub(crate) struct Extent {
     pub(crate) missing_bytes: u32,
     /// The objects that can be read.
     pub(crate) objects: u32,
-}
-
-impl Extent {
-    /// Returns how much can be read of the file with these bytes. None if no special objects array
-    /// can be read.
-    fn of<T: Threads + Sync>(
-        rt: &T,
-        alloc: Global,
-        bytes: Vec<u8>,
-        weak: Weak,
-    ) -> Result<Option<Self>, AllocError> {
-        match recover(rt, alloc, bytes, weak) {
-            Ok(recovered) => Ok(Some(Extent {
-                unreadable_bytes: bytes_in_gaps(&recovered.damage.gaps),
-                missing_bytes: recovered.damage.missing,
-                objects: recovered.image.heap().len(),
-            })),
-            Err(RecoverError::NoImage(_)) => Ok(None),
-            Err(RecoverError::OutOfMemory) => Err(AllocError),
-        }
-    }
 }
 
 impl fmt::Display for Extent {
@@ -72,8 +54,8 @@ impl fmt::Display for Extent {
 }
 
 impl Unreadable {
-    /// Returns what could be read of a file, and how much of it can be read past a chunk that
-    /// cannot be read.
+    /// Returns what could be read of a file, how much of it can be read past a chunk that cannot be
+    /// read, and what `mend --nil` keeps of it.
     pub fn measured<T: Threads + Sync>(
         rt: &T,
         alloc: Global,
@@ -84,9 +66,36 @@ impl Unreadable {
     {
         let mut unreadable = Unreadable::of(alloc, &file)?;
         if is_damage(&unreadable.fault) {
-            unreadable.extent = Extent::of(rt, alloc, file.bytes, weak)?;
+            unreadable.measure(rt, alloc, file.bytes, weak)?;
         }
         Ok(unreadable)
+    }
+
+    /// Finds how much can be read of the file with these bytes, and what `mend --nil` keeps of it.
+    /// Finds nothing if no special objects array can be read.
+    fn measure<T: Threads + Sync>(
+        &mut self,
+        rt: &T,
+        alloc: Global,
+        bytes: Vec<u8>,
+        weak: Weak,
+    ) -> Result<(), AllocError> {
+        let mended = match mend_file(rt, alloc, bytes, weak) {
+            Ok(mended) => mended,
+            Err(RecoverError::NoImage(_)) => return Ok(()),
+            Err(RecoverError::OutOfMemory) => return Err(AllocError),
+        };
+        let Ok(image) = image_in(alloc, &mended.bytes)? else {
+            return Ok(());
+        };
+        self.extent = Some(Extent {
+            unreadable_bytes: bytes_in_gaps(&mended.damage.gaps),
+            missing_bytes: mended.damage.missing,
+            objects: image.heap().len(),
+        });
+        drop(image);
+        self.repair = repair_summary(rt, alloc, mended.bytes, weak)?;
+        Ok(())
     }
 
     /// Returns what could be read of a file.
@@ -107,6 +116,7 @@ impl Unreadable {
             kind,
             last_object,
             extent: None,
+            repair: None,
         })
     }
 

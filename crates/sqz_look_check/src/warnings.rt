@@ -4,13 +4,15 @@ ghost use Rattle.std.specs.Prelude.{◌<◌, All};
 ghost use Rattle.sqz_image.specs.Objects.{object_count};
 ghost use Rattle.sqz_strict.specs.Warnings.{object_of};
 
+use crate::causes::NearObject;
 use serde::Serialize;
 use sqz_damage::Gap;
-use sqz_image::Object;
+use sqz_image::{Object, Slot};
 use sqz_look_view::{Counted, Hex, Subject, write_bytes};
-use sqz_object::{WordIndex, base_of};
+use sqz_object::{ObjectIndex, WordIndex, base_of};
 use sqz_places::{GapPlace, gap_place};
 use sqz_strict::{ClassShape, Findings, Warning};
+use sqz_trace::class_address;
 use std::alloc::AllocError;
 use std::fmt;
 
@@ -24,6 +26,17 @@ pub(crate) enum WarningView {
         class: String,
         has: ShapeView,
         stated: ShapeView,
+    },
+    /// The class of an object is no class.
+    NoClass {
+        address: Hex,
+        class: Option<Hex>,
+        near: Option<NearObject>,
+    },
+    /// A class has no method dictionary.
+    NoMethodDictionary {
+        address: Hex,
+        class: String,
     },
     /// A method dictionary has fewer methods than selectors.
     MethodDictionary {
@@ -85,6 +98,11 @@ impl WarningView {
                 has: ShapeView::of_object(&subject.live.graph.heap.object(object)),
                 stated: ShapeView::of_class(stated),
             },
+            Warning::NoClass { .. } => no_class(subject, object)?,
+            Warning::NoMethodDictionary { .. } => WarningView::NoMethodDictionary {
+                address,
+                class: subject.name_of_class(object)?,
+            },
             Warning::MethodDictionary { .. } => WarningView::MethodDictionary { address },
             Warning::NoKey { .. } => WarningView::NoKey { address },
         })
@@ -95,6 +113,26 @@ impl WarningView {
         let GapPlace { word, byte, bytes } = gap_place(subject.image.prefix().len(), gap);
         WarningView::Gap { word, byte, bytes }
     }
+}
+
+/// Returns the warning that the class of an object is no class, with the class that is near.
+fn no_class(subject: &Subject<'_>, object: ObjectIndex) -> Result<WarningView, AllocError>
+    requires { object < object_count subject.now.live.graph.heap.now }
+{
+    let heap = subject.live.graph.heap;
+    let class = match subject.live.graph.class_of(object) {
+        Some(class) => Some(subject.address(class)),
+        None => None,
+    };
+    let near = match class_address(&heap.object(object)) {
+        Some(word) => NearObject::of(subject, Slot::ClassWord, word)?,
+        None => None,
+    };
+    Ok(WarningView::NoClass {
+        address: subject.address(object),
+        class,
+        near,
+    })
 }
 
 /// Returns all that a strict check found of an image.
@@ -131,6 +169,15 @@ impl fmt::Display for WarningView {
                 has,
                 stated,
             } => write_shape(f, class.as_str(), *address, *has, *stated),
+            WarningView::NoClass {
+                address,
+                class,
+                near,
+            } => write_no_class(f, *address, *class, near.as_ref()),
+            WarningView::NoMethodDictionary { address, class } => {
+                let class = class.as_str();
+                write!(f, "class {class} {address} has no method dictionary")
+            }
             WarningView::MethodDictionary { address } => write_dictionary(f, *address),
             WarningView::NoKey { address } => write_association(f, *address),
             WarningView::Gap { word, byte, bytes } => write_gap(f, *word, *byte, *bytes),
@@ -147,6 +194,24 @@ fn write_shape<W: fmt::Write>(
     stated: ShapeView,
 ) -> fmt::Result {
     write!(f, "{class} {address} has {has}; its class states {stated}")
+}
+
+/// Writes that the class of an object is no class.
+fn write_no_class<W: fmt::Write>(
+    f: &mut fmt::Formatter<W>,
+    address: Hex,
+    class: Option<Hex>,
+    near: Option<&NearObject>,
+) -> fmt::Result {
+    write!(f, "the class of object {address}")?;
+    if let Some(class) = class {
+        write!(f, ", {class},")?;
+    }
+    f.write_str(" is no class")?;
+    match near {
+        Some(near) => write!(f, "{near}"),
+        None => Ok(()),
+    }
 }
 
 /// Writes what a method dictionary is short of.

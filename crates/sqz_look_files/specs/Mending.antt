@@ -5,8 +5,7 @@ use Rattle.sqz_trace.specs.declared.weak.Weak.{Weak}
 use Rattle.sqz_mend.specs.declared.recovery.MendedFile.{MendedFile}
 use Rattle.sqz_mend.specs.Recovery.{IsMendedFile}
 use Rattle.sqz_repair.specs.declared.repairing.Repaired.{Repaired}
-use Rattle.sqz_dangling.specs.declared.patch.Patch.{Patch}
-use Rattle.sqz_repair.specs.Repairs.{ArePatchesOf, IsRepaired}
+use Rattle.sqz_repair.specs.Repairs.{IsRepaired}
 use Rattle.sqz_look_files.specs.Checks.{ReadsFile}
 
 -- the bytes of a mended file after its pointers that lead nowhere became nil
@@ -34,11 +33,11 @@ pub record WritesMended {F : Type 0} (left : F → Option (List ℕ)) (weak : We
   pub asked : IsWritten weak nil mended.bytes.items bytes
   pub written : WritesWhole old new bytes
 
--- in the mended file some words were written anew so that no pointer leads nowhere
+-- the mended file is repaired so that no pointer leads nowhere, by words that are written anew
 pub record HasDangling (weak : Weak) (mended : List ℕ) : Type 0 where
-  pub patches : List Patch
-  pub found : ArePatchesOf weak mended patches
-  pub some : patches ≢ []
+  pub repaired : Repaired
+  pub is_repaired : IsRepaired weak mended repaired
+  pub some : repaired.patches.items ≢ []
 
 -- some file was read in which, after it was mended, pointers lead nowhere
 pub record ReadsDangling {F : Type 0} (left : F → Option (List ℕ)) (weak : Weak) : Type 0 where

@@ -11,6 +11,9 @@ use sqz_look_check::{
     CheckOptions, print_check, print_check_missing, print_check_too_large, print_check_unreadable,
 };
 use sqz_look_view::{Out, PrintError, Subject};
+use sqz_repair::{RepairSummary, summary_of};
+use sqz_trace::first_fault;
+use std::alloc::AllocError;
 use std::io::Read;
 use std::rt::Files;
 use std::thread::Threads;
@@ -77,8 +80,11 @@ fn check_one<T: Files + Threads + Sync, C: Sink, E: Sink>(
 {
     match session.read(path, true, out, err) {
         Ok(ReadFile::Image(read)) => {
+            let file = read.file;
             let subject = session.subject(&read.image)?;
-            Ok(check_image(session.rt, subject, path, read.is_whole, options, out)?)
+            let repair = repair_of(session, &subject, file)?;
+            let rt = session.rt;
+            Ok(check_image(rt, subject, path, read.is_whole, repair, options, out)?)
         }
         Ok(ReadFile::Unreadable(unreadable)) => {
             print_check_unreadable(session.alloc, &unreadable, path, out)?;
@@ -94,20 +100,36 @@ fn check_one<T: Files + Threads + Sync, C: Sink, E: Sink>(
     }
 }
 
+/// Returns what `mend --nil` keeps and clears of the file of an image with a fault, if its bytes are
+/// given.
+fn repair_of<T: Threads + Sync>(
+    session: &Session<'_, T>,
+    subject: &Subject<'_>,
+    file: Option<Vec<u8>>,
+) -> Result<Option<RepairSummary>, AllocError> {
+    match file {
+        Some(file) if first_fault(session.rt, &subject.live).is_some() => {
+            summary_of(session.rt, session.alloc, file, session.weak)
+        }
+        _ => Ok(None),
+    }
+}
+
 /// Prints whether an image is sound, and returns the exit. `is_whole` is whether nothing of its file
-/// was skipped.
+/// was skipped, and `repair` is what `mend --nil` keeps and clears, if that was found.
 fn check_image<T: Threads + Sync, C: Sink>(
     rt: &T,
     subject: Subject<'_>,
     path: &str,
     is_whole: bool,
+    repair: Option<RepairSummary>,
     options: CheckOptions,
     out: &mut Out<'_, C>,
 ) -> Result<u8, PrintError>
     ensures { IfOk result (IsImageExit subject.entry.live.graph.heap.now
         subject.entry.live.graph.weak subject.entry.live.marks is_whole options.strict) }
 {
-    let verdict = print_check(rt, subject, path, is_whole, options, out)?;
+    let verdict = print_check(rt, subject, path, is_whole, repair, options, out)?;
     Ok(if verdict.is_sound && !verdict.has_warnings {
         DONE
     } else {

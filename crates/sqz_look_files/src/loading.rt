@@ -22,6 +22,13 @@ pub(crate) enum Loaded {
     Unreadable(Unreadable),
 }
 
+/// What a file holds, and its bytes if they were asked for.
+#[derive(Drop)]
+pub(crate) struct LoadedFile {
+    pub(crate) held: Loaded,
+    pub(crate) bytes: Option<Vec<u8>>,
+}
+
 /// What a file holds past what cannot be read.
 #[derive(Drop)]
 pub(crate) enum LoadedPast {
@@ -44,19 +51,21 @@ impl From<AllocError> for LoadError {
     }
 }
 
-/// Returns what the file with this path holds; if `measures`, with how much can be read of one that
-/// holds no image. The file is read once.
+/// Returns what the file with this path holds; if `measures`, with its bytes, and with how much can
+/// be read of one that holds no image. The file is read once.
 pub(crate) fn load<T: Files + Threads + Sync>(
     rt: &T,
     alloc: Global,
     path: &str,
     weak: Weak,
     measures: bool,
-) -> Result<Loaded, LoadError>
-    ensures { IfOk result (IsLoaded T.File.remaining) }
+) -> Result<LoadedFile, LoadError>
+    ensures { IfOk result (λ file. IsLoaded T.File.remaining file.held) }
 {
-    let bytes = bytes_of(rt, alloc, path)?;
-    Ok(loaded_of(rt, alloc, bytes, weak, measures)?)
+    let file = bytes_of(rt, alloc, path)?;
+    let bytes = copy_if(alloc, measures, &file)?;
+    let held = loaded_of(rt, alloc, file, weak, measures)?;
+    Ok(LoadedFile { held, bytes })
 }
 
 /// Returns what the file with this path holds past what cannot be read. The file is read once.
@@ -98,6 +107,16 @@ fn is_directory<F: OpenFile>(file: &F) -> bool {
         Ok(metadata) => metadata.is_dir(),
         Err(_) => false,
     }
+}
+
+/// Returns a copy of some bytes, if it is asked for.
+fn copy_if(alloc: Global, asked: bool, bytes: &[u8]) -> Result<Option<Vec<u8>>, AllocError> {
+    if !asked {
+        return Ok(None);
+    }
+    let mut copy = Vec::new(alloc);
+    copy.extend_from_slice(bytes)?;
+    Ok(Some(copy))
 }
 
 /// Returns what the file with these bytes holds.

@@ -85,7 +85,7 @@ fn bytes_asked<T: Threads + Sync, E: Sink>(
     match repair(session.rt, alloc, mended.bytes, session.weak) {
         Ok(repaired) => {
             if !repaired.patches.is_empty() {
-                let view = RepairedView::of(&mended.header, &repaired.patches);
+                let view = RepairedView::of(&mended.header, &repaired);
                 print_message(Some(path), view.to_string(alloc)?.as_str(), err);
             }
             Ok(repaired.bytes)

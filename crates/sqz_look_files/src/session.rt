@@ -5,7 +5,7 @@ ghost use Rattle.sqz_look_files.specs.Damaged.{IsReadAs, IsReadImage};
 ghost use Rattle.sqz_look_files.specs.Failures.{IsReadFailure};
 
 use crate::failure::Failure;
-use crate::loading::{Loaded, LoadedPast, load, load_past_damage};
+use crate::loading::{Loaded, LoadedFile, LoadedPast, load, load_past_damage};
 use crate::messages::print_message;
 use sqz_image::{Image, Sink};
 use sqz_look_check::{SkippedView, Unreadable};
@@ -34,12 +34,15 @@ pub enum ReadFile {
     Unreadable(Unreadable),
 }
 
-/// An image that was read, and whether nothing was skipped; else what was, as text.
+/// An image that was read, and whether nothing was skipped.
 #[derive(Drop)]
 pub struct ReadImage {
     pub image: Image,
     pub is_whole: bool,
+    /// What was skipped, as text.
     pub skipped: Option<String>,
+    /// The bytes of its file, if they were asked for.
+    pub file: Option<Vec<u8>>,
 }
 
 impl<T> Session<'_, T> {
@@ -72,7 +75,8 @@ impl<T> Session<'_, T> {
 
 impl<T: Files + Threads + Sync> Session<'_, T> {
     /// Reads the file with this path, and prints what was skipped of it, if anything. If
-    /// `measures`, finds how much can be read of one that holds no image.
+    /// `measures`, and nothing may be skipped, finds how much can be read of one that holds no
+    /// image, and keeps the bytes of one that holds an image.
     pub fn read<C: Sink, E: Sink>(
         &self,
         path: &str,
@@ -89,16 +93,16 @@ impl<T: Files + Threads + Sync> Session<'_, T> {
         if self.past_damage {
             return self.read_past_damage(path, out, err);
         }
-        Ok(
-            match load(self.rt, self.alloc, path, self.weak, measures)? {
-                Loaded::Image(image) => ReadFile::Image(ReadImage {
-                    image,
-                    is_whole: true,
-                    skipped: None,
-                }),
-                Loaded::Unreadable(unreadable) => ReadFile::Unreadable(unreadable),
-            },
-        )
+        let LoadedFile { held, bytes } = load(self.rt, self.alloc, path, self.weak, measures)?;
+        Ok(match held {
+            Loaded::Image(image) => ReadFile::Image(ReadImage {
+                image,
+                is_whole: true,
+                skipped: None,
+                file: bytes,
+            }),
+            Loaded::Unreadable(unreadable) => ReadFile::Unreadable(unreadable),
+        })
     }
 
     /// Reads the file with this path past what cannot be read, and prints what was skipped of it,
@@ -130,6 +134,7 @@ impl<T: Files + Threads + Sync> Session<'_, T> {
             image,
             is_whole,
             skipped,
+            file: None,
         }))
     }
 }

@@ -1,3 +1,3 @@
 pub mod DataLemmas
 mod MendLemmas
-mod SoundnessLemmas
+pub mod SoundnessLemmas

@@ -1,5 +1,5 @@
 -- A file with a fault is not sound.
--- Serves `damage_of`.
+-- Serves `damage_of`, and `repair` of `sqz_repair`.
 use Rattle.std.proofs.Common.{◌≡◌, ℕ, List, sym, ap, subst, ◌∙◌, inl, inr}
 use Rattle.std.proofs.Math.Logic.{∥∥₁_elim}
 use Rattle.std.proofs.lemmas.Option.{none-some}

@@ -1,1 +1,3 @@
 pub mod Repairs
+pub mod Sizes
+pub mod Summaries

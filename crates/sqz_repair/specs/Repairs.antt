@@ -1,5 +1,5 @@
 -- Files in which no pointer of a live object leads nowhere.
-use Rattle.std.specs.Prelude.{◌≡◌, ◌⊎◌, ℕ, ◌+◌, ◌*◌, ◌<◌, Bool, List, length, take, drop, All, Option, Some, None}
+use Rattle.std.specs.Prelude.{◌≡◌, ◌⊎◌, ℕ, ◌+◌, ◌*◌, ◌<◌, Bool, List, [], length, take, drop, All, Some, MatchOption}
 use Rattle.std.specs.List.{concat}
 use Rattle.sqz_object.specs.Bytes.{words_of}
 use Rattle.sqz_image.specs.declared.fault.Fault.{Fault}
@@ -14,20 +14,33 @@ use Rattle.sqz_dangling.specs.declared.nil_error.NilError.{NilError}
 use Rattle.sqz_dangling.specs.declared.nil_error.NilError.TheVariants as nil_errors
 use Rattle.sqz_dangling.specs.Patches.{AreNilPatches, IsNilError, patched}
 use Rattle.sqz_mend.specs.Damaged.{HasSoundWords, words_there}
-use Rattle.sqz_mend.specs.Soundness.{HasFault, IsSound}
+use Rattle.sqz_mend.specs.Soundness.{HasFault}
 use Rattle.sqz_mend.specs.Mended.{data_offset}
+use Rattle.sqz_repair.specs.declared.reading.Finding.{Finding}
 use Rattle.sqz_repair.specs.declared.repairing.Repaired.{Repaired}
 use Rattle.sqz_repair.specs.declared.repairing.RepairError.{RepairError}
 use Rattle.sqz_repair.specs.declared.repairing.RepairError.TheVariants.{OutOfMemory, NoImage, NoNil, NoSpecialObjects, Unsound}
+use Rattle.sqz_repair.specs.declared.sizes.LiveSize.{LiveSize}
+use Rattle.sqz_repair.specs.Sizes.{IsLiveSize, IsSoundWith}
 
--- the patches of the live objects of the image that the file holds
-pub record ArePatchesOf (weak : Weak) (file : List ℕ) (patches : List Patch) : Type 0 where
+-- the image that the file holds has a fault, so much of it is live, and its live objects have these
+-- patches
+pub record ArePatchesOf (weak : Weak) (file : List ℕ) (before : LiveSize) (patches : List Patch) : Type 0 where
   pub image : SavedImage
   pub holds : Holds file image
   pub marks : List Bool
   pub reachable : ∥ IsReachability image.memory weak marks ∥₁
-  pub exact : AreNilPatches image.memory marks patches
+  pub size : IsLiveSize image.memory marks before
+  pub fault : Fault
+  pub faulty : first_fault image.memory weak marks ≡ Some fault
+  pub exact : AreNilPatches image.memory weak marks patches
   pub inside : All (λ patch. patch.word < length (concat image.memory.chunks)) patches
+
+-- what is found of a file that holds an image: it has no fault, or these patches
+abbrev pub IsFinding : Weak → List ℕ → Finding → Type 0
+IsFinding weak file finding =
+    MatchOption finding.patches (IsSoundWith weak file finding.size)
+    (λ patches. ArePatchesOf weak file finding.size patches.items)
 
 -- the file with these patches in its data words, and all other bytes as they were
 pub record ArePatched (file : List ℕ) (header : Header) (patches : List Patch) (bytes : List ℕ) : Type 0 where
@@ -39,24 +52,37 @@ pub record ArePatched (file : List ℕ) (header : Header) (patches : List Patch)
       ≡ drop (data_offset header + 4 * length (words_there file header)) file
 
 -- the file with the patches of its live objects
-pub record IsPatchedFile (weak : Weak) (file : List ℕ) (patches : List Patch) (bytes : List ℕ) : Type 0 where
+pub record IsPatchedFile (weak : Weak) (file : List ℕ) (before : LiveSize) (patches : List Patch) (bytes : List ℕ) : Type 0 where
   pub header : Header
   pub is_header : HasSoundWords file header
-  pub found : ArePatchesOf weak file patches
+  pub found : ArePatchesOf weak file before patches
   pub written : ArePatched file header patches bytes
 
--- the file with the patches of its live objects, which a compaction accepts
-pub record IsRepaired (weak : Weak) (file : List ℕ) (repaired : Repaired) : Type 0 where
-  pub patched : IsPatchedFile weak file repaired.patches.items repaired.bytes.items
-  pub sound : IsSound weak repaired.bytes.items
+-- the file holds an image without a fault, and stays as it is
+pub record IsUntouched (weak : Weak) (file : List ℕ) (repaired : Repaired) : Type 0 where
+  pub sound : IsSoundWith weak file repaired.before
+  pub same : repaired.bytes.items ≡ file
+  pub none : repaired.patches.items ≡ []
+  pub size : repaired.after ≡ repaired.before
 
--- the image that the file holds has no patches
+-- the file with the patches of its live objects, which a compaction accepts
+pub record IsSoundAfter (weak : Weak) (file : List ℕ) (repaired : Repaired) : Type 0 where
+  pub patched : IsPatchedFile weak file repaired.before repaired.patches.items repaired.bytes.items
+  pub sound : IsSoundWith weak repaired.bytes.items repaired.after
+
+-- the file as it is repaired
+abbrev pub IsRepaired : Weak → List ℕ → Repaired → Type 0
+IsRepaired weak file repaired = IsUntouched weak file repaired ⊎ IsSoundAfter weak file repaired
+
+-- the image that the file holds has a fault, and its live objects have no patches
 pub record HasNoPatches (weak : Weak) (file : List ℕ) (error : NilError) : Type 0 where
   pub image : SavedImage
   pub holds : Holds file image
   pub marks : List Bool
   pub reachable : ∥ IsReachability image.memory weak marks ∥₁
-  pub refused : IsNilError image.memory marks error
+  pub fault : Fault
+  pub faulty : first_fault image.memory weak marks ≡ Some fault
+  pub refused : IsNilError image.memory weak marks error
 
 -- why there are no patches
 abbrev pub LacksPatches : Weak → List ℕ → RepairError → Type 0
@@ -68,9 +94,10 @@ LacksPatches weak file (Unsound fault) = ⊥
 
 -- the file with its patches still has this fault
 pub record StaysFaulty (weak : Weak) (file : List ℕ) (fault : Fault) : Type 0 where
+  pub before : LiveSize
   pub patches : List Patch
   pub bytes : List ℕ
-  pub patched : IsPatchedFile weak file patches bytes
+  pub patched : IsPatchedFile weak file before patches bytes
   pub faulty : HasFault weak bytes fault
 
 -- why a file was not repaired

@@ -4,5 +4,9 @@
 mod patched;
 mod reading;
 mod repairing;
+mod sizes;
+mod summary;
 
 pub use repairing::{RepairError, Repaired, repair};
+pub use sizes::LiveSize;
+pub use summary::{RepairSummary, repair_summary, summary_of};

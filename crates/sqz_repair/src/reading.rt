@@ -3,14 +3,26 @@
 ghost use Rattle.std.specs.Prelude.{IfOk, IfErr};
 ghost use Rattle.sqz_image.specs.Refusals.{IsUnreadable};
 ghost use Rattle.sqz_mend.specs.Damaged.{HasSoundWords};
-ghost use Rattle.sqz_repair.specs.Repairs.{ArePatchesOf, LacksPatches};
+ghost use Rattle.sqz_repair.specs.Repairs.{IsFinding, LacksPatches};
 
 use crate::repairing::RepairError;
+use crate::sizes::LiveSize;
 use sqz_dangling::{NilError, Patch, nil_patches};
 use sqz_image::{Fault, Header};
 use sqz_mend::image_in;
-use sqz_trace::{Live, ObjectGraph, Weak};
+use sqz_trace::{Live, ObjectGraph, Weak, first_fault};
 use std::alloc::Global;
+use std::thread::Threads;
+
+/// What is found of a file that holds an image.
+#[derive(Drop)]
+pub(crate) struct Finding {
+    /// How much of the image is live.
+    pub(crate) size: LiveSize,
+    /// The data words that are written anew so that no pointer of a live object leads nowhere. None
+    /// if the image has no fault.
+    pub(crate) patches: Option<Vec<Patch>>,
+}
 
 /// Returns the header of a file, if its words have no fault.
 pub(crate) fn sound_header(file: &[u8]) -> Result<Header, Fault>
@@ -24,10 +36,15 @@ pub(crate) fn sound_header(file: &[u8]) -> Result<Header, Fault>
     }
 }
 
-/// Returns the data words of a file that are written anew so that no pointer of a live object leads
-/// nowhere.
-pub(crate) fn patches_of(alloc: Global, file: &[u8], weak: Weak) -> Result<Vec<Patch>, RepairError>
-    ensures patches { IfOk result (λ patches. ArePatchesOf weak file.now patches.items) }
+/// Returns how much is live of the image in a file and, if it has a fault, which data words are
+/// written anew.
+pub(crate) fn finding_of<T: Threads + Sync>(
+    rt: &T,
+    alloc: Global,
+    file: &[u8],
+    weak: Weak,
+) -> Result<Finding, RepairError>
+    ensures found { IfOk result (IsFinding weak file.now) }
     ensures lacking { IfErr result (LacksPatches weak file.now) }
 {
     let image = match image_in(alloc, file)? {
@@ -36,12 +53,19 @@ pub(crate) fn patches_of(alloc: Global, file: &[u8], weak: Weak) -> Result<Vec<P
     };
     let heap = image.heap();
     let live = Live::of(alloc, ObjectGraph { heap, weak })?;
-    match nil_patches(alloc, &live) {
-        Ok(patches) => Ok(patches),
-        Err(error) => Err(match error {
-            NilError::OutOfMemory => RepairError::OutOfMemory,
-            NilError::NoNil => RepairError::NoNil,
-            NilError::NoSpecialObjects => RepairError::NoSpecialObjects,
-        }),
-    }
+    let size = LiveSize::of(&live);
+    let patches = match first_fault(rt, &live) {
+        None => None,
+        Some(_) => match nil_patches(alloc, &live) {
+            Ok(patches) => Some(patches),
+            Err(error) => {
+                return Err(match error {
+                    NilError::OutOfMemory => RepairError::OutOfMemory,
+                    NilError::NoNil => RepairError::NoNil,
+                    NilError::NoSpecialObjects => RepairError::NoSpecialObjects,
+                });
+            }
+        },
+    };
+    Ok(Finding { size, patches })
 }

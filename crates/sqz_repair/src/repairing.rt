@@ -1,14 +1,15 @@
 //! Files whose dangling pointers become pointers to nil.
 
 ghost use Rattle.std.specs.Prelude.{◌≡◌, IfOk, IfErr};
+ghost use Rattle.sqz_mend.specs.Soundness.{IsSound};
 ghost use Rattle.sqz_repair.specs.Repairs.{IsRepaired, StopsRepair};
 ghost use Rattle.sqz_repair.specs.declared.repairing.RepairError.TheVariants.{OutOfMemory, NoImage};
 
 use crate::patched::patched;
-use crate::reading::{patches_of, sound_header};
+use crate::reading::{finding_of, sound_header};
+use crate::sizes::{LiveSize, sound_size};
 use sqz_dangling::Patch;
 use sqz_image::Fault;
-use sqz_mend::fault_of;
 use sqz_trace::Weak;
 use std::alloc::{AllocError, Global};
 use std::fmt;
@@ -21,6 +22,10 @@ pub struct Repaired {
     pub bytes: Vec<u8>,
     /// The data words that were written anew, by object.
     pub patches: Vec<Patch>,
+    /// How much was live before.
+    pub before: LiveSize,
+    /// How much is live now.
+    pub after: LiveSize,
 }
 
 /// Why a file was not repaired.
@@ -30,10 +35,10 @@ pub enum RepairError {
     OutOfMemory,
     /// The file holds no image, for this reason.
     NoImage(Fault),
-    /// A slot dangles, and field 0 of the special objects array points to no object that can be
-    /// traced.
+    /// A slot dangles, and field 0 of the special objects array points to no object that is not
+    /// lost.
     NoNil,
-    /// The special objects array cannot be traced.
+    /// The special objects array is lost.
     NoSpecialObjects,
     /// The image has this fault even if no pointer leads nowhere.
     Unsound(Fault),
@@ -71,9 +76,9 @@ impl fmt::Display for RepairError {
 }
 
 /// Returns a file with each pointer of a live object that leads nowhere replaced by a pointer to
-/// nil, and each live object that cannot be traced replaced by a free chunk. All other bytes stay.
-/// A compaction with the same policy on weak slots accepts the file: it is checked before it is
-/// returned.
+/// nil, and each live object that is lost replaced by a free chunk, as `nil_patches` finds them. All
+/// other bytes stay. A file that holds an image without a fault stays as it is. A compaction with
+/// the same policy on weak slots accepts the file: it is checked before it is returned.
 ///
 /// Fails with `NoImage` if the file holds no image, with `NoSpecialObjects` and `NoNil` as
 /// `nil_patches` does, and with `Unsound` if the file is not sound even then. Otherwise fails only
@@ -85,13 +90,32 @@ pub fn repair<T: Threads + Sync>(
     weak: Weak,
 ) -> Result<Repaired, RepairError>
     ensures repaired { IfOk result (IsRepaired weak file.items) }
+    ensures unharmed { IfOk result (λ repaired. IsSound weak file.items
+        → repaired.bytes.items ≡ file.items) }
     ensures stopped { IfErr result (StopsRepair weak file.items) }
 {
     let header = sound_header(&file)?;
-    let patches = patches_of(alloc, &file, weak)?;
+    let found = finding_of(rt, alloc, &file, weak)?;
+    let before = found.size;
+    let patches = match found.patches {
+        Some(patches) => patches,
+        None => {
+            return Ok(Repaired {
+                bytes: file,
+                patches: Vec::new(alloc),
+                before,
+                after: before,
+            });
+        }
+    };
     let bytes = patched(file, &header, &patches);
-    match fault_of(rt, alloc, &bytes, weak)? {
-        Some(fault) => Err(RepairError::Unsound(fault)),
-        None => Ok(Repaired { bytes, patches }),
+    match sound_size(rt, alloc, &bytes, weak)? {
+        Err(fault) => Err(RepairError::Unsound(fault)),
+        Ok(after) => Ok(Repaired {
+            bytes,
+            patches,
+            before,
+            after,
+        }),
     }
 }

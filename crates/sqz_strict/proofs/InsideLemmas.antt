@@ -1,6 +1,6 @@
 -- The objects that warnings are about.
 -- Serves `findings_of`.
-use Rattle.std.proofs.Common.{◌≡◌, ◌∙◌, ◌<◌, ◌≤◌, ◌+◌, ◌&&◌, ℕ, zero, suc, Bool, true, false, cond, List, [], ◌∷◌, ◌++◌}
+use Rattle.std.proofs.Common.{◌≡◌, ◌∙◌, ◌<◌, ◌≤◌, ◌+◌, ◌&&◌, ℕ, zero, suc, Bool, true, false, cond, List, [], ◌∷◌}
 use Rattle.std.proofs.Common.{Option, Some, None, refl, sym, ap, subst, arith}
 use Rattle.std.specs.Prelude.{All}
 use Rattle.std.specs.List.{flat_map, range_with_len}
@@ -11,10 +11,11 @@ use Rattle.sqz_trace.specs.Graph.{is_marked}
 use Rattle.sqz_facts.proofs.RangeLemmas.{flat_map-next}
 use Rattle.sqz_strict.specs.declared.class_shape.ClassShape.{ClassShape}
 use Rattle.sqz_strict.specs.declared.warning.Warning.{Warning}
-use Rattle.sqz_strict.specs.declared.warning.Warning.TheVariants.{Shape, MethodDictionary, NoKey}
+use Rattle.sqz_strict.specs.declared.warning.Warning.TheVariants.{Shape, NoClass, NoMethodDictionary, MethodDictionary, NoKey}
+use Rattle.sqz_strict.specs.declared.warnings.ObjectSets.{ObjectSets}
 use Rattle.sqz_strict.specs.Shapes.{misfit}
-use Rattle.sqz_strict.specs.Sets.{is_short, has_no_key}
-use Rattle.sqz_strict.specs.Warnings.{object_of, shape_warnings, warnings_of, warnings_at, all_warnings}
+use Rattle.sqz_strict.specs.Sets.{is_class, is_short, has_no_key, has_no_class, lacks_methods}
+use Rattle.sqz_strict.specs.Warnings.{object_of, one_if, shape_warnings, warnings_of, warnings_at, all_warnings}
 
 -- a warning about one of the first objects
 abbrev pub IsAboutFirst : ℕ → Warning → Type 0
@@ -42,30 +43,34 @@ All-first P f bound (suc count) le each =
     (All-append P (flat_map f (range_with_len 0 count)) (f count) (All-first P f bound count (omega (arith, le)) each)
     (each count (omega (arith, le))))
 
-module _ (memory : Memory) (weak : Weak) (dictionaries associations : List Bool) where
-  of_inside : (bound object : ℕ) → object < bound
-      → All (IsAboutFirst bound) (warnings_of memory weak dictionaries associations object)
+module _ (memory : Memory) (weak : Weak) (marks : List Bool) (sets : ObjectSets) where
+  of_inside : (bound object : ℕ) → object < bound → All (IsAboutFirst bound) (warnings_of memory weak marks sets object)
   of_inside bound object inside =
       let P = IsAboutFirst bound in
-      let shape = shape_warnings object (misfit memory weak object) in
-      let short = is_marked dictionaries object && is_short memory object in
-      let keyless = is_marked associations object && has_no_key memory object in
-      All-append P (shape ++ cond short (MethodDictionary object ∷ []) []) (cond keyless (NoKey object ∷ []) [])
-      (All-append P shape (cond short (MethodDictionary object ∷ []) []) (shape_inside bound object inside (misfit memory weak object))
-      (one_inside bound object inside short (MethodDictionary object) refl))
-      (one_inside bound object inside keyless (NoKey object) refl)
+      let one : (test : Bool) (warning : Warning) → object_of warning ≡ object → All P (one_if test warning) =
+      one_inside bound object inside in
+      let classless = has_no_class memory weak object in
+      let shape = misfit memory weak object in
+      let methodless = is_class memory weak marks sets.classes object && lacks_methods memory object in
+      let short = is_marked sets.dictionaries object && is_short memory object in
+      let keyless = is_marked sets.associations object && has_no_key memory object in
+      All-append P _ _
+      (All-append P _ _
+      (All-append P _ _
+      (All-append P _ _ (one classless (NoClass object) refl) (shape_inside bound object inside shape))
+      (one methodless (NoMethodDictionary object) refl))
+      (one short (MethodDictionary object) refl))
+      (one keyless (NoKey object) refl)
 
-  at_inside : (marks : List Bool) (bound object : ℕ) → object < bound
-      → All (IsAboutFirst bound) (warnings_at memory weak marks dictionaries associations object)
-  at_inside marks bound object inside = at (is_marked marks object)
+  at_inside : (bound object : ℕ) → object < bound → All (IsAboutFirst bound) (warnings_at memory weak marks sets object)
+  at_inside bound object inside = at (is_marked marks object)
     where
-      at : (test : Bool) → All (IsAboutFirst bound) (cond test (warnings_of memory weak dictionaries associations object) [])
+      at : (test : Bool) → All (IsAboutFirst bound) (cond test (warnings_of memory weak marks sets object) [])
       at true = of_inside bound object inside
       at false = All-nil (IsAboutFirst bound)
 
   -- all warnings are about objects of the image
-  pub All-inside : (marks : List Bool)
-      → All (IsAboutFirst (object_count memory)) (all_warnings memory weak marks dictionaries associations)
-  All-inside marks =
-      All-first (IsAboutFirst (object_count memory)) (warnings_at memory weak marks dictionaries associations) (object_count memory)
-      (object_count memory) (omega arith) (at_inside marks (object_count memory))
+  pub All-inside : All (IsAboutFirst (object_count memory)) (all_warnings memory weak marks sets)
+  All-inside =
+      All-first (IsAboutFirst (object_count memory)) (warnings_at memory weak marks sets) (object_count memory)
+      (object_count memory) (omega arith) (at_inside (object_count memory))

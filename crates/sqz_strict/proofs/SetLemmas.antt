@@ -8,6 +8,7 @@ use Rattle.sqz_trace.specs.Graph.{is_marked}
 use Rattle.sqz_trace.specs.Strong.{class_of}
 use Rattle.sqz_trace.specs.Targets.{target}
 use Rattle.sqz_names.specs.Fields.{associations_field}
+use Rattle.sqz_strict.specs.declared.warnings.ObjectSets.{ObjectSets}
 use Rattle.sqz_strict.specs.Sets.{class_at, is_class, held_at, array_at, elements_of, elements_at}
 use Rattle.sqz_strict.specs.Warnings.{warnings_of, warnings_at}
 
@@ -20,11 +21,9 @@ module _ (memory : Memory) (weak : Weak) (marks : List Bool) (index : ℕ) (answ
       → held_at memory weak marks classes field index ≡ cond answer (target memory index (Field field)) None
   held_at-class classes field is = ap (λ (test : Bool). cond test (target memory index (Field field)) None) is
 
-  pub warnings_at-mark : (dictionaries associations : List Bool) → is_marked marks index ≡ answer
-      → warnings_at memory weak marks dictionaries associations index
-      ≡ cond answer (warnings_of memory weak dictionaries associations index) []
-  warnings_at-mark dictionaries associations is =
-      ap (λ (test : Bool). cond test (warnings_of memory weak dictionaries associations index) []) is
+  pub warnings_at-mark : (sets : ObjectSets) → is_marked marks index ≡ answer
+      → warnings_at memory weak marks sets index ≡ cond answer (warnings_of memory weak marks sets index) []
+  warnings_at-mark sets is = ap (λ (test : Bool). cond test (warnings_of memory weak marks sets index) []) is
 
 module _ (memory : Memory) (set : List Bool) (index : ℕ) (answer : Bool) (is : is_marked set index ≡ answer) where
   pub array_at-mark : array_at memory set index ≡ cond answer (target memory index (Field associations_field)) None

@@ -1,5 +1,5 @@
 -- The classes of an image, their method dictionaries, and the associations of all variables.
-use Rattle.std.specs.Prelude.{ℕ, ◌-◌, nat_eq, nat_lt, ◌&&◌, ◌||◌, Bool, false, if◌then◌else◌, List, [], ◌∷◌, ◌++◌, length}
+use Rattle.std.specs.Prelude.{ℕ, ◌-◌, nat_eq, nat_lt, ◌&&◌, ◌||◌, not, Bool, true, false, if◌then◌else◌, List, [], ◌∷◌, ◌++◌, length}
 use Rattle.std.specs.Prelude.{Option, Some, None, option_and_then}
 use Rattle.std.specs.Option.{option_eq}
 use Rattle.std.specs.List.{filter_map, flat_map, range_with_len}
@@ -11,6 +11,7 @@ use Rattle.sqz_trace.specs.Graph.{is_marked}
 use Rattle.sqz_trace.specs.Slots.{traced}
 use Rattle.sqz_trace.specs.Strong.{class_of}
 use Rattle.sqz_trace.specs.Targets.{target}
+use Rattle.sqz_facts.specs.Classes.{can_be_class}
 use Rattle.sqz_names.specs.Fields.{method_dictionary_field, instance_field, methods_field, first_selector_field}
 use Rattle.sqz_names.specs.Fields.{class_variables_field, globals_field, nil_field, associations_field, key_field}
 use Rattle.sqz_names.specs.Structures.{has_own_name}
@@ -103,3 +104,21 @@ is_nil_key memory (Some key) = option_eq nat_eq (special_at memory nil_field) (S
 -- whether the key of an association is nil
 abbrev pub has_no_key : Memory → ℕ → Bool
 has_no_key memory association = is_nil_key memory (target memory association (Field key_field))
+
+-- whether the class of an object is found, and can be no class
+abbrev pub is_no_class : Memory → Option ℕ → Bool
+is_no_class memory None = false
+is_no_class memory (Some class) = not (can_be_class memory class)
+
+abbrev pub has_no_class : Memory → Weak → ℕ → Bool
+has_no_class memory weak object = is_no_class memory (class_of memory weak (chunk_words memory object))
+
+-- whether there is no object, or it is nil
+abbrev pub is_none_or_nil : Memory → Option ℕ → Bool
+is_none_or_nil memory None = true
+is_none_or_nil memory (Some object) = is_nil_key memory (Some object)
+
+-- whether an object can be a class, and its method dictionary is nil, or no object
+abbrev pub lacks_methods : Memory → ℕ → Bool
+lacks_methods memory object =
+    can_be_class memory object && is_none_or_nil memory (target memory object (Field method_dictionary_field))

@@ -29,7 +29,7 @@ pub(crate) fn pools_of(alloc: Global, live: &Live<'_>, classes: &Marks) -> Resul
 }
 
 /// Returns what a field of the special objects array points to.
-fn special_at(heap: &Heap, field: u32) -> Option<ObjectIndex>
+pub(crate) fn special_at(heap: &Heap, field: u32) -> Option<ObjectIndex>
     ensures { result ≡ special_at heap.now field }
 {
     target(heap, heap.special(), Slot::Field(field))

@@ -3,6 +3,7 @@
 
 mod associations;
 mod class_shape;
+mod classless;
 mod findings;
 mod sets;
 mod shapes;

@@ -73,7 +73,7 @@ pub(crate) fn classes_of(alloc: Global, live: &Live<'_>) -> Result<Marks, AllocE
 
 /// Returns whether an object is a class: the class of a live object, or a live object that is the
 /// only instance of a metaclass and has a name of its own.
-fn is_class(live: &Live<'_>, classes: &Marks, object: ObjectIndex) -> bool
+pub(crate) fn is_class(live: &Live<'_>, classes: &Marks, object: ObjectIndex) -> bool
     requires { object < object_count live.now.graph.heap.now }
     ensures { result
         ≡ is_class live.now.graph.heap.now live.now.graph.weak live.now.marks classes.now object }

@@ -17,6 +17,16 @@ pub enum Warning {
         /// What its class states.
         stated: ClassShape,
     },
+    /// An object whose class is found, and can be no class.
+    NoClass {
+        /// The object.
+        object: ObjectIndex,
+    },
+    /// A class whose method dictionary is nil, or no object.
+    NoMethodDictionary {
+        /// The class.
+        object: ObjectIndex,
+    },
     /// A method dictionary whose array of methods is shorter than its keys are many.
     MethodDictionary {
         /// The method dictionary.
@@ -36,6 +46,8 @@ impl Warning {
     {
         match self {
             Warning::Shape { object, .. }
+            | Warning::NoClass { object }
+            | Warning::NoMethodDictionary { object }
             | Warning::MethodDictionary { object }
             | Warning::NoKey { object } => object,
         }

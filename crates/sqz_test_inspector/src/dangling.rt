@@ -23,6 +23,12 @@ const NO_CLASS: u32 = 2 * 4 + 3;
 /// The base header of an object of two words with a class word before it.
 const WITH_CLASS_WORD: u32 = 2 * 4 + 1;
 
+/// The base header of an object with a class word before it that can be a class, and what its field
+/// 2 states.
+const CLASS: u32 = 0x100 + 4 * 4 + 1;
+
+const STATES_ONE: u32 = 2 * 4 + 1;
+
 /// The base header of a method of two words.
 const METHOD: u32 = 0x1000 + 0xC00 + 2 * 4 + 3;
 
@@ -60,7 +66,9 @@ const FIELDS: &[Case] = &[
     ),
 ];
 
-/// A class word keeps its header type, and an object without a class is freed.
+/// An object whose class word leads nowhere, and one whose class word leads to no class, are freed; a
+/// class stays, and its class word keeps its header type; an object of that class stays; and an
+/// object without a class is freed.
 const CLASSES: &[Case] = &[
     (
         &[
@@ -73,13 +81,80 @@ const CLASSES: &[Case] = &[
             WITH_CLASS_WORD,
             ODD,
         ],
-        Ok(&[(5, 0x1011, Becomes::Nil), (7, 0x1010, Becomes::Nil)]),
+        Ok(&[(2, 0x1010, Becomes::Nil), (5, 14, Becomes::FreeChunk)]),
+    ),
+    (
+        &[
+            FOUR_WORDS,
+            0x1010,
+            0x1018,
+            INT_0,
+            ONE_WORD,
+            0x1011,
+            WITH_CLASS_WORD,
+            INT_0,
+        ],
+        Ok(&[(2, 0x1010, Becomes::Nil), (5, 14, Becomes::FreeChunk)]),
+    ),
+    (
+        &[
+            FOUR_WORDS,
+            0x1010,
+            0x1018,
+            INT_0,
+            ONE_WORD,
+            NOWHERE + 1,
+            CLASS,
+            0x1010,
+            ODD,
+            STATES_ONE,
+        ],
+        Ok(&[(5, 0x1011, Becomes::Nil), (8, 0x1010, Becomes::Nil)]),
+    ),
+    (
+        &[
+            FOUR_WORDS,
+            0x1010,
+            0x102C,
+            INT_0,
+            ONE_WORD,
+            NOWHERE + 1,
+            CLASS,
+            0x1010,
+            0x1010,
+            STATES_ONE,
+            0x1019,
+            WITH_CLASS_WORD,
+            ODD,
+        ],
+        Ok(&[(5, 0x1011, Becomes::Nil), (12, 0x1010, Becomes::Nil)]),
     ),
     (
         &[FOUR_WORDS, 0x1010, 0x1014, INT_0, ONE_WORD, NO_CLASS, ODD],
         Ok(&[(2, 0x1010, Becomes::Nil), (5, 10, Becomes::FreeChunk)]),
     ),
 ];
+
+/// A weak object whose class states more fixed fields than it has, with the patches if weak slots
+/// are cleared.
+const WEAK_OBJECT: Case = (
+    &[
+        FOUR_WORDS,
+        0x1010,
+        0x102C,
+        INT_0,
+        ONE_WORD,
+        0x1019,
+        CLASS,
+        0x1010,
+        0x1010,
+        STATES_ONE + 4,
+        0x1019,
+        WITH_CLASS_WORD + 0x400,
+        INT_0,
+    ],
+    Ok(&[(2, 0x1010, Becomes::Nil), (10, 14, Becomes::FreeChunk)]),
+);
 
 /// A method, a bad method, and a bad context.
 const METHODS: &[Case] = &[
@@ -161,6 +236,15 @@ fn patches(rt: HostRuntime) -> Result<(), Fail> {
             assert!(rt; has_patches(rt.alloc(), case, Weak::Clear)?, "{:?}", case.0);
         }
     }
+    Ok(())
+}
+
+#[test]
+fn weak_objects(rt: HostRuntime) -> Result<(), Fail> {
+    let (words, _) = WEAK_OBJECT;
+    let kept = patches_in(rt.alloc(), words, Weak::Keep)?;
+    assert_eq!(rt; kept.map(|patches| patches.len()), Ok(0));
+    assert!(rt; has_patches(rt.alloc(), &WEAK_OBJECT, Weak::Clear)?);
     Ok(())
 }
 

@@ -20,6 +20,9 @@ const FOUR_WORDS: u32 = 0x1200 + 4 * 4 + 3;
 
 const TEN_WORDS: u32 = 0x1200 + 10 * 4 + 3;
 
+/// The base header of an object that can be a class, with three fields.
+const CLASS: u32 = 0x1100 + 4 * 4 + 3;
+
 /// A SmallInteger.
 const INT: u32 = 1;
 
@@ -64,7 +67,7 @@ type Case = (u32, u32, Option<(u32, u32, u32)>);
 fn assert_fits<R: Abort + AllocGlobal>(rt: &R, cases: &[Case]) -> Result<(), Fail> {
     for (header, shape, wanted) in cases {
         let words = [
-            TWO_WORDS, 0x101C, FOUR_WORDS, INT, INT, *shape, 0x1009, *header, INT, INT,
+            TWO_WORDS, 0x101C, CLASS, 0x1000, 0x1000, *shape, 0x1009, *header, INT, INT,
         ];
         match *wanted {
             Some(stated) => assert_warnings(rt, &words, &[shape_warning(stated)])?,
@@ -143,30 +146,65 @@ const COMPACT_INDEXES: &[Case] = &[
     ),
 ];
 
-/// A class whose field 2 is one more than no number, and one whose field 2 is not a SmallInteger.
-const NOTHING_STATED: &[Case] = &[(TWO_FIELDS, INT, None), (TWO_FIELDS, 0x1000, None)];
-
 #[test]
 fn shapes(rt: HostRuntime) -> Result<(), Fail> {
-    for cases in [NUMBERS_OF_FIELDS, FORMATS, COMPACT_INDEXES, NOTHING_STATED] {
+    for cases in [NUMBERS_OF_FIELDS, FORMATS, COMPACT_INDEXES] {
         assert_fits(&rt, cases)?;
     }
     Ok(())
 }
 
-/// The data words of images, and the warnings: a method dictionary whose array of methods is long
-/// enough, and one that is too short; an association without a key, and one with a key.
+/// The data words of images, and the warnings: classes whose field 2 states no number, or is no
+/// SmallInteger; one with another format; one whose superclass, and one whose method dictionary is a
+/// SmallInteger; a class whose method dictionary is nil; a method dictionary whose array of methods
+/// is long enough, and one that is too short; an association without a key, and one with a key.
 const WARNINGS: &[(&[u32], &[Warning])] = &[
     (
         &[
-            TWO_WORDS, 0x101C, FOUR_WORDS, INT, 0x1028, STATES_TWO, 0x1009, TWO_FIELDS, INT, INT,
+            TWO_WORDS, 0x101C, CLASS, 0x1000, 0x1000, INT, 0x1009, TWO_FIELDS, INT, INT,
+        ],
+        &[Warning::NoClass { object: 2 }],
+    ),
+    (
+        &[
+            TWO_WORDS, 0x101C, CLASS, 0x1000, 0x1000, 0x1000, 0x1009, TWO_FIELDS, INT, INT,
+        ],
+        &[Warning::NoClass { object: 2 }],
+    ),
+    (
+        &[
+            TWO_WORDS, 0x101C, FOUR_WORDS, 0x1000, 0x1000, STATES_TWO, 0x1009, TWO_FIELDS, INT, INT,
+        ],
+        &[Warning::NoClass { object: 2 }],
+    ),
+    (
+        &[
+            TWO_WORDS, 0x101C, CLASS, INT, 0x1000, STATES_TWO, 0x1009, TWO_FIELDS, INT, INT,
+        ],
+        &[Warning::NoClass { object: 2 }],
+    ),
+    (
+        &[
+            TWO_WORDS, 0x101C, CLASS, 0x1000, INT, STATES_TWO, 0x1009, TWO_FIELDS, INT, INT,
+        ],
+        &[Warning::NoClass { object: 2 }],
+    ),
+    (
+        &[
+            TWO_WORDS, 0x101C, CLASS, 0x1000, 0x101C, STATES_TWO, 0x1009, TWO_FIELDS, INT, INT,
+        ],
+        &[Warning::NoMethodDictionary { object: 1 }],
+    ),
+    (
+        &[
+            TWO_WORDS, 0x101C, CLASS, 0x1000, 0x1028, STATES_TWO, 0x1009, TWO_FIELDS, INT, INT,
             FOUR_WORDS, INT, 0x1038, 0x1000, TWO_WORDS, INT,
         ],
         &[],
     ),
     (
         &[
-            TWO_WORDS, 0x101C, FOUR_WORDS, INT, 0x1028, STATES_TWO, 0x1009, TWO_FIELDS, INT, INT,
+            TWO_WORDS, 0x101C, CLASS, 0x1000, 0x1028, STATES_TWO, 0x1009, TWO_FIELDS, INT, INT,
             FOUR_WORDS, INT, 0x1038, 0x1000, ONE_WORD, ONE_WORD,
         ],
         &[Warning::MethodDictionary { object: 3 }],

@@ -3,7 +3,7 @@ use Rattle.sqz_trace.specs.Targets.{object_named}
 use Rattle.sqz_trace.proofs.EdgeLemmas.{named_by-inside}
 use Rattle.sqz_dangling.proofs.dangling.is_dangling.Goals as goal
 
-pub object-requires : goal.object-requires
-object-requires c =
-    named_by-inside c.args.heap.now c.args.word (Some c.in-Some.found)
-    (c.in-Some.ensures ∙ ap (object_named c.args.heap.now) c.in-Pointer.ensures)
+pub is_lost-requires : goal.is_lost-requires
+is_lost-requires c =
+    named_by-inside c.args.graph.heap.now c.args.word (Some c.in-Some.found)
+    (c.in-Some.ensures ∙ ap (object_named c.args.graph.heap.now) c.in-Pointer.ensures)

@@ -6,5 +6,5 @@ use Rattle.sqz_dangling.proofs.pushing.push_fields.Given as goal
 
 abbrev pub invariant-loop-index : goal.invariant-loop-index
 invariant-loop-index l =
-    ArePushed l.nil (object_at l.heap l.object) (dangling_among l.heap (chunk_words l.heap l.object) (field_slots 0 l.index))
+    ArePushed l.nil (object_at l.graph.heap.now l.object) (dangling_among l.graph.heap.now l.graph.weak (chunk_words l.graph.heap.now l.object) (field_slots 0 l.index))
     l.initial.patches.items l.patches.items

@@ -5,14 +5,17 @@ use Rattle.sqz_object.specs.declared.order.Order.{Order}
 use Rattle.sqz_image.specs.File.{data_of, image_bytes}
 use Rattle.sqz_dangling.specs.declared.patch.Patch.{Patch}
 use Rattle.sqz_mend.specs.Damaged.{HasSoundWords, words_there}
-use Rattle.sqz_repair.specs.Repairs.{ArePatchesOf}
+use Rattle.sqz_repair.specs.Repairs.{IsFinding, ArePatchesOf}
+use Rattle.sqz_repair.proofs.FoundLemmas.{ArePatchesOf-unsound}
 use Rattle.sqz_repair.proofs.repairing.repair.Goals as goal
 
 pub patched-bytes-requires-clause-inside : goal.patched-bytes-requires-clause-inside
 patched-bytes-requires-clause-inside g c =
     let file = c.args.file.items in
-    let found = subst (λ (bytes : List ℕ). ArePatchesOf c.args.weak bytes c.in_ok-patches.patches.items) c.deref-2.ensures.value
-    c.in_ok-patches.ensures.patches in
+    let found : ArePatchesOf c.args.weak file c.in_ok-found.found.size c.in-Some.patches.items =
+    rw c.in-Some.is at
+    (subst (λ (bytes : List ℕ). IsFinding c.args.weak bytes c.in_ok-found.found) c.deref-2.ensures.value c.in_ok-found.ensures.found)
+    in
     let header = subst (λ (bytes : List ℕ). HasSoundWords bytes c.in_ok-header.header) c.deref.ensures.value
     c.in_ok-header.ensures.header in
     let parts = found.holds.parts in
@@ -24,4 +27,17 @@ patched-bytes-requires-clause-inside g c =
     (λ (patches : List Patch). (k : ℕ) (d : Patch) → k < length patches
     → (get_or patches k d).word < length (words_there file c.in_ok-header.header))
     (sym c.deref-3.ensures.value)
-    (λ k d within. subst (λ (n : ℕ). (get_or c.in_ok-patches.patches.items k d).word < n) (ap length words) (found.inside k d within))
+    (subst
+    (λ (taken : _). (k : ℕ) (d : Patch) → k < length taken.items
+    → (get_or taken.items k d).word < length (words_there file c.in_ok-header.header))
+    (sym c.in-Some.patches-is)
+    (λ k d within. subst (λ (n : ℕ). (get_or c.in-Some.patches.items k d).word < n) (ap length words) (found.inside k d within)))
+
+pub returns-in-Ok-clause-unharmed : goal.returns-in-Ok-clause-unharmed
+returns-in-Ok-clause-unharmed g c =
+    let file = c.args.file.items in
+    let found : ArePatchesOf c.args.weak file c.in_ok-found.found.size c.in-Some.patches.items =
+    rw c.in-Some.is at
+    (subst (λ (bytes : List ℕ). IsFinding c.args.weak bytes c.in_ok-found.found) c.deref-2.ensures.value c.in_ok-found.ensures.found)
+    in
+    λ sound. absurd (ArePatchesOf-unsound c.args.weak file _ _ found sound)

@@ -10,4 +10,4 @@ returns-clause-inside c =
     let memory = c.args.live.now.graph.heap.now in
     let are = c.in_ok-warnings.ensures in
     subst (λ (warnings : List Warning). All (IsAboutFirst (object_count memory)) warnings) (sym are.exact)
-    (All-inside memory c.args.live.now.graph.weak are.dictionaries are.associations c.args.live.now.marks)
+    (All-inside memory c.args.live.now.graph.weak c.args.live.now.marks are.sets)

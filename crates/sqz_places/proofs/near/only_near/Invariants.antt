@@ -1,12 +1,12 @@
 use Rattle.std.proofs.Common.{◌≡◌, ◌<◌, ◌++◌, IfSome}
 use Rattle.sqz_image.specs.Objects.{object_count}
-use Rattle.sqz_places.specs.Near.{near_object, only}
+use Rattle.sqz_places.specs.Near.{only, only_near}
 use Rattle.sqz_places.proofs.NearLemmas.{listed, objects_from}
-use Rattle.sqz_places.proofs.near.near_object.Given as goal
+use Rattle.sqz_places.proofs.near.only_near.Given as goal
 
 abbrev pub invariant-loop-bit : goal.invariant-loop-bit
 invariant-loop-bit l =
     record {
-      near : only (listed l.found ++ objects_from l.heap l.word l.bit) ≡ near_object l.heap l.word;
+      near : only (listed l.found ++ objects_from l.heap l.classes l.word l.bit) ≡ only_near l.heap l.classes l.word;
       inside : IfSome l.found (λ object. object < object_count l.heap);
     }
