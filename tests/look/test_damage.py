@@ -5,27 +5,28 @@ import os
 import random
 import re
 
-from tests.harness.json_rows import rows_of
+from tests.harness.json_rows import difference, rows_of
 from tests.harness.look_checks import LookTest
 from tests.harness.outcomes import Outcome
 from tests.harness.programs import SQZCOMPACT, SQZLOOK, Limits, run
 from tests.harness.saved_image import SavedImageTest
 from tests.harness.sqzlook import CLEAR, look
 from tests.harness.worked_images import bytes_at, readable_paths, worked_paths
+from tests.making.builder import Builder, Ref
 from tests.making.changed_images import at_base, with_words
-from tests.making.random_images import random_files
+from tests.making.random_images import COMPACT, random_files
 from tests.making.seed import SEED
-from tests.reference.damage import is_sound, mend_file
+from tests.reference.damage import is_sound, mend_file, readable
 from tests.reference.fields import SpecialField
-from tests.reference.file_format import HEADER_WORDS, VERSION, bytes_of
+from tests.reference.file_format import HEADER_WORDS, PREFIX, VERSION, bytes_of
 from tests.reference.image import Image
-from tests.reference.objects import FREE, Format
+from tests.reference.objects import FREE, ZERO, Format
 from tests.reference.repair import repair_row, repaired_file
 
 HEADER = 4 * HEADER_WORDS
 SECTOR = 512
-# Random damages of small images.
-DAMAGES = 400
+# Random damages of small images, and random losses of words in their middle.
+DAMAGES, LOSSES = 400, 100
 # Random images that are mended without damage, and the bases to which they are moved. At a low base
 # small numbers are addresses.
 SOUND, BASES = 300, (0, 0x1000, 0x100000, 0x14FFC000, 0x7FFF0000)
@@ -35,10 +36,22 @@ BITMAP = 49 << 2 | 3 | Format.WORDS << 8 | 1 << 12
 # of memory, and `EACH_WORD` bytes for each of these words.
 SMALL, LARGE = 1 << 22, 1 << 24
 REST, EACH_WORD = 64 << 20, 32
+# How many words nil and the special objects array have before the loss of `chain_after_loss`.
+CHAIN = 4
 # Random damages of an image that Squeak saved.
 SAVED_DAMAGES = int(os.environ.get("SQZ_DAMAGES", "8"))
 # The maximum number of words that `mend --nil` lists.
 MOST_WORDS = 20
+# Where words of that image are lost, in percent of its data, and the bases to which it is moved.
+LOST_AT, LOSS_BASES = (25, 50, 90), BASES[::2]
+# The least part of the objects without a lost word that stand at their addresses in the mended
+# file, and the most of them that are on the wrong side of the place that `mend` finds.
+KEPT, MISPLACED = 0.999, 16
+
+
+def position(it, word):
+    """Where a data word stands, as text says it."""
+    return f"at word {word} (byte {it.start + 4 * word})"
 
 
 def skipped_row(it, path):
@@ -47,7 +60,8 @@ def skipped_row(it, path):
         {"word": gap.first, "byte": it.start + 4 * gap.first, "bytes": 4 * gap.words}
         for gap in it.gaps
     ]
-    return {"image": path, "skipped": skipped, "missing_bytes": it.missing}
+    missing = {"missing_bytes": it.missing, "missing_at": it.missing_at()}
+    return {"image": path, "skipped": skipped, **missing}
 
 
 def skipped_line(it, path):
@@ -56,10 +70,28 @@ def skipped_line(it, path):
     if it.gaps:
         first, size = it.gaps[0].first, 4 * sum(gap.words for gap in it.gaps)
         count = f" in {len(it.gaps)} gaps, the first" if len(it.gaps) > 1 else ""
-        parts.append(f"skipped {size} bytes{count} at word {first} (byte {it.start + 4 * first})")
+        parts.append(f"skipped {size} bytes{count} {position(it, first)}")
     if it.missing:
-        parts.append(f"{it.missing} bytes of the data are missing at the end")
+        place = "at the end" if it.place is None else position(it, it.place)
+        parts.append(f"{it.missing} bytes of the data are missing {place}")
     return f"sqzlook: {path}: {'; '.join(parts)}\n"
+
+
+def chain_after_loss(lost, moved, others, prefix):
+    """The file of an image that lost `lost` objects of one word. After these are a chain of `moved`
+    objects, and `others` objects to which no slot points."""
+    builder, first = Builder(), lost + 2
+    nil = builder.add(Format.EMPTY, None, compact=COMPACT)
+    builder.special = builder.add(Format.INDEXED, None, nil, Ref(first), compact=COMPACT)
+    for _ in range(lost):
+        builder.add(Format.EMPTY, None, compact=COMPACT)
+    for number in range(first + 1, first + moved):
+        builder.add(Format.FIXED, None, Ref(number), ZERO, ZERO, compact=COMPACT)
+    for _ in range(others + 1):
+        builder.add(Format.FIXED, None, ZERO, ZERO, ZERO, compact=COMPACT)
+    file = Image.read(builder.file())[0].file(prefix)
+    at = len(prefix) + HEADER + 4 * CHAIN
+    return file[:at] + file[at + 4 * lost :]
 
 
 def counted(count, noun):
@@ -121,11 +153,12 @@ class SmallDamageTest(LookTest):
         self.assertEqual([it for it in text.splitlines() if ": mend --nil " in it], lines)
 
     def damaged(self, generator, file):
-        """The file with one to three changes: a word, a sector, or its end."""
+        """The file with one to three changes: a word, a byte, a sector, its end, or words that are
+        lost in the middle."""
         file = bytearray(file)
         for _ in range(generator.randint(1, 3)):
             at = generator.randrange(max(1, len(file) // 4)) * 4
-            match generator.randrange(4):
+            match generator.randrange(5):
                 case 0:
                     file[at : at + 4] = generator.randbytes(4)
                 case 1:
@@ -134,6 +167,9 @@ class SmallDamageTest(LookTest):
                     file[at : at + 32] = bytes(len(file[at : at + 32]))
                 case 3:
                     del file[max(at, len(file) // 2) :]
+                case 4:
+                    at = max(at, HEADER)
+                    del file[at : at + 4 * generator.randint(1, 8)]
         return bytes(file)
 
     def test_worked_images(self):
@@ -151,6 +187,45 @@ class SmallDamageTest(LookTest):
             with self.subTest(number=number):
                 self.assert_mended("damaged.image", file)
                 self.assert_repaired("damaged.image", file)
+
+    def assert_finds(self, name, file):
+        """Checks a file of which bytes are missing. Returns the word at which they are missing."""
+        it = self.assert_mended(name, file)
+        self.assert_repaired(name, file)
+        outcome = look("check", "--json", name, folder=self.folder)
+        row = rows_of(outcome.stdout)[0]["readable"]
+        self.assertIsNone(difference(row, readable(file)))
+        return it.place
+
+    def test_random_losses(self):
+        """Words are lost in the middle, or a few bytes. Some images have enough objects to find the
+        place."""
+        generator, found = random.Random(SEED), 0
+        files = list(random_files(SOUND).values())
+        for number in range(LOSSES):
+            file = generator.choice(files)
+            at = HEADER + 4 * generator.randrange((len(file) - HEADER) // 4)
+            size = generator.randint(1, 8) * generator.choice((1, 4, 4, 4))
+            with self.subTest(number=number):
+                place = self.assert_finds("lost.image", file[:at] + file[at + size :])
+                found += place is not None
+        self.assertGreater(found, 0)
+
+    def test_least_chain_after_a_loss(self):
+        """A place is found if 16 objects move, if these are more than half of the objects after it,
+        and if no more bytes are missing than are left."""
+        for lost, moved, others, place in (
+            (2, 16, 0, CHAIN),
+            (2, 15, 0, None),
+            (2, 16, 15, CHAIN),
+            (2, 16, 16, None),
+            (CHAIN + 64, 16, 0, CHAIN),
+            (CHAIN + 65, 16, 0, None),
+        ):
+            for prefix in (b"", PREFIX):
+                with self.subTest(lost=lost, moved=moved, others=others, prefix=len(prefix)):
+                    file = chain_after_loss(lost, moved, others, prefix)
+                    self.assertEqual(self.assert_finds("lost.image", file), place)
 
     def test_gap_at_every_other_word(self):
         # free chunks of one word, each followed by a word that begins no chunk
@@ -197,22 +272,34 @@ class SoundTest(LookTest):
 class HostileDamageTest(LookTest):
     """Data of which nearly nothing can be read, at one size and at four times the size."""
 
+    def assert_mends(self, words, count, missing, memory, what):
+        """Checks that `mend` says this of these words, repeated, if its header states some words
+        more, and that it takes no more memory for each word."""
+        size = 4 * (count + missing)
+        header = array.array("I", [VERSION, HEADER, size, 0x1000, 0x1000] + [0] * 11)
+        data = words * (count // len(words))
+        self.write("hostile.image", bytes_of(header, "little") + data.tobytes())
+        limits = Limits(memory=REST + memory * count)
+        with open(self.folder / "printed", "wb") as printed:
+            outcome = self.run_here(SQZLOOK, "mend", "hostile.image", stdout=printed, limits=limits)
+        line = f"sqzlook: hostile.image: {what}\n"
+        self.assert_ends(outcome, Outcome(0, stderr=line.encode()))
+
     def assert_skipped(self, words, first):
         """Checks that `mend` skips these words, repeated, from a place on, and takes memory in
         proportion to them."""
         for count in (SMALL, LARGE):
             with self.subTest(count=count):
-                header = array.array("I", [VERSION, HEADER, 4 * count, 0x1000, 0x1000] + [0] * 11)
-                data = words * (count // len(words))
-                self.write("hostile.image", bytes_of(header, "little") + data.tobytes())
-                limits = Limits(memory=REST + EACH_WORD * count)
-                with open(self.folder / "printed", "wb") as printed:
-                    outcome = self.run_here(
-                        SQZLOOK, "mend", "hostile.image", stdout=printed, limits=limits
-                    )
                 size, byte = 4 * (count - first), HEADER + 4 * first
-                line = f"hostile.image: skipped {size} bytes at word {first} (byte {byte})"
-                self.assert_ends(outcome, Outcome(0, stderr=f"sqzlook: {line}\n".encode()))
+                what = f"skipped {size} bytes at word {first} (byte {byte})"
+                self.assert_mends(words, count, 0, EACH_WORD, what)
+
+    def test_half_is_missing(self):
+        # objects of one word, to which no slot leads
+        for count in (SMALL, LARGE):
+            with self.subTest(count=count):
+                what = f"{4 * count} bytes of the data are missing at the end"
+                self.assert_mends(array.array("I", [7]), count, count, 2 * EACH_WORD, what)
 
     def test_gap_at_every_other_word(self):
         # free chunks of one word, each followed by a word that begins no chunk
@@ -260,6 +347,7 @@ class SavedDamageTest(SavedImageTest):
             "zeroed_twice": self.zeroed(self.zeroed(self.file, at), other),
             "cut": self.file[: HEADER + 7 * (len(self.file) - HEADER) // 10],
             "cut_in_a_header": self.file[:cut],
+            "lost": self.file[:other] + self.file[other + SECTOR :],
         }
 
     def has_short_header(self, number):
@@ -352,6 +440,53 @@ class SavedDamageTest(SavedImageTest):
                 self.assertIn((it.first, it.end), found)
         self.assertRegex(outcome.stderr, rb"^sqzlook: damaged.image: skipped \d+ bytes at word \d+")
 
+    def test_losses(self):
+        """`mend` finds where words were lost in the middle, at several bases and in both byte
+        orders. Nearly all objects without a lost word stand at their addresses again."""
+        for image, lost in self.losses():
+            with self.subTest(base=image.base, order=image.order, lost=lost):
+                self.assert_finds_loss(image, lost)
+
+    def losses(self):
+        """Images, each with the range of words that it loses: one sector, or eight."""
+        images = [at_base(self.image, base) for base in LOSS_BASES]
+        images.append(images[0].in_other_order())
+        sectors = 4 * len(self.image.words) // SECTOR
+        for image in images:
+            for percent in LOST_AT:
+                first = sectors * percent // 100 * SECTOR // 4 - HEADER_WORDS
+                yield image, range(first, first + SECTOR // 4)
+        yield image, range(first, first + 8 * SECTOR // 4)
+
+    def assert_finds_loss(self, image, lost):
+        """Checks what `mend` makes of an image that lost a range of words."""
+        file = image.file()
+        self.write("lost.image", file[: HEADER + 4 * lost.start] + file[HEADER + 4 * lost.stop :])
+        outcome = look("mend", "lost.image", folder=self.folder)
+        self.assertEqual(outcome.status, 0)
+        place = int(re.search(rb"missing at word (\d+) \(byte", outcome.stderr)[1])
+        mended, _ = Image.read(outcome.stdout)
+        found = {(it.first, it.end) for it in mended.objects}
+        before = [it for it in image.objects if it.end <= lost.start]
+        after = [it for it in image.objects if lost.stop <= it.first]
+        misplaced = sum(place < it.end for it in before)
+        misplaced += sum(it.first - len(lost) < place for it in after)
+        self.assertLessEqual(misplaced, MISPLACED)
+        kept = sum((it.first, it.end) in found for it in before + after)
+        self.assertGreaterEqual(kept, KEPT * len(before + after))
+
+    def test_no_loss(self):
+        """A cut, and a header that states too many bytes, are no loss in the middle."""
+        size = len(self.file) - HEADER + SECTOR
+        stated = self.file[:8] + size.to_bytes(4, self.image.order) + self.file[12:]
+        for name, file in (("cut.image", self.file[:-SECTOR]), ("stated.image", stated)):
+            with self.subTest(name):
+                self.write(name, file)
+                outcome = look("mend", name, folder=self.folder)
+                self.assertEqual(outcome.status, 0)
+                line = f"{SECTOR} bytes of the data are missing at the end\n"
+                self.assertTrue(outcome.stderr.decode().endswith(line))
+
     def test_random_damages(self):
         """`mend --nil` changes no word that was not damaged but to clear a pointer or to free a
         chunk, and reads each object without a damaged word as it was."""
@@ -399,22 +534,29 @@ class SavedDamageTest(SavedImageTest):
                 self.assertTrue((it.first, it.end) in found or it.first in freed)
 
     def test_check_says_how_much_can_be_read(self):
-        file = self.damages()["cut"]
+        damages = self.damages()
+        for name in ("cut", "lost"):
+            with self.subTest(name):
+                self.assert_check_says_how_much(f"{name}.image", damages[name])
+
+    def assert_check_says_how_much(self, name, file):
+        """Checks what `check` says of a file of which bytes are missing."""
         it = mend_file(file)
-        self.write("cut.image", file)
-        outcome = look("check", "--json", "cut.image", folder=self.folder)
+        self.write(name, file)
+        outcome = look("check", "--json", name, folder=self.folder)
         (row,) = rows_of(outcome.stdout)
         size = 4 * sum(gap.words for gap in it.gaps)
-        readable = row["readable"]
+        found = row["readable"]
         self.assertEqual((outcome.status, row["faults"][0]["number"]), (1, 6))
-        found = readable["unreadable_bytes"], readable["missing_bytes"]
-        self.assertEqual(found, (size, it.missing))
-        text = look("check", "cut.image", folder=self.folder).stdout.decode()
+        counts = found["unreadable_bytes"], found["missing_bytes"], found["missing_at"]
+        self.assertEqual(counts, (size, it.missing, it.missing_at()))
+        place = "" if it.place is None else f" {position(it, it.place)}"
+        text = look("check", name, folder=self.folder).stdout.decode()
         self.assertEqual(
             text,
-            f"cut.image: fault 6: data are truncated: {it.missing} bytes are missing, {size} bytes "
-            f"cannot be read; {readable['objects']} objects before and after\n"
-            f"cut.image: mend --nil keeps {repair_text(row['repair'])}\n",
+            f"{name}: fault 6: data are truncated: {it.missing} bytes are missing{place}, {size} "
+            f"bytes cannot be read; {found['objects']} objects before and after\n"
+            f"{name}: mend --nil keeps {repair_text(row['repair'])}\n",
         )
 
     def test_undamaged(self):

@@ -5,10 +5,15 @@ no base header of an object stands. A gap counts as 4 contradicted votes. The be
 contradicts the fewest votes, and among those that contradict equally many it skips the fewest
 words. Every word is a voter for the first reading; then the slots of the reading before are.
 
+If whole words are missing, they may have been lost in the middle: then slots point to where the
+objects after the loss stood before it. Zeros take the place of the lost words, and the file is then
+mended as any other one.
+
 A file that holds an image without a fault is not damaged, whatever its words vote for.
 """
 
 import array
+import operator
 import typing
 
 from tests.reference.faults import Defects
@@ -20,6 +25,9 @@ from tests.reference.objects import FREE, HEADER_TYPES, Object, traced_end
 # What a gap costs, in contradicted votes.
 GAP_VOTES = 4
 READINGS = 3
+# After the place of a loss, the objects that moved are at least this many more than those that
+# stayed.
+LEAST_MOVED = 16
 # The sizes of a header and of what may stand before it, in bytes.
 HEADER, PREFIX_SIZE = 4 * HEADER_WORDS, 512
 
@@ -87,15 +95,19 @@ def best_reading(words, votes):
     return parts
 
 
+def objects_among(words, parts):
+    """The objects among these parts, in order."""
+    for at, end, is_gap in parts:
+        if not is_gap and words[at] & 3 != FREE:
+            yield Object(at, at + HEADER_TYPES.index(words[at] & 3), end)
+
+
 def slots_of(words, parts):
     """What the slots of the objects among these parts hold."""
-    for at, end, is_gap in parts:
-        if is_gap or words[at] & 3 == FREE:
-            continue
-        base = at + HEADER_TYPES.index(words[at] & 3)
-        if base > at:
-            yield words[base - 1] & ~3
-        yield from words[base + 1 : traced_end(words, Object(at, base, end))]
+    for it in objects_among(words, parts):
+        if it.base > it.first:
+            yield words[it.base - 1] & ~3
+        yield from words[it.base + 1 : traced_end(words, it)]
 
 
 def gaps_of(base, words):
@@ -109,14 +121,57 @@ def gaps_of(base, words):
     return [Gap(at, end - at) for at, end, is_gap in parts if is_gap]
 
 
+def with_moved(votes, lost):
+    """Whether each word is voted for, or the word that is `lost` words after it: 1 or 0.
+
+    There are `lost` fewer words than votes."""
+    return bytearray(map(operator.or_, votes, votes[lost:]))
+
+
+def moved_from(objects, votes, lost):
+    """The first word of the first object after a loss of this many words, or None if there is none.
+
+    An object stays if its base header is voted for, and moves if the word that is `lost` words
+    after that is. From the best object on, the number of objects that move exceeds the number of
+    those that stay by most. If several objects are best, the last one is taken."""
+    moved, stayed, most, place = 0, 0, 0, None
+    for count, it in enumerate(reversed(objects), 1):
+        moved += votes[it.base + lost]
+        stayed += votes[it.base]
+        if moved - stayed > most:
+            most = moved - stayed
+            place = it.first if most >= LEAST_MOVED and 2 * moved > count else None
+    return place
+
+
+def place_of_loss(base, words, missing):
+    """The data word before which this many bytes are missing, or None if they are the last ones."""
+    count, lost = len(words), missing // 4
+    if not 0 < missing <= 4 * count or missing % 4:
+        return None
+    votes = votes_of(base, count + lost, words)
+    parts = best_reading(words, with_moved(votes, lost))
+    votes = votes_of(base, count + lost, slots_of(words, parts))
+    parts = best_reading(words, with_moved(votes, lost))
+    return moved_from(list(objects_among(words, parts)), votes, lost)
+
+
 class Mended(typing.NamedTuple):
-    """What becomes of a damaged file: its bytes, the gaps, the bytes that are missing, and where
-    the data begin."""
+    """What becomes of a damaged file: its bytes, the gaps, the bytes that are missing, the data
+    word at which zeros stand for them or None if they are the last ones, and where the data
+    begin."""
 
     file: bytes
     gaps: list
     missing: int
+    place: int | None
     start: int
+
+    def missing_at(self):
+        """Where bytes are missing in the middle, as a line of JSON states it, or None."""
+        if self.place is None:
+            return None
+        return {"word": self.place, "byte": self.start + 4 * self.place, "bytes": self.missing}
 
 
 def header_of(file):
@@ -159,17 +214,24 @@ def mend_file(file, clear_weak=False):
         return None
     start = offset + HEADER
     if is_sound(file, clear_weak):
-        return Mended(file, [], 0, start)
+        return Mended(file, [], 0, None, start)
     there = min(size, len(file) - start) // 4 * 4
     words = words_of(file[start : start + there], order)
-    gaps, missing = gaps_of(base, words), max(0, size - (len(file) - start))
+    missing = max(0, size - (len(file) - start))
+    place = place_of_loss(base, words, missing)
+    if place is not None:
+        at = start + 4 * place
+        words[place:place] = array.array("I", bytes(missing))
+        file, there = file[:at] + bytes(missing) + file[at:], size
+    is_restored = place is not None and is_sound(file, clear_weak)
+    gaps = [] if is_restored else gaps_of(base, words)
     if not gaps and not missing:
-        return Mended(file, gaps, missing, start)
+        return Mended(file, gaps, missing, place, start)
     for gap in gaps:
         words[gap.first] = 4 * gap.words + FREE
     header[2] = there
     data = bytes_of(header, order) + bytes_of(words, order)
-    return Mended(file[:offset] + data + file[start + there :], gaps, missing, start)
+    return Mended(file[:offset] + data + file[start + there :], gaps, missing, place, start)
 
 
 def readable(file):
@@ -188,5 +250,10 @@ def readable(file):
             found = found or base + 4 * place == special
         at = end
     size = 4 * sum(gap.words for gap in it.gaps)
-    known = {"unreadable_bytes": size, "missing_bytes": it.missing, "objects": objects}
+    known = {
+        "unreadable_bytes": size,
+        "missing_bytes": it.missing,
+        "missing_at": it.missing_at(),
+        "objects": objects,
+    }
     return known if found else None

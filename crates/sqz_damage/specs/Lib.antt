@@ -3,3 +3,4 @@ pub mod Readings
 pub mod Filled
 pub mod Counting
 pub mod Steps
+pub mod Losses

@@ -28,8 +28,8 @@ pub fn gaps_of(alloc: Global, base: Address, words: &Words<'_>) -> Result<Vec<Ga
 {
     let mut votes = vec![in alloc; false; words.len()]?;
     vote_by_words(&mut votes, base, words);
-    let first = best_reading(alloc, base, words, &votes)?;
-    let second = best_reading(alloc, base, words, &first.votes)?;
-    let third = best_reading(alloc, base, words, &second.votes)?;
+    let first = best_reading(alloc, base, words, &votes, words.len())?;
+    let second = best_reading(alloc, base, words, &first.votes, words.len())?;
+    let third = best_reading(alloc, base, words, &second.votes, words.len())?;
     Ok(third.gaps)
 }

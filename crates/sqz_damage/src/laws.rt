@@ -1,9 +1,10 @@
 //! Laws of the definitions. Each is the contract of a function that does nothing.
 
-ghost use Rattle.std.specs.Prelude.{ℕ, List, [], map, length};
+ghost use Rattle.std.specs.Prelude.{◌<◌, ℕ, List, [], Some, map, length};
 ghost use Rattle.sqz_object.specs.Partition.{IsPartition};
 ghost use Rattle.sqz_damage.specs.declared.gap.Gap.{Gap};
 ghost use Rattle.sqz_damage.specs.Filled.{AreGapsIn, filled, filled_part};
+ghost use Rattle.sqz_damage.specs.Losses.{IsLoss};
 ghost use Rattle.sqz_damage.specs.Readings.{AreBestGaps};
 
 /// Words whose best reading has no gap are a sequence of chunks.
@@ -17,6 +18,12 @@ pub fn words_without_gaps()
 pub fn best_gaps()
     ensures { (base : ℕ) (words : List ℕ) (gaps : List Gap) → AreBestGaps base words gaps
         → AreGapsIn 0 (length words) gaps }
+{}
+
+/// Words were lost before one of the words that are there.
+pub fn loss_within()
+    ensures { (base : ℕ) (words : List ℕ) (lost place : ℕ) → IsLoss base words lost (Some place)
+        → place < length words }
 {}
 
 /// Words whose best gaps are filled are a sequence of chunks: the chunks of the reading as they

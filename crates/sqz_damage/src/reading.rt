@@ -17,22 +17,24 @@ use std::alloc::{AllocError, Global};
 #[derive(Drop)]
 pub(crate) struct Reading {
     pub(crate) gaps: Vec<Gap>,
-    /// Of each data word, whether a slot of an object of the reading holds its address.
+    /// Of each word from the first data word on, whether a slot of an object of the reading holds its
+    /// address.
     pub(crate) votes: Vec<bool>,
 }
 
 /// Returns the best reading of data words, of which `base` is the address of the first one, if
-/// `votes` says of each whether it has a vote.
+/// `votes` says of each whether it has a vote. The votes of its slots are noted for `count` words.
 pub(crate) fn best_reading(
     alloc: Global,
     base: Address,
     words: &Words<'_>,
     votes: &[bool],
+    count: usize,
 ) -> Result<Reading, AllocError>
     requires few { length words.now < 2 ^ 30 }
-    requires within { base + 4 * length words.now ≤ 2 ^ 32 }
+    requires within { base + 4 * count ≤ 2 ^ 32 }
     requires sized { length votes.now ≡ length words.now }
-    ensures { IfOk result (IsReadBy base (votes_of votes.now) words.now) }
+    ensures { IfOk result (IsReadBy base count (votes_of votes.now) words.now) }
 {
     let later = later_votes(alloc, votes)?;
     let voted = VotedWords {
@@ -41,7 +43,7 @@ pub(crate) fn best_reading(
         later: &later,
     };
     let steps = steps_of(alloc, &voted)?;
-    walk(alloc, base, &voted, &steps)
+    walk(alloc, base, &voted, &steps, count)
 }
 
 /// Returns the reading that the best steps make from the first word on.
@@ -50,14 +52,16 @@ fn walk(
     base: Address,
     voted: &VotedWords<'_>,
     steps: &[Step],
+    count: usize,
 ) -> Result<Reading, AllocError>
     requires voted { IsVoted voted.now }
-    requires within { base + 4 * length voted.now.words.now ≤ 2 ^ 32 }
+    requires within { base + 4 * count ≤ 2 ^ 32 }
     requires steps { AreSteps (votes_of voted.now.votes.now) voted.now.words.now 0 steps.now }
-    ensures { IfOk result (IsReadBy base (votes_of voted.now.votes.now) voted.now.words.now) }
+    ensures { IfOk result (IsReadBy base count (votes_of voted.now.votes.now)
+        voted.now.words.now) }
 {
     let words = voted.words;
-    let mut votes = vec![in alloc; false; words.len()]?;
+    let mut votes = vec![in alloc; false; count]?;
     let mut gaps = Vec::new(alloc);
     let mut p = 0;
     while p < words.len() {

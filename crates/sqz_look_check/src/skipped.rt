@@ -1,6 +1,7 @@
 //! What of a file was skipped.
 
 use serde::Serialize;
+use sqz_damage::Gap;
 use sqz_image::Header;
 use sqz_look_view::{Counted, write_bytes};
 use sqz_mend::Damage;
@@ -9,19 +10,35 @@ use sqz_places::{GapPlace, bytes_in_gaps, gap_place};
 use std::alloc::{AllocError, Global};
 use std::fmt;
 
-/// A run of data words that was skipped, and where it is in the file.
-#[derive(Drop, Serialize)]
-struct GapView {
+/// A run of data words that was skipped or lost, and where it is in the mended file.
+#[derive(Clone, Copy, Drop, Serialize)]
+pub(crate) struct GapView {
     word: WordIndex,
     byte: u64,
     bytes: u64,
 }
 
 impl GapView {
-    /// Returns a run that lies there.
-    fn of(place: GapPlace) -> Self {
-        let GapPlace { word, byte, bytes } = place;
+    /// Returns a run in a file with this header.
+    fn of(header: &Header, gap: Gap) -> Self {
+        let GapPlace { word, byte, bytes } = gap_place(header.offset, gap);
         GapView { word, byte, bytes }
+    }
+
+    /// Returns the words that a file with this header lacks, if it is clear where they were lost.
+    pub(crate) fn of_loss(header: &Header, damage: &Damage) -> Option<Self> {
+        match damage.place {
+            Some(first) => {
+                let words = damage.missing / 4;
+                Some(GapView::of(header, Gap { first, words }))
+            }
+            None => None,
+        }
+    }
+
+    /// Writes where the run begins.
+    pub(crate) fn write_start<W: fmt::Write>(&self, f: &mut fmt::Formatter<W>) -> fmt::Result {
+        write!(f, " at word {} (byte {})", self.word, self.byte)
     }
 }
 
@@ -32,6 +49,8 @@ pub struct SkippedView<'a> {
     skipped: Vec<GapView>,
     /// The number of bytes of the data that the file does not have.
     missing_bytes: u32,
+    /// Where they were, if that is clear and not the end.
+    missing_at: Option<GapView>,
     /// The length of all runs in bytes.
     #[serde(skip)]
     bytes: u64,
@@ -47,12 +66,13 @@ impl<'a> SkippedView<'a> {
     ) -> Result<Self, AllocError> {
         let mut skipped = Vec::new(alloc);
         for gap in &damage.gaps {
-            skipped.push(GapView::of(gap_place(header.offset, *gap)))?;
+            skipped.push(GapView::of(header, *gap))?;
         }
         Ok(SkippedView {
             image,
             skipped,
             missing_bytes: damage.missing,
+            missing_at: GapView::of_loss(header, damage),
             bytes: bytes_in_gaps(&damage.gaps),
         })
     }
@@ -61,23 +81,24 @@ impl<'a> SkippedView<'a> {
 impl fmt::Display for SkippedView<'_> {
     fn fmt<W: fmt::Write>(&self, f: &mut fmt::Formatter<W>) -> fmt::Result {
         if let Some(first) = self.skipped.first() {
-            let (word, byte) = (first.word, first.byte);
             f.write_str("skipped ")?;
             write_bytes(f, self.bytes)?;
-            match self.skipped.len() {
-                1 => write!(f, " at word {word} (byte {byte})")?,
-                gaps => {
-                    let gaps = Counted(gaps as u64, "gap");
-                    write!(f, " in {gaps}, the first at word {word} (byte {byte})")?;
-                }
+            if self.skipped.len() > 1 {
+                let gaps = Counted(self.skipped.len() as u64, "gap");
+                write!(f, " in {gaps}, the first")?;
             }
+            first.write_start(f)?;
         }
         if self.missing_bytes > 0 {
             if !self.skipped.is_empty() {
                 f.write_str("; ")?;
             }
             write_bytes(f, u64::from(self.missing_bytes))?;
-            f.write_str(" of the data are missing at the end")?;
+            f.write_str(" of the data are missing")?;
+            match &self.missing_at {
+                Some(lost) => lost.write_start(f)?,
+                None => f.write_str(" at the end")?,
+            }
         }
         Ok(())
     }

@@ -5,6 +5,7 @@ ghost use Rattle.sqz_image.specs.Unread.{IsUnread};
 use crate::causes::{Cause, FileKind};
 use crate::faults::FaultView;
 use crate::file_kinds::kind_of;
+use crate::skipped::GapView;
 use serde::Serialize;
 use sqz_image::{Fault, Header, UnreadFile};
 use sqz_look_view::{Counted, Hex, write_bytes};
@@ -37,6 +38,8 @@ pub(crate) struct Extent {
     /// The bytes of the data that cannot be read, and those that the file does not have.
     pub(crate) unreadable_bytes: u64,
     pub(crate) missing_bytes: u32,
+    /// Where the bytes are missing, if that is clear and not the end.
+    pub(crate) missing_at: Option<GapView>,
     /// The objects that can be read.
     pub(crate) objects: u32,
 }
@@ -45,7 +48,11 @@ impl fmt::Display for Extent {
     fn fmt<W: fmt::Write>(&self, f: &mut fmt::Formatter<W>) -> fmt::Result {
         if self.missing_bytes > 0 {
             write_bytes(f, u64::from(self.missing_bytes))?;
-            f.write_str(" are missing, ")?;
+            f.write_str(" are missing")?;
+            if let Some(lost) = &self.missing_at {
+                lost.write_start(f)?;
+            }
+            f.write_str(", ")?;
         }
         write_bytes(f, self.unreadable_bytes)?;
         let objects = Counted(u64::from(self.objects), "object");
@@ -91,6 +98,7 @@ impl Unreadable {
         self.extent = Some(Extent {
             unreadable_bytes: bytes_in_gaps(&mended.damage.gaps),
             missing_bytes: mended.damage.missing,
+            missing_at: GapView::of_loss(&mended.header, &mended.damage),
             objects: image.heap().len(),
         });
         drop(image);

@@ -1,8 +1,8 @@
 -- The data words that a file has.
 -- Serves `DataRange::of`, `damage_of` and `recover`.
 use Rattle.std.proofs.Common.{◌≡◌, ◌∙◌, ℕ, suc, ◌+◌, ◌*◌, ◌/◌, ◌%◌, ◌^◌, ◌≤◌, Bool, true, false, not, ◌||◌, cond, eqb, ltb}
-use Rattle.std.proofs.Common.{List, [], ◌∷◌, length, take, Option, Some, None, refl, sym, ap, arith}
-use Rattle.std.proofs.lemmas.Bool.{eqb-true, ltb-false, le-ltb}
+use Rattle.std.proofs.Common.{◌<◌, List, [], ◌∷◌, length, take, Option, Some, None, refl, sym, ap, arith, inl, inr}
+use Rattle.std.proofs.lemmas.Bool.{cases_eq, cases_lt, eqb-true, ltb-false, le-ltb}
 use Rattle.std.proofs.lemmas.Option.{none-some}
 use Rattle.sqz_object.specs.declared.order.Order.{Order}
 use Rattle.sqz_object.specs.Bytes.{number_of, words_of}
@@ -11,6 +11,8 @@ use Rattle.sqz_image.specs.declared.fault.Fault.TheVariants.{TooShort, BadHeader
 use Rattle.sqz_image.specs.declared.header.Header.{Header}
 use Rattle.sqz_image.specs.File.{IsHeader, header_size, stated_header_size, data_size, base_address, image_bytes, order_of}
 use Rattle.sqz_image.specs.Refusals.{words_fault, header_fault, fault_in_order, file_fault}
+use Rattle.sqz_damage.specs.Losses.{IsLoss}
+use Rattle.sqz_mend.specs.Damaged.{IsPlaceOfLoss, MayMissInside, words_there}
 
 -- bytes after the last whole word spell nothing
 pub words_of-whole : (order : Order) (bytes : List ℕ) (k : ℕ) → k ≡ length bytes / 4
@@ -23,6 +25,25 @@ words_of-whole order (a ∷ b ∷ c ∷ d ∷ rest) k is =
     let four : 4 * k ≡ suc (suc (suc (suc (4 * (length rest / 4))))) = omega (arith, is) in
     rw four
     (ap (λ (words : List ℕ). number_of order (a ∷ b ∷ c ∷ d ∷ []) ∷ words) (words_of-whole order rest (length rest / 4) refl))
+
+-- bytes are missing before a word that is there
+pub IsPlaceOfLoss-within : (file : List ℕ) (header : Header) (missing word : ℕ)
+    → IsPlaceOfLoss file header missing (Some word)
+    → (IsLoss (base_address header.words) (words_there file header) (missing / 4) (Some word) → word < length (words_there file header))
+    → word < length (words_there file header)
+IsPlaceOfLoss-within file header missing word is within =
+    let at_end : (MayMissInside file header missing → ⊥) → word < length (words_there file header) =
+    λ no. absurd (none-some word (sym (is.at_end no))) in
+    elim (cases_lt 0 missing) [
+      | inr none ↦ at_end (λ may. let some = may.some in omega arith)
+      | inl some ↦ elim (cases_eq (missing % 4) 0) [
+        | inr rest ↦ at_end (λ may. rest may.whole)
+        | inl whole ↦ elim (cases_lt (4 * length (words_there file header)) missing) [
+          | inl many ↦ at_end (λ may. let few = may.few in omega arith)
+          | inr few ↦ within (is.inside (record { some = some; whole = whole; few = few }))
+        ]
+      ]
+    ]
 
 -- what header words without a fault say
 pub record AreSound (header : List ℕ) : Type 0 where

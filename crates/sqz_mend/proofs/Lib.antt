@@ -1,3 +1,4 @@
 pub mod DataLemmas
 mod MendLemmas
 pub mod SoundnessLemmas
+pub mod HeaderLemmas

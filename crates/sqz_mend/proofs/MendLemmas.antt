@@ -1,8 +1,15 @@
 -- What stays of bytes of which some were written anew.
--- Serves `mend` and `fill`.
-use Rattle.std.proofs.Common.{◌≡◌, ◌∙◌, ℕ, ◌+◌, ◌-◌, ◌≤◌, List, take, drop, sym, ap, arith}
+-- Serves `mend`, `fill`, `mend_file`, `restored` and `gaps_if_any`.
+use Rattle.std.proofs.Common.{◌≡◌, ◌∙◌, ℕ, ◌+◌, ◌-◌, ◌≤◌, List, take, drop, Result, Ok, Err, sym, ap, subst, arith}
+use Rattle.std.specs.Prelude.{IfOk}
 use Rattle.std.proofs.lemmas.List.{take-take, drop-take, drop-drop}
+use Rattle.sqz_image.specs.declared.header.Header.{Header}
+use Rattle.sqz_trace.specs.declared.weak.Weak.{Weak}
+use Rattle.sqz_mend.specs.declared.recovery.MendedFile.{MendedFile}
+use Rattle.sqz_mend.specs.Damaged.{HasSoundWords, LacksData}
 use Rattle.sqz_mend.specs.Mended.{between}
+use Rattle.sqz_mend.specs.Recovery.{AreReadAs, IsMendedDamage, IsMendedFile}
+use Rattle.sqz_mend.specs.Soundness.{IsSound}
 
 module _ (new old : List ℕ) where
   -- bytes with the same front have the same bytes in it
@@ -31,3 +38,23 @@ module _ (new old : List ℕ) where
       ap (λ (n : ℕ). drop start (take n bytes)) (sym on) ∙ drop-take start (end - start) bytes
       in
       part new ∙ ap (take (end - start)) (drop-end start back inside same) ∙ sym (part old)
+
+-- ---- a file that is not sound
+
+pub IsMendedFile-damaged : (weak : Weak) (file : List ℕ) (header : Header) (mended : MendedFile) → HasSoundWords file header
+    → (IsSound weak file → ⊥) → IsMendedDamage weak file header mended → IsMendedFile weak file mended
+IsMendedFile-damaged weak file header mended has unsound is =
+    record {
+      header = subst (HasSoundWords file) (sym is.header_is) has;
+      damage = record {
+        sound = λ sound. absurd (unsound sound);
+        unsound = λ no. subst (λ (h : Header). LacksData weak file h mended.damage) (sym is.header_is) is.damage;
+      };
+      read_as = subst (λ (h : Header). AreReadAs file h mended.damage mended.bytes.items) (sym is.header_is) is.read_as;
+    }
+
+-- ---- what follows from a result
+
+pub IfOk-map : {A E : Type 0} (P Q : A → Type 0) (result : Result A E) → ((x : A) → P x → Q x) → IfOk result P → IfOk result Q
+IfOk-map P Q (Ok x) to is = to x is
+IfOk-map P Q (Err e) to is = tt

@@ -4,7 +4,7 @@ use Rattle.sqz_object.specs.Bytes.{bytes_of, words_of}
 use Rattle.sqz_image.specs.declared.header.Header.{Header}
 use Rattle.sqz_damage.specs.Filled.{filled}
 use Rattle.sqz_mend.specs.declared.damage.Damage.{Damage}
-use Rattle.sqz_mend.specs.Damaged.{words_there}
+use Rattle.sqz_mend.specs.Damaged.{IsNone, data_offset, words_there}
 
 -- the offset in bytes of the header word with the size of the data, and of the words after it
 abbrev pub size_offset : Header → ℕ
@@ -12,10 +12,6 @@ size_offset header = header.offset + 8
 
 abbrev pub after_size : Header → ℕ
 after_size header = header.offset + 12
-
--- the offset of the data
-abbrev pub data_offset : Header → ℕ
-data_offset header = header.offset + 64
 
 -- the bytes from `start` on, up to `end`
 abbrev pub between : ℕ → ℕ → List ℕ → List ℕ
@@ -31,3 +27,8 @@ pub record IsMended (file : List ℕ) (header : Header) (damage : Damage) (mende
       ≡ filled (words_there file header) damage.gaps.items
   pub rest : drop (data_offset header + 4 * length (words_there file header)) mended
       ≡ drop (data_offset header + 4 * length (words_there file header)) file
+
+-- what becomes of a file: it stays if there is no damage, and else it is mended
+pub record IsMendedIfAny (file : List ℕ) (header : Header) (damage : Damage) (bytes : List ℕ) : Type 0 where
+  pub whole : IsNone damage → bytes ≡ file
+  pub mended : (IsNone damage → ⊥) → IsMended file header damage bytes

@@ -12,14 +12,20 @@ use Rattle.sqz_mend.specs.declared.recovery.MendedFile.{MendedFile}
 use Rattle.sqz_mend.specs.declared.recovery.Recovered.{Recovered}
 use Rattle.sqz_mend.specs.declared.recovery.RecoverError.{RecoverError}
 use Rattle.sqz_mend.specs.declared.recovery.RecoverError.TheVariants.{OutOfMemory, NoImage}
-use Rattle.sqz_mend.specs.Damaged.{HasSoundWords, IsDamageOf, IsNone}
+use Rattle.sqz_mend.specs.Damaged.{HasSoundWords, IsDamageOf, IsNone, LacksData, restored}
 use Rattle.sqz_mend.specs.Mended.{IsMended}
 
 -- the bytes that are read in place of a file with this damage: its own if there is none, else
--- those of the mended file
+-- those of the mended file, with zeros for bytes that were lost before others
 pub record AreReadAs (file : List ℕ) (header : Header) (damage : Damage) (bytes : List ℕ) : Type 0 where
   pub whole : IsNone damage → bytes ≡ file
-  pub mended : (IsNone damage → ⊥) → IsMended file header damage bytes
+  pub mended : (IsNone damage → ⊥) → IsMended (restored file header damage.missing damage.place) header damage bytes
+
+-- a file that holds no image without a fault, as it is mended
+pub record IsMendedDamage (weak : Weak) (file : List ℕ) (header : Header) (mended : MendedFile) : Type 0 where
+  pub header_is : mended.header ≡ header
+  pub damage : LacksData weak file header mended.damage
+  pub read_as : AreReadAs file header mended.damage mended.bytes.items
 
 -- the file as it is mended
 pub record IsMendedFile (weak : Weak) (file : List ℕ) (mended : MendedFile) : Type 0 where

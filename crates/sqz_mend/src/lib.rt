@@ -6,7 +6,8 @@ mod damage;
 mod faults;
 mod mending;
 mod recovery;
+mod restoring;
 
-pub use damage::{Damage, DataRange, damage_of};
+pub use damage::{Damage, DataRange};
 pub use faults::{fault_of, image_in};
 pub use recovery::{MendedFile, RecoverError, Recovered, mend_file, recover};

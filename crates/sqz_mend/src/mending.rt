@@ -3,12 +3,10 @@
 ghost use Rattle.std.specs.Prelude.{◌≡◌, ◌+◌, ◌-◌, ◌/◌, ◌^◌, ◌<◌, ◌≤◌, length, take, drop};
 ghost use Rattle.sqz_object.specs.Bytes.{bytes_of, words_of};
 ghost use Rattle.sqz_damage.specs.Filled.{AreGapsIn, filled};
-ghost use Rattle.sqz_mend.specs.Damaged.{HasSoundWords, LacksDataIfAny};
-ghost use Rattle.sqz_mend.specs.Mended.{between};
-ghost use Rattle.sqz_mend.specs.Recovery.{AreReadAs};
+ghost use Rattle.sqz_mend.specs.Damaged.{HasSoundWords, words_there};
+ghost use Rattle.sqz_mend.specs.Mended.{IsMendedIfAny, between};
 
 use crate::damage::{Damage, DataRange};
-use sqz_damage::laws::best_gaps;
 use sqz_damage::{Gap, fill_gaps};
 use sqz_image::Header;
 use sqz_object::{Order, put_word};
@@ -19,26 +17,25 @@ const SIZE_OFFSET: usize = 8;
 /// Returns the bytes of a file, mended as `mend` does it.
 pub(crate) fn mended(mut file: Vec<u8>, header: &Header, damage: &Damage) -> Vec<u8>
     requires header { HasSoundWords file.items header.now }
-    requires damage { LacksDataIfAny file.items header.now damage.now }
-    ensures { AreReadAs file.items header.now damage.now result.items }
+    requires gaps { AreGapsIn 0 (length (words_there file.items header.now))
+        damage.now.gaps.items }
+    ensures { IsMendedIfAny file.items header.now damage.now result.items }
 {
     mend(&mut file, header, damage);
     file
 }
 
 /// Mends a file: each gap becomes a free chunk, and the header states the size of the data that are
-/// there. The first word of each gap and the size are written anew, and all other bytes stay. A
-/// file without damage stays as it is.
+/// there. Only the first word of each gap and the size change. A file without damage stays as it is.
 fn mend(file: &mut [u8], header: &Header, damage: &Damage)
     requires header { HasSoundWords file.old header.now }
-    requires damage { LacksDataIfAny file.old header.now damage.now }
-    ensures mended { AreReadAs file.old header.now damage.now file.new }
+    requires gaps { AreGapsIn 0 (length (words_there file.old header.now)) damage.now.gaps.items }
+    ensures mended { IsMendedIfAny file.old header.now damage.now file.new }
     ensures sized { length file.new ≡ length file.old }
 {
     if damage.is_none() {
         return;
     }
-    best_gaps(); // the gaps are in order, and inside the data
     let range = DataRange::of(file, header);
     let size = (range.end - range.start) as u32;
     put(file, header.order, header.offset + SIZE_OFFSET, size);

@@ -3,11 +3,15 @@
 ghost use Rattle.std.specs.Prelude.{◌≡◌, IfOk, IfErr};
 ghost use Rattle.sqz_image.specs.Refusals.{Holds};
 ghost use Rattle.sqz_mend.specs.Soundness.{IsSound};
-ghost use Rattle.sqz_mend.specs.Recovery.{IsMendedFile, IsRecovered, StopsMending, StopsRecovery};
+ghost use Rattle.sqz_mend.specs.Damaged.{HasSoundWords};
+ghost use Rattle.sqz_mend.specs.Recovery.{IsMendedDamage, IsMendedFile, IsRecovered};
+ghost use Rattle.sqz_mend.specs.Recovery.{StopsMending, StopsRecovery};
 ghost use Rattle.sqz_mend.specs.declared.recovery.RecoverError.TheVariants.{OutOfMemory};
 
-use crate::damage::{Damage, damage_of};
+use crate::damage::{Damage, gaps_if_any, gaps_in, missing_bytes, place_of_loss};
+use crate::faults::fault_of;
 use crate::mending::mended;
+use crate::restoring::restored;
 use sqz_image::{Header, Image, UnreadFile, image_or_file};
 use sqz_trace::Weak;
 use std::alloc::{AllocError, Global};
@@ -51,10 +55,12 @@ impl From<AllocError> for RecoverError {
     }
 }
 
-/// Mends a file: each gap that `damage_of` finds becomes a free chunk, and the header states the size
-/// of the data that are there. The first word of each gap and the size are written anew, and all
-/// other bytes stay. A file without damage stays as it is, and so does one that holds an image
-/// without a fault.
+/// Mends a file. A file that holds an image without a fault stays as it is.
+///
+/// Otherwise the bytes of the data that the file does not have are taken to be the last ones, unless
+/// `loss_in` finds the word before which they were lost: then zeros take their place, and the file
+/// is mended as one with these data. Each gap that `gaps_of` finds in the data becomes a free chunk,
+/// and the header states their size. Only the first word of each gap and the size change.
 ///
 /// Fails with the fault of the header if it has one (`TooShort`, `BadVersion`, `BadHeaderSize`,
 /// `BadDataSize`, `BadBase`). Otherwise fails only if out of memory.
@@ -86,8 +92,45 @@ pub fn mend_file<T: Threads + Sync>(
             bytes: file,
         }));
     }
-    let damage = damage_of(rt, alloc, &file, &header, weak)?;
-    let bytes = mended(file, &header, &damage);
+    match fault_of(rt, alloc, &file, weak)? {
+        None => Ok(MendedFile {
+            bytes: file,
+            header,
+            damage: Damage {
+                gaps: Vec::new(alloc),
+                missing: 0,
+                place: None,
+            },
+        }),
+        Some(_) => Ok(mend_damaged(rt, alloc, file, header, weak)?),
+    }
+}
+
+/// Mends a file that holds no image without a fault. Fails only if out of memory.
+fn mend_damaged<T: Threads + Sync>(
+    rt: &T,
+    alloc: Global,
+    file: Vec<u8>,
+    header: Header,
+    weak: Weak,
+) -> Result<MendedFile, AllocError>
+    requires sound { HasSoundWords file.items header }
+    requires unsound { IsSound weak file.items → ⊥ }
+    ensures { IfOk result (IsMendedDamage weak file.items header) }
+{
+    let missing = missing_bytes(&file, &header);
+    let place = place_of_loss(alloc, &file, &header, missing)?;
+    let restored = restored(alloc, file, &header, missing, place)?;
+    let gaps = match place {
+        Some(_) => gaps_if_any(rt, alloc, &restored, &header, weak)?,
+        None => gaps_in(alloc, &restored, &header)?,
+    };
+    let damage = Damage {
+        gaps,
+        missing,
+        place,
+    };
+    let bytes = mended(restored, &header, &damage);
     Ok(MendedFile {
         bytes,
         header,

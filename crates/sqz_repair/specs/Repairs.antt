@@ -13,9 +13,8 @@ use Rattle.sqz_dangling.specs.declared.patch.Patch.{Patch}
 use Rattle.sqz_dangling.specs.declared.nil_error.NilError.{NilError}
 use Rattle.sqz_dangling.specs.declared.nil_error.NilError.TheVariants as nil_errors
 use Rattle.sqz_dangling.specs.Patches.{AreNilPatches, IsNilError, patched}
-use Rattle.sqz_mend.specs.Damaged.{HasSoundWords, words_there}
+use Rattle.sqz_mend.specs.Damaged.{HasSoundWords, data_offset, words_there}
 use Rattle.sqz_mend.specs.Soundness.{HasFault}
-use Rattle.sqz_mend.specs.Mended.{data_offset}
 use Rattle.sqz_repair.specs.declared.reading.Finding.{Finding}
 use Rattle.sqz_repair.specs.declared.repairing.Repaired.{Repaired}
 use Rattle.sqz_repair.specs.declared.repairing.RepairError.{RepairError}

@@ -1,8 +1,8 @@
 //! Gaps of worked data words, whose first one has the address 64.
 
 use super::images::put_words;
-use sqz_damage::{Gap, fill_gaps, gaps_of};
-use sqz_object::{Order, Words};
+use sqz_damage::{Gap, fill_gaps, gaps_of, loss_in};
+use sqz_object::{Order, WordIndex, Words};
 use std::alloc::{AllocError, Global};
 use std::test::Fail;
 
@@ -182,6 +182,35 @@ fn gaps_of_words(rt: HostRuntime) -> Result<(), Fail> {
             let found = gaps_in(rt.alloc(), case)?;
             assert_eq!(rt; found.as_slice(), case.gaps, "{:?}", case.words);
         }
+    }
+    Ok(())
+}
+
+/// The index of a word of `CHAIN`, and the word before which it is found to be lost without it. The
+/// objects after that one are 18, 16, 15 and none.
+const LOST: &[(usize, Option<WordIndex>)] = &[(1, Some(3)), (5, Some(7)), (7, None), (39, None)];
+
+/// The word before which one word was lost of `CHAIN` without the word at this index.
+fn loss_without(alloc: Global, lost: usize) -> Result<Option<WordIndex>, AllocError> {
+    let mut words = Vec::from_slice(alloc, &CHAIN)?;
+    if lost < words.len() {
+        words.remove(lost);
+    }
+    let mut bytes = Vec::new(alloc);
+    put_words(&mut bytes, &words)?;
+    let words = Words::of(Order::Big, &bytes);
+    if words.len() < 100 {
+        loss_in(alloc, 64, &words, 1)
+    } else {
+        Ok(None)
+    }
+}
+
+#[test]
+fn lost_words(rt: HostRuntime) -> Result<(), Fail> {
+    for (lost, place) in LOST {
+        let found = loss_without(rt.alloc(), *lost)?;
+        assert_eq!(rt; found, *place, "{lost}");
     }
     Ok(())
 }

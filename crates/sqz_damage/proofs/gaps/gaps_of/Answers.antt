@@ -35,13 +35,14 @@ returns c =
       second_best =
           IsBestReading-agree words (votes_of c.deref-2.result.now) (votes_for base (flat_map voters_of first.parts)) second.parts
           (rw c.deref-2.ensures.value
-          (votes_of-agree base (flat_map voters_of first.parts) count c.in_ok-first.first.votes.items first.sized first.votes_are))
+          (votes_of-agree base (flat_map voters_of first.parts) count c.in_ok-first.first.votes.items (first.sized ∙ c.len-2.ensures)
+          first.votes_are))
           second.best;
       third_best =
           IsBestReading-agree words (votes_of c.deref-3.result.now) (votes_for base (flat_map voters_of second.parts)) third.parts
           (rw c.deref-3.ensures.value
-          (votes_of-agree base (flat_map voters_of second.parts) count c.in_ok-second.second.votes.items second.sized
-          second.votes_are))
+          (votes_of-agree base (flat_map voters_of second.parts) count c.in_ok-second.second.votes.items
+          (second.sized ∙ c.len-3.ensures) second.votes_are))
           third.best;
       gaps_are = third.gaps_are;
     }

@@ -10,12 +10,12 @@ use Rattle.sqz_damage.proofs.reading.walk.Goals as goal
 pub loop-p-init : goal.loop-p-init
 loop-p-init c =
     let words = c.args.voted.now.words.now in
-    let items : c.in_ok-votes.votes.items ≡ replicate (length words) false =
-    c.in_ok-votes.ensures.items_if_clones_equal (λ y is. is) ∙ ap (λ n. replicate n false) c.len.ensures in
+    let items : c.in_ok-votes.votes.items ≡ replicate c.args.count false =
+    c.in_ok-votes.ensures.items_if_clones_equal (λ y is. is) in
     rw c.new-gaps.ensures.items
-    (IsReadUpTo-none c.args.base (votes_of c.args.voted.now.votes.now) words c.args.steps.now c.in_ok-votes.votes.items
-    (ap length items ∙ length-replicate (length words) false)
-    (AreVotes-none c.args.base c.in_ok-votes.votes.items (length words) items))
+    (IsReadUpTo-none c.args.base c.args.count (votes_of c.args.voted.now.votes.now) words c.args.steps.now
+    c.in_ok-votes.votes.items (ap length items ∙ length-replicate c.args.count false)
+    (AreVotes-none c.args.base c.in_ok-votes.votes.items c.args.count items))
 
 pub loop-p-preserved-in_ok-push : goal.loop-p-preserved-in_ok-push
 loop-p-preserved-in_ok-push c =
@@ -23,10 +23,10 @@ loop-p-preserved-in_ok-push c =
     let votes = votes_of c.args.voted.now.votes.now in
     let steps = c.args.steps.now in
     let p = c.loop-p.p in
-    let lt : p < length words = omega (arith, c.len-in-loop-p.ensures, c.loop-p-test.true) in
+    let lt : p < length words = omega (arith, c.len.ensures, c.loop-p-test.true) in
     let step = step_at steps p in
     rw c.in_ok-push.ensures.items
-    (step_over_gap c.args.base votes words steps p c.loop-p.gaps.items c.loop-p.votes.items c.loop-p.invariant step refl
+    (step_over_gap c.args.base c.args.count votes words steps p c.loop-p.gaps.items c.loop-p.votes.items c.loop-p.invariant step refl
     (c.requires.steps.each p (omega arith) lt) c.if-step.true)
 
 pub loop-p-preserved : goal.loop-p-preserved
@@ -35,12 +35,12 @@ loop-p-preserved c =
     let votes = votes_of c.args.voted.now.votes.now in
     let steps = c.args.steps.now in
     let p = c.loop-p.p in
-    let lt : p < length words = omega (arith, c.len-in-loop-p.ensures, c.loop-p-test.true) in
+    let lt : p < length words = omega (arith, c.len.ensures, c.loop-p-test.true) in
     let step = step_at steps p in
     let items =
     with_items_is c.loop-p.votes c.vote_by_chunk.new.votes (c.vote_by_chunk.ensures.sized ∙ c.deref_mut.ensures.len) in
     rw items
-    (step_over_chunk c.args.base votes words steps p c.loop-p.gaps.items c.loop-p.votes.items c.loop-p.invariant step refl
+    (step_over_chunk c.args.base c.args.count votes words steps p c.loop-p.gaps.items c.loop-p.votes.items c.loop-p.invariant step refl
     (c.requires.steps.each p (omega arith) lt) c.if-step.false c.vote_by_chunk.new.votes
     (rw c.deref_mut.ensures.value at c.vote_by_chunk.ensures))
 
@@ -52,8 +52,8 @@ returns c =
     record {
       parts = so_far.parts;
       best =
-          IsBestReading-at c.args.base votes words c.args.steps.now c.loop-p.p c.loop-p.gaps.items c.loop-p.votes.items
-          c.requires.steps so_far (omega (arith, c.len-in-loop-p.ensures, c.loop-p-test.false));
+          IsBestReading-at votes words c.args.steps.now c.loop-p.p so_far.parts so_far.path c.requires.steps
+          (omega (arith, c.len.ensures, c.loop-p-test.false));
       gaps_are = so_far.gaps_are;
       sized = so_far.sized;
       votes_are = so_far.votes_are;

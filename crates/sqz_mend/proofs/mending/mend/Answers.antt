@@ -12,9 +12,7 @@ fill-requires-clause-gaps c =
     let words = words_there c.args.file.now c.args.header.now in
     let count : length words ≡ (c.of-range.result.end - c.of-range.result.start) / 4 = omega (arith, c.of-range.ensures.end) in
     subst (λ (n : ℕ). AreGapsIn 0 n c.deref.result.now) count
-    (subst (λ (gaps : List Gap). AreGapsIn 0 (length words) gaps) (sym c.deref.ensures.value)
-    (c.best_gaps.ensures _ _ _
-    (c.requires.damage (λ none. let yes = c.is_none.ensures.1 none in let no = c.if-is_none.false in cc)).gaps))
+    (subst (λ (gaps : List Gap). AreGapsIn 0 (length words) gaps) (sym c.deref.ensures.value) c.requires.gaps)
 
 pub returns-clause-mended : goal.returns-clause-mended
 returns-clause-mended c =
