@@ -3,6 +3,7 @@ bad pointers."""
 
 import gzip
 import os
+import subprocess
 import threading
 import typing
 
@@ -220,3 +221,60 @@ class FrontsTest(LookTest):
             size: 3 if size >= FRONT else 1 if size >= known else 2 for size in sizes
         }
         self.assertEqual(found, expected)
+
+
+class ShownNamesTest(LookTest):
+    """Control characters in names of files and in words do not get into lines of text."""
+
+    NAMES = {
+        "bad\nsqzlook: sound.image": "bad\\x0asqzlook: sound.image",
+        "\x1b[2J\x7f": "\\x1b[2J\\x7f",
+        "\u009b1m": "\\x9b1m",
+        "a\\x0ab\u00e9": "a\\x0ab\u00e9",
+    }
+
+    def assert_prints(self, words, status, line, stdout=""):
+        """Checks what a command prints on standard output, and its line on standard error."""
+        stderr = f"sqzlook: {line}\n" if line else ""
+        expected = Outcome(status, stdout.encode(), stderr.encode())
+        self.assert_ends(look(*words, folder=self.folder), expected)
+
+    def test_names_of_files(self):
+        self.write("plain", named_image().file())
+        said = look("check", "plain", folder=self.folder).stdout.decode()
+        info = look("info", "plain", folder=self.folder).stdout.decode()
+        for name, shown in self.NAMES.items():
+            with self.subTest(name):
+                self.write(name, named_image().file())
+                self.assert_prints(("check", name), 0, None, said.replace("plain", shown))
+                headings = f"plain:\n{info}{shown}:\n{info}"
+                self.assert_prints(("info", "plain", name), 0, None, headings)
+                outcome = look("check", "--json", name, folder=self.folder)
+                self.assertEqual(rows_of(outcome.stdout)[0]["image"], name)
+
+    def test_names_of_missing_files(self):
+        for name, shown in self.NAMES.items():
+            with self.subTest(name):
+                line = f"{shown}: fault 16: cannot read the image: no such file"
+                self.assert_prints(("info", name), 3, line)
+                self.assert_prints(("diff", name, name), 3, line)
+
+    def test_names_after_digests(self):
+        """They are written as `sha256sum` writes them."""
+        for name in ("bad\nname", "back\\slash", "\rname", "\x1b[2J"):
+            with self.subTest(name):
+                self.write(name, named_image().file())
+                sums = subprocess.run(
+                    ["sha256sum", name], cwd=self.folder, stdout=subprocess.PIPE, check=True
+                ).stdout
+                row = rows_of(look("digest", "--json", name, folder=self.folder).stdout)[0]
+                start = 1 if sums.startswith(b"\\") else 0
+                expected = sums[:start] + row["digest"].encode() + sums[start + 64 :]
+                outcome = look("digest", name, folder=self.folder)
+                self.assert_ends(outcome, Outcome(0, expected))
+
+    def test_words(self):
+        self.write("it", named_image().file())
+        self.assert_prints(("why", "it", "x\x1b[2J"), 1, "it: no object is named x\\x1b[2J")
+        self.assert_prints(("list", "it", "x\ny"), 1, "it: no class is named x\\x0ay")
+        self.assert_prints(("find", "it", "(\n"), 2, "not a regular expression: (\\x0a")

@@ -8,6 +8,7 @@ use crate::causes::Cause;
 use crate::faults::FaultView;
 use crate::read_failure::ReadFailure;
 use crate::repaired::SummaryView;
+use crate::shown::Shown;
 use crate::unreadable::{Extent, Unreadable};
 use crate::warnings::{WarningView, warning_views};
 use serde::Serialize;
@@ -99,7 +100,7 @@ impl<'a> CheckView<'a> {
 impl fmt::Display for CheckView<'_> {
     fn fmt<W: fmt::Write>(&self, f: &mut fmt::Formatter<W>) -> fmt::Result {
         self.write_faults(f)?;
-        let path = self.image;
+        let path = Shown(self.image);
         if let Some(repair) = self.repair {
             write!(f, "\n{path}: mend --nil keeps {repair}")?;
         }
@@ -115,7 +116,7 @@ impl fmt::Display for CheckView<'_> {
 impl CheckView<'_> {
     /// Writes the faults, or that there are none.
     fn write_faults<W: fmt::Write>(&self, f: &mut fmt::Formatter<W>) -> fmt::Result {
-        let path = self.image;
+        let path = Shown(self.image);
         let numbers = (self.objects, self.live_objects, self.live_bytes);
         if let ((Some(objects), Some(live), Some(bytes)), true) = (
             numbers,
@@ -141,7 +142,7 @@ impl CheckView<'_> {
 /// Writes what an image without a fault is, with its objects, its live objects and their bytes.
 fn write_numbers<W: fmt::Write>(
     f: &mut fmt::Formatter<W>,
-    path: &str,
+    path: Shown<'_>,
     verdict: &str,
     objects: u32,
     live: u32,

@@ -1,5 +1,6 @@
 //! The digest of an image.
 
+use crate::shown::Summed;
 use serde::Serialize;
 use sqz_digest::digest;
 use sqz_image::Sink;
@@ -16,8 +17,11 @@ struct DigestView<'a> {
 
 impl fmt::Display for DigestView<'_> {
     fn fmt<W: fmt::Write>(&self, f: &mut fmt::Formatter<W>) -> fmt::Result {
-        let (digest, image) = (self.digest.as_str(), self.image);
-        write!(f, "{digest}  {image}")
+        let (digest, name) = (self.digest.as_str(), Summed(self.image));
+        if name.is_escaped() {
+            f.write_str("\\")?;
+        }
+        write!(f, "{digest}  {name}")
     }
 }
 

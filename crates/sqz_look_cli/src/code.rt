@@ -3,6 +3,7 @@
 use crate::meant::the_object;
 use sqz_image::Sink;
 use sqz_look_args::CodeQuestion;
+use sqz_look_check::Shown;
 use sqz_look_code::{
     print_class_code, print_class_tree, print_method_code, print_unimplemented, print_unsent,
 };
@@ -40,6 +41,7 @@ fn print_code_of<C: Sink>(
         print_method_code(inspector, object, out)?;
         return Ok(());
     }
+    let words = Shown(words);
     let message = format!(in inspector.alloc; "{words} is neither a class nor a method")?;
     Err(Failure::NotThere(message))
 }

@@ -10,6 +10,7 @@ ghost use Rattle.sqz_look_cli.specs.Comparison.{IsSeenAs, ReadsNone};
 
 use sqz_cli::{BAD_IMAGE, DONE};
 use sqz_image::{Image, Sink};
+use sqz_look_check::Shown;
 use sqz_look_diff::print_diff;
 use sqz_look_files::{Failure, ReadFile, ReadImage, Session, warn};
 use sqz_look_view::{Inspector, Out, PrintError};
@@ -74,7 +75,7 @@ fn image_at<T: Files + Threads + Sync, C: Sink, E: Sink>(
         Ok(ReadFile::Image(image)) => Ok(image),
         Ok(ReadFile::Unreadable(unreadable)) => {
             let message = unreadable.message(session.alloc)?;
-            let message = format!(in session.alloc; "{path}: {message}")?;
+            let message = format!(in session.alloc; "{}: {message}", Shown(path))?;
             Err(Failure::NotThere(message))
         }
         Err(Failure::NotRead(failure)) => {

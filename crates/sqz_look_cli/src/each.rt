@@ -8,7 +8,7 @@ use sqz_cli::{BAD_IMAGE, DONE};
 use sqz_image::Sink;
 use sqz_look::{print_census, print_dead_census, print_retained_census};
 use sqz_look_args::{Counting, EachQuestion};
-use sqz_look_check::{print_digest, print_info, print_info_unreadable};
+use sqz_look_check::{Shown, print_digest, print_info, print_info_unreadable};
 use sqz_look_files::{Failure, ReadFile, Session, explain_failure, warn};
 use sqz_look_view::{Out, PrintError, Subject};
 use std::fmt;
@@ -39,7 +39,7 @@ struct Heading<'a>(&'a str);
 
 impl fmt::Display for Heading<'_> {
     fn fmt<W: fmt::Write>(&self, f: &mut fmt::Formatter<W>) -> fmt::Result {
-        write!(f, "{}:", self.0)
+        write!(f, "{}:", Shown(self.0))
     }
 }
 

@@ -20,7 +20,7 @@ use clap::{ArgMatches, Error};
 use sqz_cli::{BAD_ARGUMENTS, DONE, explain};
 use sqz_image::{Fault, Sink, write_all};
 use sqz_look_args::{BadRequest, Request, command};
-use sqz_look_files::{print_fault, print_message, print_names};
+use sqz_look_files::{print_about_words, print_fault, print_names};
 use std::alloc::Global;
 use std::rt::Files;
 use std::thread::Threads;
@@ -161,7 +161,7 @@ fn explain_request<E: Sink>(alloc: Global, bad: BadRequest<'_>, err: &mut E) -> 
     };
     match message {
         Ok(message) => {
-            print_message(None, message.as_str(), err);
+            print_about_words(message.as_str(), err);
             BAD_ARGUMENTS
         }
         Err(_) => print_fault(None, &Fault::OutOfMemory, err),

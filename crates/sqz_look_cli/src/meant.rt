@@ -8,6 +8,7 @@ ghost use Rattle.sqz_words.specs.Words.{IsGroup, IsObject};
 
 use sqz_histogram::Group;
 use sqz_look::missing_message;
+use sqz_look_check::Shown;
 use sqz_look_files::Failure;
 use sqz_look_view::Inspector;
 use sqz_object::ObjectIndex;
@@ -46,5 +47,6 @@ fn not_there(
 ) -> Result<Failure, AllocError>
     requires { IsMissing inspector.now.live.graph.heap.now missing.now }
 {
-    Ok(Failure::NotThere(missing_message(inspector, words, missing)?))
+    let words = format!(in inspector.alloc; "{}", Shown(words))?;
+    Ok(Failure::NotThere(missing_message(inspector, words.as_str(), missing)?))
 }

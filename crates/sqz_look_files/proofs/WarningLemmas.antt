@@ -1,7 +1,7 @@
--- What is printed of images that are not sound, or of which something was skipped.
+-- What is printed of images that are not sound or large, or of which something was skipped.
 -- Serves `answer_about`, `compare`, `answer_each`, `check_one` and `mend`.
-use Rattle.std.proofs.Common.{◌≡◌, ◌≢◌, ◌⊎◌, ◌∙◌, ℕ, List, Bool, true, false, Option, None, refl, sym, subst, inl, inr}
-use Rattle.sqz_image.specs.Objects.{Memory, SavedImage}
+use Rattle.std.proofs.Common.{◌≡◌, ◌≢◌, ◌⊎◌, ◌<◌, ◌∙◌, ℕ, List, Bool, true, false, Option, None, refl, sym, subst, inl, inr}
+use Rattle.sqz_image.specs.Objects.{Memory, SavedImage, object_count}
 use Rattle.sqz_trace.specs.declared.weak.Weak.{Weak}
 use Rattle.sqz_trace.specs.Faults.{first_fault}
 use Rattle.sqz_trace.specs.Reachability.{IsReachability}
@@ -9,8 +9,8 @@ use Rattle.sqz_look_files.specs.declared.loading.Loaded.TheVariants.{Image}
 use Rattle.sqz_look_files.specs.declared.session.ReadFile.TheVariants as read
 use Rattle.sqz_look_files.specs.declared.session.ReadImage.{ReadImage}
 use Rattle.sqz_look_files.specs.Checks.{IsLoaded, IsUnsound, ReadsSome}
-use Rattle.sqz_look_files.specs.Damaged.{IsReadAs}
-use Rattle.sqz_look_files.specs.Warnings.{IsSilent}
+use Rattle.sqz_look_files.specs.Damaged.{IsReadAs, IsReadImage}
+use Rattle.sqz_look_files.specs.Warnings.{IsSilent, most_objects}
 
 module _ {F : Type 0} (left : F → Option (List ℕ)) (weak : Weak) (past : Bool) where
   unsound : (image : SavedImage) (memory : Memory) (policy : Weak) (marks : List Bool) → IsLoaded left (Image image)
@@ -74,3 +74,19 @@ module _ {F : Type 0} (left : F → Option (List ℕ)) (weak : Weak) (past : Boo
   IsSilent-read image memory policy marks old mid new was_read same_memory same_policy reachable said =
       IsSilent-then old mid new (IsSilent-damage image old mid was_read)
       (IsSilent-warned image memory policy marks old mid mid new was_read same_memory same_policy reachable said)
+
+  -- a warning that an image is large, if there was one
+  pub IsSilent-large : {E : Type 0} (image : ReadImage) (memory : Memory) (old new : E)
+      → IsReadImage left weak past (read.Image image) → memory ≡ image.image.memory
+      → (new ≡ old) ⊎ (most_objects < object_count memory) → IsSilent left weak past old new
+  IsSilent-large image memory old new was_read same (inl silent) = inl silent
+  IsSilent-large image memory old new was_read same (inr many) =
+      inr (inr (inr (record {
+        bytes = was_read.bytes;
+        read = was_read.read;
+        fact = record {
+          image = image.image;
+          is_image = was_read.fact;
+          many = subst (λ (m : Memory). most_objects < object_count m) same many;
+        };
+      })))

@@ -12,6 +12,6 @@ mod warnings;
 pub use checks::check_all;
 pub use failure::Failure;
 pub use mending::mend;
-pub use messages::{explain_failure, print_fault, print_message, print_names};
+pub use messages::{explain_failure, print_about_words, print_fault, print_message, print_names};
 pub use session::{ReadFile, ReadImage, Session};
-pub use warnings::{fault_text, warn};
+pub use warnings::{fault_text, warn, warn_if_large};

@@ -1,6 +1,8 @@
-//! Warnings of images that are not sound.
+//! Warnings of images that are not sound, or large.
 
-ghost use Rattle.std.specs.Prelude.{◌≡◌, ◌≢◌, ◌⊎◌, None};
+ghost use Rattle.std.specs.Prelude.{◌≡◌, ◌≢◌, ◌⊎◌, ◌<◌, None};
+ghost use Rattle.sqz_image.specs.Objects.{object_count};
+ghost use Rattle.sqz_look_files.specs.Warnings.{most_objects};
 ghost use Rattle.sqz_trace.specs.Faults.{first_fault};
 
 use crate::messages::print_message;
@@ -10,6 +12,9 @@ use sqz_look_view::Subject;
 use sqz_trace::first_fault;
 use std::alloc::AllocError;
 use std::thread::Threads;
+
+/// The most objects of which a page is written without a warning.
+const MOST_OBJECTS: u32 = 4_000_000;
 
 /// Prints a line on `err` if an image is not sound, with its path and its first fault.
 pub fn warn<T: Threads + Sync, E: Sink>(
@@ -26,6 +31,27 @@ pub fn warn<T: Threads + Sync, E: Sink>(
     };
     let fault = fault_message(subject, fault)?;
     let message = format!(in subject.alloc; "not sound: {fault}")?;
+    print_message(Some(path), message.as_str(), err);
+    Ok(())
+}
+
+/// Prints a line on `err` if an image has more objects than a page in a browser is likely to show.
+pub fn warn_if_large<E: Sink>(
+    subject: &Subject<'_>,
+    path: &str,
+    err: &mut E,
+) -> Result<(), AllocError>
+    ensures { (err.new ≡ err.old)
+        ⊎ (most_objects < object_count subject.now.live.graph.heap.now) }
+{
+    let objects = subject.live.graph.heap.len();
+    if objects <= MOST_OBJECTS {
+        return Ok(());
+    }
+    let message = format!(in subject.alloc;
+        "{objects} objects are likely too many for a browser; --min BYTES leaves out those that \
+         retain less"
+    )?;
     print_message(Some(path), message.as_str(), err);
     Ok(())
 }

@@ -20,7 +20,7 @@ returns-in-Ok-clause-silent g c =
     ])
     (elim c.in_ok-bytes.ensures.silent [
       | inl same ↦ inl same
-      | inr dangling ↦ inr (inr (record { mended = c.in_ok-mended.mended; reads = reads; dangling = dangling }))
+      | inr dangling ↦ inr (inr (inl (record { mended = c.in_ok-mended.mended; reads = reads; dangling = dangling })))
     ])
 
 pub returns-in-Ok-clause-written : goal.returns-in-Ok-clause-written
