@@ -14,6 +14,7 @@ _sqzlook() {
     census) options+=' --all --dead --retained' ;;
     why) options+=' --all --raw' ;;
     top) options+=' --by --depth --min --folded' ;;
+    explore) options+=' --min' ;;
   esac
   if [[ $word == -* ]]; then
     mapfile -t COMPREPLY < <(compgen -W "$options" -- "$word")

@@ -65,6 +65,13 @@ class ExploredPage:
         """The text of the first element that a selector finds."""
         return self.browser.value(f"document.querySelector({json.dumps(selector)})?.textContent")
 
+    def lines(self, selector):
+        """The texts of the elements that a selector finds."""
+        words = json.dumps(selector)
+        return self.browser.value(
+            f"Array.from(document.querySelectorAll({words}), (it) => it.textContent)"
+        )
+
     def cells(self, table):
         """The texts of the cells of a table, after its button was pressed until all rows show."""
         more = f'document.querySelector("#{table}")?.closest("div").nextSibling?.firstChild'

@@ -7,6 +7,7 @@ from tests.harness.program_checks import ProgramTest
 from tests.harness.sqzlook import CLEAR, look_at_all
 from tests.reference.alike import digest_of
 from tests.reference.answers import Answers
+from tests.reference.dumped import dump
 from tests.reference.stacks import Stacks
 from tests.reference.strings import find
 
@@ -69,6 +70,10 @@ class Asking:
         """What `census --retained` prints."""
         rows = self.answers.retained_census(self.path)
         return [self.question("census", "--retained", rows=rows)]
+
+    def of_dump(self):
+        """What `dump` prints."""
+        return [self.question("dump", rows=dump(self.answers))]
 
     def of_object(self, command, number):
         """What `show`, `why` or `refs` prints about an object."""

@@ -2,6 +2,7 @@
 through to objects, zooms, searches, goes back, and uses the keyboard."""
 
 import functools
+import itertools
 import re
 import subprocess
 import sys
@@ -15,15 +16,29 @@ from tests.harness.look_checks import LookTest
 from tests.harness.programs import ROOT
 from tests.harness.sqzlook import CLEAR, look
 from tests.harness.worked_images import accepted_images
+from tests.making.changed_images import with_words
+from tests.making.method_images import CODE, TRAILERS, MethodImage
 from tests.making.named_image import NamedImage
 from tests.reference.answers import Answers
+from tests.reference.bytecodes import instructions, method_parts
 from tests.reference.explored import Explored, data_of
 from tests.reference.image import Image
 
 # A page is at most this many times as large as the image.
 MOST_TIMES = 5
-# How many objects of the known image are opened.
-OPENED = 20
+# The most objects of which a page is written without a warning.
+MANY = 4_000_000
+# How many objects of the known image are opened, and of how many methods the code is compared.
+OPENED, METHODS = 20, 20
+# What the page finds in bytecodes, and what it calls the operands of the second implementation.
+DECODED = """instructionsOf(%s).map((it) => [it.start, it.bytes, it.operation, it.operand ?? null,
+  it.index ?? null, it.distance === undefined ? null : it.end + it.distance])"""
+OPERANDS = {
+    "instance": "variable",
+    "temporary": "temporary",
+    "literal": "literal",
+    "variable": "literal",
+}
 # Names that are markup, or that mean something to a script.
 HOSTILE = (
     "</script><script>throw 0</script>",
@@ -37,7 +52,7 @@ HOSTILE = (
     "]]>",
     "N" * 60_000,
 )
-# The colours of texts and of what is behind them, of which each pair is to be readable.
+# The colours of texts and their backgrounds: each pair must have enough contrast.
 COLOUR = re.compile(r"--([\w-]+): (#[0-9a-f]{6})")
 TEXTS, BEHIND = ("ink", "soft", "link"), ("page", "panel", "head")
 BOXES = ("class", "collection", "text", "code", "media", "other", "smaller")
@@ -57,6 +72,19 @@ def damaged_file():
     image = Image.read(NamedImage().file())[0]
     image.words[image.objects[40].first] = 0
     return image.file()
+
+
+def kinds_of(image, number):
+    """The kinds of instructions that a method has, and what its header says."""
+    header = image.words[image.objects[number].base + 1]
+    literals, code = method_parts(image, number)
+    said = {"primitive": header >> 1 & 511, "large frame": header >> 18 & 1, "literals": literals}
+    kinds = {(name, number > 0) for name, number in said.items()}
+    for it in instructions(code):
+        kind = it.operand[0] if isinstance(it.operand, tuple) else it.operand is not None
+        is_back = it.jumps_to is not None and it.jumps_to < it.start
+        kinds.add((it.operation, kind, len(it.code), is_back))
+    return kinds
 
 
 def page_about(explored, path):
@@ -121,15 +149,16 @@ def contrast(one, other):
 class DataTest(LookTest):
     """The data that the program writes are those that the second implementation finds."""
 
-    def check_image(self, image, options=()):
+    def check_image(self, image, options=(), least=0):
         self.write("it.image", image.file())
-        outcome = look("explore", *options, "it.image", folder=self.folder)
+        words = [*options, *(["--min", str(least)] if least else [])]
+        outcome = look("explore", *words, "it.image", folder=self.folder)
         answers = Answers(image, clear_weak=options == CLEAR)
         fault = answers.defects[0].line(len(image.prefix)) if answers.defects else None
         self.assertEqual(outcome.status, 0)
         page, rows = data_in(outcome.stdout.decode())
         self.assertEqual(page, PAGE.read_text(encoding="utf-8"))
-        blocks = Explored(answers).blocks("it.image", fault)
+        blocks = Explored(answers, least).blocks("it.image", fault)
         expected = [(kind, row) for kind, its in blocks for row in its]
         for found, wanted in zip(rows, expected, strict=True):
             self.assertEqual(found, wanted)
@@ -137,11 +166,47 @@ class DataTest(LookTest):
     def test_worked_images(self):
         for options in ((), CLEAR):
             for it in accepted_images(options == CLEAR):
-                with self.subTest(it.name, options=options):
-                    self.check_image(Image.read(it.image)[0], options)
+                for least in (0, 20):
+                    with self.subTest(it.name, options=options, least=least):
+                        self.check_image(Image.read(it.image)[0], options, least)
 
     def test_hostile_names(self):
-        self.check_image(hostile_image())
+        for least in (0, 1, 64, 10**6, 2**32 - 1):
+            with self.subTest(least):
+                self.check_image(hostile_image(), least=least)
+
+    def test_warning_of_many_objects(self):
+        """More objects than a browser is likely to hold get a line before the page."""
+        image = hostile_image()
+        words = image.words[:]
+        # objects of one word, which are not live
+        words.extend([7] * (MANY + 1 - len(image.objects)))
+        self.write("it.image", with_words(image, words).file())
+        warning = (
+            f"sqzlook: it.image: {MANY + 1} objects are likely too many for a browser; --min BYTES "
+            "leaves out those that retain less\n"
+        )
+        for least, line in ((0, warning), (1, "")):
+            with self.subTest(least=least):
+                outcome = look("explore", "--min", str(least), "it.image", folder=self.folder)
+                self.assertEqual((outcome.status, outcome.stderr.decode()), (0, line))
+        self.write("it.image", with_words(image, words[:-1]).file())
+        outcome = look("explore", "it.image", folder=self.folder)
+        self.assertEqual((outcome.status, outcome.stderr), (0, b""))
+
+    def test_bad_minimum(self):
+        self.write("it.image", hostile_image().file())
+        for word in ("-1", str(2**32), "5%", "", "some"):
+            with self.subTest(word):
+                outcome = look("explore", "--min", word, "it.image", folder=self.folder)
+                self.assertEqual((outcome.status, outcome.stdout), (2, b""))
+
+    def test_methods(self):
+        for trailer in TRAILERS:
+            image = MethodImage()
+            image.set_method(code=CODE + trailer)
+            with self.subTest(trailer):
+                self.check_image(Image.read(image.file())[0])
 
     def test_options_of_other_forms(self):
         self.write("it.image", hostile_image().file())
@@ -164,7 +229,9 @@ class KnownDataTest(KnownImageTest, DataTest):
     """The data of the known image."""
 
     def test_known_image(self):
-        self.check_image(self.image)
+        for least in (0, 1000):
+            with self.subTest(least):
+                self.check_image(self.image, least=least)
 
     def test_size(self):
         written = len(self.printed("explore")) - len(PAGE.read_bytes())
@@ -285,6 +352,34 @@ class KnownPageTest(BrowserTest, KnownImageTest):
         labels = sorted(row["label"] for row in rows)
         self.assertEqual(sorted(row[0] for row in self.page.cells("referrers") or []), labels)
 
+    def test_code(self):
+        """The code of methods that have instructions of all kinds together."""
+        methods = self.methods()
+        kinds = {it: kinds_of(self.image, it) for it in methods}
+        left, chosen = set().union(*kinds.values()), []
+        while left:
+            chosen.append(max(methods, key=lambda it: len(kinds[it] & left)))
+            left -= kinds[chosen[-1]]
+        chosen += self.sample(methods, max(METHODS - len(chosen), 0))
+        for number in chosen:
+            with self.subTest(self.names.label(number)):
+                self.check_code(number)
+
+    def check_code(self, number):
+        """Compares the code of a method with what `code` prints, and its links with the literals
+        that its instructions work on."""
+        address = self.names.address(number)
+        self.page.go(f"#object/{address}")
+        printed = self.printed("code", f"0x{address}").decode().splitlines()[1:]
+        wanted = [it for it in printed if not it.startswith("literal ")]
+        self.assertEqual([self.page.text("#method"), *self.page.lines("#code > code")], wanted)
+        _, code = method_parts(self.image, number)
+        operands = [it.operand for it in instructions(code) if isinstance(it.operand, tuple)]
+        literals = [index + 1 for kind, index in operands if kind in ("literal", "variable")]
+        targets = [self.image.field(number, field) for field in literals]
+        links = [self.names.address(it) for it in targets if it is not None]
+        self.assertEqual(self.page.links("code"), links)
+
     def test_links(self):
         """A click on a link shows its object, and the browser goes back and forward."""
         number = self.names.class_named("StrikeFont")
@@ -363,7 +458,8 @@ class KnownPageTest(BrowserTest, KnownImageTest):
         self.assertIn("Invalid regular expression", self.page.text(".warning"))
 
     def has_words(self, number, *words):
-        texts = [self.names.label(number), self.explored.object_row(number)[8] or ""]
+        text = self.explored.object_row(number)[8]
+        texts = [self.names.label(number), text if isinstance(text, str) else ""]
         return any(all(word in text.lower() for word in words) for text in texts)
 
     def test_zoomed_page(self):
@@ -394,7 +490,7 @@ class OtherPagesTest(BrowserTest):
             self.page.go(f"#object/{explored.names.address(number)}")
             self.assertEqual(self.page.heading, explored.names.label(number))
             data = explored.object_row(number)[8]
-            if data and len(data) < 20000:
+            if isinstance(data, str) and len(data) < 20000:
                 self.assertEqual(self.page.text("#text"), data)
         for address in ("#classes", "#overview", "#search?q=script"):
             self.page.go(address)
@@ -415,6 +511,55 @@ class OtherPagesTest(BrowserTest):
         self.page.go("#classes")
         self.assertEqual(len(self.page.cells("classes")), len(explored.classes()))
         self.assert_no_errors()
+
+    def test_left_out(self):
+        """Objects that retain little are left out: the page says so."""
+        answers = Answers(hostile_image())
+        explored, names = Explored(answers, least=64), answers.names
+        self.open(page_about(explored, NAME))
+        left = [it for it in answers.live if it not in explored.shown]
+        addresses = {names.address(it) for it in left}
+        text = self.page.text("#left-out")
+        self.assertIn(f"Left out: {len(left)} live objects that retain fewer than 64 bytes", text)
+        self.assertIn(f"{answers.reach.bytes_of(left):,} bytes in all", text)
+        for number in explored.shown:
+            self.page.go(f"#object/{names.address(number)}")
+            self.assertEqual(self.page.heading, names.label(number))
+            slots = [it for it in answers.show(number)["slots"] if it["kind"] != "untraced"]
+            for (_, holds), slot in zip(self.page.cells("slots") or [], slots, strict=True):
+                if slot["value"] in addresses:
+                    self.assertEqual(holds, f"{slot['value']} (left out)")
+        self.page.go(f"#object/{names.address(left[0])}")
+        self.assertIn("No live object", self.page.heading)
+        self.assertIn("fewer than 64 bytes and was left out", self.page.text("#view"))
+        self.page.go("#classes")
+        self.assertEqual(len(self.page.cells("classes")), len(explored.classes()))
+        self.assert_no_errors()
+
+    def test_large(self):
+        """A page that may be too large for a browser says how to get a smaller one."""
+        explored = Explored(Answers(hostile_image()))
+        text = page_about(explored, NAME)
+        self.open(text)
+        self.assertIsNone(self.page.text("#large"))
+        live = f'"live_objects":{len(explored.shown)},'
+        self.open(text.replace(live, '"live_objects":4000001,'))
+        self.assertIn("--min BYTES", self.page.text("#large"))
+
+    def test_bytecodes(self):
+        """Bytes of all kinds are decoded as the second implementation does."""
+        pairs = itertools.product(range(256), range(0, 256, 3))
+        code = bytes(itertools.chain.from_iterable((*pair, 9) for pair in pairs))
+        wanted = []
+        for it in instructions(code):
+            words, operand = it.operation, (None, None)
+            if isinstance(it.operand, tuple):
+                operand = OPERANDS[it.operand[0]], it.operand[1]
+            elif it.operand is not None:
+                words = f"{words} {it.operand}"
+            wanted.append([it.start, list(it.code), words, *operand, it.jumps_to])
+        self.open(PAGE.read_text(encoding="utf-8"), is_whole=False)
+        self.assertEqual(self.browser.value(DECODED % list(code)), wanted)
 
     def test_without_data(self):
         self.open(PAGE.read_text(encoding="utf-8"), is_whole=False)

@@ -82,7 +82,8 @@ class NamedImageTest(LookTest):
         asking, every = Asking(image, FILE, options), range(len(image.objects))
         groups = list(asking.answers.live_groups)
         questions = asking.of_objects(show=every, why=every, refs=every)
-        self.check_questions(asking.of_image() + questions + asking.of_groups(groups))
+        questions += asking.of_image() + asking.of_dump() + asking.of_groups(groups)
+        self.check_questions(questions)
 
     def test_as_it_is(self):
         self.check_image(named_image())

@@ -70,7 +70,8 @@ class RowsTest(SavedImageTest, LookTest):
             command: self.sample(every, getattr(counts, command))
             for command in ("show", "why", "refs")
         }
-        questions = asking.of_image() + asking.of_objects(**numbers) + asking.of_groups(groups)
+        questions = asking.of_image() + asking.of_dump()
+        questions += asking.of_objects(**numbers) + asking.of_groups(groups)
         self.check_questions(questions)
 
 

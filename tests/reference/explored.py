@@ -3,21 +3,25 @@
 import functools
 import json
 
+from tests.reference.bytecodes import method_parts
 from tests.reference.changes import Side
 from tests.reference.fields import SPECIAL_NAMES, ClassField
 from tests.reference.names import escaped, shortened
-from tests.reference.objects import compact_index, format_of, has_bytes, traced_end
+from tests.reference.objects import compact_index, format_of, has_bytes, is_method, traced_end
 from tests.reference.tree import Tree
 from tests.reference.values import signed, value_of
 
 
 class Explored:
-    """The data of the page about an image, if weak references are kept or cleared."""
+    """The data of the page about an image, if weak references are kept or cleared, with the
+    objects that retain at least a number of bytes."""
 
-    def __init__(self, answers):
+    def __init__(self, answers, least=0):
         self.answers, self.names, self.image = answers, answers.names, answers.image
+        self.least = least
         self.tree, self.clear_weak = Tree(answers), answers.clear_weak
         self.categories = Side(self.tree).category_objects
+        self.shown = [it for it in answers.live if self.tree.retained[it] >= least]
 
     def at(self, number):
         """The number of the data word that is the base header of an object."""
@@ -40,6 +44,9 @@ class Explored:
             "dead_bytes": info["dead_bytes"],
             "free_chunks": info["free_chunks"],
             "free_bytes": info["data_bytes"] - info["live_bytes"] - info["dead_bytes"],
+            "min": self.least,
+            "left_out": info["live_objects"] - len(self.shown),
+            "left_out_bytes": info["live_bytes"] - self.answers.reach.bytes_of(self.shown),
             "fault": fault or 0,
             "skipped": skipped or 0,
             "special_names": [SPECIAL_NAMES.get(it, 0) for it in range(len(fields))],
@@ -82,14 +89,13 @@ class Explored:
         return shortened(self.image.text(number))
 
     def objects(self):
-        """A row for each live object, by address."""
-        return [self.object_row(number) for number in self.answers.live]
+        """A row for each object that is shown, by address."""
+        return [self.object_row(number) for number in self.shown]
 
     def object_row(self, number):
         header, parent = self.image.header_of(number), self.tree.parents.get(number)
         it = self.image.objects[number]
         bits = (header >> 17 & 4095) << 11 | (it.base - it.first + 1) << 9
-        data = self.image.text(number) if has_bytes(header) else None
         return [
             self.at(number),
             self.answers.reach.sizes[number],
@@ -99,9 +105,24 @@ class Explored:
             bits | compact_index(header) << 4 | format_of(header),
             self.names.label(number) if self.names.has_name(number) else 0,
             value_of(self.names, number) or 0,
-            0 if data is None else escaped(data),
+            self.contents(number),
             *self.slots(number),
         ]
+
+    def contents(self, number):
+        """The bytes of a byte object as text; the bytecodes and the class of a method."""
+        header = self.image.header_of(number)
+        if is_method(header):
+            a_class = self.names.methods[number][0] if self.has_class(number) else None
+            _, code = method_parts(self.image, number)
+            return [code.hex(), -1 if a_class is None else self.at(a_class)]
+        return escaped(self.image.text(number)) if has_bytes(header) else 0
+
+    def has_class(self, number):
+        """Whether a method is named after its class and selector."""
+        names = self.names
+        others = (names.constants, names.class_labels)
+        return number in names.methods and not any(number in other for other in others)
 
     def slots(self, number):
         """What the traced fields of an object hold."""

@@ -6,6 +6,7 @@ ghost use Rattle.sqz_image.specs.Objects.{object_count};
 use crate::slot_rows::{SlotKind, SlotValue, kind_of, value_of};
 use serde::Serialize;
 use sqz_answers::{slot_at, slot_count};
+use sqz_dominators::{Dominators, dominators_of};
 use sqz_facts::object_facts;
 use sqz_histogram::first_bytes;
 use sqz_image::Sink;
@@ -30,6 +31,10 @@ struct DumpedObject {
     class: String,
     label: String,
     bytes: u64,
+    /// The bytes that it retains.
+    retained: u64,
+    /// The address of its immediate dominator. None for the special objects array.
+    dominator: Option<Hex>,
     format: u32,
     hash: u32,
     compact_index: u32,
@@ -38,15 +43,17 @@ struct DumpedObject {
     text: Option<String>,
 }
 
-/// Prints all live objects, by address, each as a line of JSON.
+/// Prints all live objects, by address, each as a line of JSON with what it retains and its
+/// immediate dominator.
 pub fn print_dump<C: Sink>(
     inspector: &Inspector<'_>,
     out: &mut Out<'_, C>,
 ) -> Result<(), PrintError> {
+    let dominators = dominators_of(inspector.alloc, inspector.live.graph)?;
     let mut names = SlotNames::none(inspector.alloc);
     for object in 0..inspector.live.graph.heap.len() {
         if inspector.live.marks.has(object) {
-            out.data(&dumped(inspector, &mut names, object)?)?;
+            out.data(&dumped(inspector, &dominators, &mut names, object)?)?;
         }
     }
     Ok(())
@@ -56,6 +63,7 @@ pub fn print_dump<C: Sink>(
 /// become its own.
 fn dumped(
     inspector: &Inspector<'_>,
+    dominators: &Dominators,
     names: &mut SlotNames,
     object: ObjectIndex,
 ) -> Result<DumpedObject, AllocError>
@@ -68,12 +76,26 @@ fn dumped(
         class: inspector.names.name_of_class_of(object)?,
         label: inspector.names.label(object)?,
         bytes: facts.bytes,
+        retained: dominators.retained(object).bytes,
+        dominator: dominator_of(inspector, dominators, object),
         format: facts.format,
         hash: facts.hash,
         compact_index: facts.compact_index,
         slots: slots_of(inspector, names, object)?,
         text: text_of(inspector, object)?,
     })
+}
+
+/// Returns the address of the immediate dominator of an object, if it has one.
+fn dominator_of(
+    inspector: &Inspector<'_>,
+    dominators: &Dominators,
+    object: ObjectIndex,
+) -> Option<Hex> {
+    match dominators.immediate(object) {
+        Some(above) if above < inspector.live.graph.heap.len() => Some(inspector.address(above)),
+        _ => None,
+    }
 }
 
 /// Returns all slots of the object whose slots these names are of.

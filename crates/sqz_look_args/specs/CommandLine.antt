@@ -16,7 +16,7 @@ use Rattle.sqz_look_args.specs.declared.arguments.Argument.{Argument}
 use Rattle.sqz_look_args.specs.declared.arguments.Argument.TheVariants.{Image, Images, Old, New, Object, Root, Class, AllFaults, All}
 use Rattle.sqz_look_args.specs.declared.arguments.Argument.TheVariants.{ClassOrMethod, Selector, Pattern, Nil, Strict}
 use Rattle.sqz_look_args.specs.declared.arguments.Argument.TheVariants.{Classes, Unsent, Unimplemented}
-use Rattle.sqz_look_args.specs.declared.arguments.Argument.TheVariants.{Dead, Retained, DeadInstances, By, GroupBy, Raw, Depth, Min, Folded}
+use Rattle.sqz_look_args.specs.declared.arguments.Argument.TheVariants.{Dead, Retained, DeadInstances, By, GroupBy, Raw, Depth, Min, MinBytes, Folded}
 
 -- a required word
 abbrev pub required_word : Text → Rule
@@ -74,6 +74,7 @@ argument_rule GroupBy = value_option (codes "by")
 argument_rule Raw = flag_option (codes "raw")
 argument_rule Depth = number_option (codes "depth") 100
 argument_rule Min = value_option (codes "min")
+argument_rule MinBytes = number_option (codes "min") 4294967295
 argument_rule Folded = exclusive_flag (codes "folded")
 
 -- a subcommand: its name, the word that stands for it, and its own arguments
@@ -105,7 +106,7 @@ subcommands =
     ∷ listed Stacks (codes "stacks") (Image ∷ All ∷ [])
     ∷ listed Find (codes "find") (Image ∷ Pattern ∷ All ∷ [])
     ∷ listed Dump (codes "dump") (Image ∷ [])
-    ∷ listed Explore (codes "explore") (Image ∷ [])
+    ∷ listed Explore (codes "explore") (Image ∷ MinBytes ∷ [])
     ∷ []
 
 -- the subcommand that a word stands for

@@ -37,6 +37,7 @@ pub(crate) enum Argument {
     Raw,
     Depth,
     Min,
+    MinBytes,
     Folded,
 }
 
@@ -111,6 +112,7 @@ pub(crate) fn arg_of<'a>(alloc: Global, argument: Argument) -> Result<Arg<'a>, A
         Argument::Raw => Ok(flag(alloc, "raw", "Print each step of the path")),
         Argument::Depth => Ok(depth(alloc)),
         Argument::Min => Ok(min(alloc)),
+        Argument::MinBytes => Ok(min_bytes(alloc)),
         Argument::Folded => folded(alloc),
     }
 }
@@ -175,6 +177,18 @@ fn min<'a>(alloc: Global) -> Arg<'a>
         .value_name("PERCENT")
         .help("Print rows of at least PERCENT of the first row's bytes [default: 1]")
         .action(ArgAction::Set)
+}
+
+/// Returns the option with the least number of bytes that an object of a page retains.
+fn min_bytes<'a>(alloc: Global) -> Arg<'a>
+    ensures { HasRule (number_option (codes "min") 4294967295) result }
+{
+    Arg::new(alloc, "min")
+        .long("min")
+        .value_name("BYTES")
+        .help("Leave out the objects that retain fewer than BYTES [default: 0]")
+        .action(ArgAction::Set)
+        .value_parser(ValueParser::unsigned(0, 4_294_967_295))
 }
 
 /// Returns the option with the order of a list, or with what objects are grouped by.

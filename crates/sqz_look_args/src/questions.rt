@@ -65,7 +65,7 @@ pub(crate) fn question_of<'a>(
         Name::Stacks => about_image(matches, Ok(NamedQuestion::Stacks)),
         Name::Find => about_image(matches, strings(alloc, matches)),
         Name::Dump => about_image(matches, Ok(NamedQuestion::Dump)),
-        Name::Explore => about_image(matches, Ok(NamedQuestion::Explore)),
+        Name::Explore => about_image(matches, Ok(page(matches))),
     }
 }
 
@@ -129,6 +129,12 @@ fn tree<'a>(alloc: Global, matches: &ArgMatches<'a>) -> Result<NamedQuestion, Ba
 fn why(matches: &ArgMatches<'_>) -> ObjectQuestion {
     let raw = flag_of(matches, "raw") || flag_of(matches, "json");
     ObjectQuestion::Why { raw }
+}
+
+/// Returns the request for a page. Without `--min`, all objects are on it.
+fn page(matches: &ArgMatches<'_>) -> NamedQuestion {
+    let min = matches.get_one("min").unwrap_or(0);
+    NamedQuestion::Explore { min }
 }
 
 /// Returns the question about code.

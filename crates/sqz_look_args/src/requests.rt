@@ -97,7 +97,10 @@ pub enum NamedQuestion {
     Find(Regex),
     Dump,
     /// A page that shows the image in a browser.
-    Explore,
+    Explore {
+        /// The least number of bytes that an object of the page retains.
+        min: u32,
+    },
 }
 
 /// A question that is asked about each of some objects.

@@ -223,7 +223,7 @@ const EXPLORE: Subcommand = Subcommand {
     name: Name::Explore,
     word: "explore",
     about: "Write a page that shows an image in a browser",
-    arguments: &[Argument::Image],
+    arguments: &[Argument::Image, Argument::MinBytes],
     example: "Example:\n  sqzlook explore Scratch.image > scratch.html",
 };
 

@@ -172,7 +172,7 @@ fn is_page(question: &Question<'_>) -> bool {
     matches!(
         question,
         Question::About {
-            question: NamedQuestion::Explore,
+            question: NamedQuestion::Explore { .. },
             ..
         }
     )

@@ -1,12 +1,13 @@
 //! Answers to questions.
 
-ghost use Rattle.std.specs.Prelude.{◌≡◌, ◌≤◌, IfOk, false};
+ghost use Rattle.std.specs.Prelude.{◌≡◌, ◌⊎◌, ◌<◌, ◌≤◌, IfOk, false};
+ghost use Rattle.sqz_image.specs.Objects.{object_count};
 ghost use Rattle.sqz_look_files.specs.Verdicts.{EndsChecks};
 ghost use Rattle.sqz_look_args.specs.Mends.{is_mend};
 ghost use Rattle.sqz_look_cli.specs.Comparison.{EndsComparison, IfDiff};
 ghost use Rattle.sqz_look_cli.specs.Endings.{IfCheck};
 ghost use Rattle.sqz_look_files.specs.Failures.{IsAnswerExit};
-ghost use Rattle.sqz_look_files.specs.Warnings.{IsSilent};
+ghost use Rattle.sqz_look_files.specs.Warnings.{IsSilent, most_objects};
 
 use crate::code::{answer_about_code, selector_in};
 use crate::comparison::compare;
@@ -20,7 +21,7 @@ use sqz_look_args::{Instances, NamedQuestion, Question, TopOptions};
 use sqz_look_check::CheckOptions;
 use sqz_look_code::{print_implementors, print_senders, print_stacks};
 use sqz_look_explore::{FileNotes, print_explore};
-use sqz_look_files::{Failure, ReadFile, Session, check_all, fault_text, warn};
+use sqz_look_files::{Failure, ReadFile, Session, check_all, fault_text, warn, warn_if_large};
 use sqz_look_top::print_top;
 use sqz_look_view::{Inspector, Out, Subject};
 use std::alloc::AllocError;
@@ -81,6 +82,7 @@ fn answer_about<T: Files + Threads + Sync, C: Sink, E: Sink>(
         ReadFile::Image(read) => {
             let subject = session.subject(&read.image)?;
             warn(session.rt, &subject, path, err)?;
+            warn_of_page(&subject, path, question, err)?;
             let fault = fault_for(session, &subject, question)?;
             let inspector = Inspector::of(subject)?;
             let skipped = read.skipped.as_deref();
@@ -89,6 +91,22 @@ fn answer_about<T: Files + Threads + Sync, C: Sink, E: Sink>(
             Ok(exit)
         }
         ReadFile::Unreadable(unreadable) => Err(Failure::NotThere(unreadable.message(alloc)?)),
+    }
+}
+
+/// Prints a line on `err` if a page of all objects is asked for, and these are likely too many.
+fn warn_of_page<E: Sink>(
+    subject: &Subject<'_>,
+    path: &str,
+    question: &NamedQuestion,
+    err: &mut E,
+) -> Result<(), AllocError>
+    ensures { (err.new ≡ err.old)
+        ⊎ (most_objects < object_count subject.now.live.graph.heap.now) }
+{
+    match question {
+        NamedQuestion::Explore { min: 0 } => warn_if_large(subject, path, err),
+        _ => Ok(()),
     }
 }
 
@@ -108,7 +126,7 @@ fn fault_for<T: Threads + Sync>(
     question: &NamedQuestion,
 ) -> Result<Option<String>, AllocError> {
     match question {
-        NamedQuestion::Explore => fault_text(session.rt, subject),
+        NamedQuestion::Explore { .. } => fault_text(session.rt, subject),
         _ => Ok(None),
     }
 }
@@ -144,7 +162,9 @@ fn answer_by_names<T: Threads + Sync, C: Sink, E: Sink>(
         NamedQuestion::Stacks => print_stacks(inspector, out)?,
         NamedQuestion::Find(pattern) => print_matches(inspector, pattern, out)?,
         NamedQuestion::Dump => print_dump(inspector, out)?,
-        NamedQuestion::Explore => print_explore(rt, inspector, notes, out)?,
+        NamedQuestion::Explore { min } => {
+            print_explore(rt, inspector, notes, u64::from(*min), out)?;
+        }
     }
     Ok(DONE)
 }

@@ -1,20 +1,28 @@
 //! The line of the file.
 
+ghost use Rattle.std.specs.Prelude.{◌<◌, All};
+ghost use Rattle.sqz_image.specs.Objects.{object_count};
+
 use crate::explore::FileNotes;
 use crate::page_out::PageOut;
 use crate::places::place_of;
 use sqz_facts::{FileFacts, file_facts};
 use sqz_image::{Sink, Slot};
 use sqz_look_view::{Hex, Inspector, SlotNames};
-use sqz_object::Order;
+use sqz_object::{ObjectIndex, Order};
 use sqz_trace::Weak;
 
-/// Adds the line of the file of an image.
+/// Adds the line of the file of an image, whose page shows these objects: those that retain at
+/// least `least` bytes.
 pub(crate) fn add_head<C: Sink>(
     inspector: &Inspector<'_>,
     notes: &FileNotes<'_>,
+    least: u64,
+    shown: &[ObjectIndex],
     page: &mut PageOut<'_, '_, C>,
-) {
+)
+    requires { All (λ object. object < object_count inspector.now.live.graph.heap.now) shown.now }
+{
     let facts = file_facts(inspector.image, &inspector.live.marks);
     page.begin("image");
     page.open('{');
@@ -32,6 +40,12 @@ pub(crate) fn add_head<C: Sink>(
     page.name("weak_cleared");
     page.truth(matches!(inspector.live.graph.weak, Weak::Clear));
     add_sums(facts, page);
+    page.name("min");
+    page.size(least);
+    page.name("left_out");
+    page.size(u64::from(facts.live_objects).saturating_sub(shown.len() as u64));
+    page.name("left_out_bytes");
+    page.size(facts.live_bytes.saturating_sub(bytes_of(inspector, shown)));
     page.name("fault");
     add_note(notes.fault, page);
     page.name("skipped");
@@ -58,6 +72,18 @@ fn add_sums<C: Sink>(facts: FileFacts, page: &mut PageOut<'_, '_, C>) {
     page.number(i64::from(facts.free_chunks));
     page.name("free_bytes");
     page.size(facts.free_bytes);
+}
+
+/// Returns the bytes of objects.
+fn bytes_of(inspector: &Inspector<'_>, objects: &[ObjectIndex]) -> u64
+    requires { All (λ object. object < object_count inspector.now.live.graph.heap.now)
+        objects.now }
+{
+    let mut bytes = 0u64;
+    for object in objects {
+        bytes = bytes.saturating_add(inspector.bytes(*object));
+    }
+    bytes
 }
 
 /// Adds a text, if there is one.

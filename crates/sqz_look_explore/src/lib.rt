@@ -8,5 +8,6 @@ mod head;
 mod objects;
 mod page_out;
 mod places;
+mod shown;
 
 pub use explore::{FileNotes, print_explore};

@@ -1,6 +1,6 @@
 //! Lines of objects.
 
-ghost use Rattle.std.specs.Prelude.{◌<◌};
+ghost use Rattle.std.specs.Prelude.{◌<◌, All};
 ghost use Rattle.sqz_image.specs.Objects.{object_count};
 
 use crate::page_out::PageOut;
@@ -11,28 +11,31 @@ use sqz_facts::{Held, ObjectFacts, object_facts};
 use sqz_histogram::first_bytes;
 use sqz_image::{Sink, Slot};
 use sqz_look_view::{Hex, Inspector, value_text};
+use sqz_methods::method_parts;
 use sqz_names::{Label, escaped};
-use sqz_object::ObjectIndex;
+use sqz_object::{Layout, ObjectIndex};
 use std::alloc::AllocError;
 
-/// Adds a line for each live object, by address.
+/// Adds a line for each of these objects.
 pub(crate) fn add_objects<C: Sink>(
     inspector: &Inspector<'_>,
     dominators: &Dominators,
+    objects: &[ObjectIndex],
     page: &mut PageOut<'_, '_, C>,
-) {
+)
+    requires { All (λ object. object < object_count inspector.now.live.graph.heap.now)
+        objects.now }
+{
     page.begin("objects");
-    for object in 0..inspector.live.graph.heap.len() {
+    for object in objects {
         if page.has_failed() {
             break;
         }
-        if inspector.live.marks.has(object) {
-            page.open('[');
-            add_numbers(inspector, dominators, object, page);
-            add_texts(inspector, object, page);
-            add_slots(inspector, object, page);
-            page.end_line(']');
-        }
+        page.open('[');
+        add_numbers(inspector, dominators, *object, page);
+        add_texts(inspector, *object, page);
+        add_slots(inspector, *object, page);
+        page.end_line(']');
     }
     page.end_block();
 }
@@ -70,13 +73,33 @@ fn header_of(facts: ObjectFacts) -> u32 {
 }
 
 /// Adds the label of an object, its value if it is a number or a character, and the bytes of a byte
-/// object as text, if it has these.
+/// object as text or the code of a method, if it has these.
 fn add_texts<C: Sink>(inspector: &Inspector<'_>, object: ObjectIndex, page: &mut PageOut<'_, '_, C>)
     requires { object < object_count inspector.now.live.graph.heap.now }
 {
     page.made_if_any(label_of(inspector, object));
     page.made_if_any(value_text(inspector, object));
-    page.made_if_any(text_of(inspector, object));
+    match inspector.live.graph.heap.object(object).layout() {
+        Layout::Method => add_code(inspector, object, page),
+        _ => page.made_if_any(text_of(inspector, object)),
+    }
+}
+
+/// Adds the bytecodes of a method, and the place of its class.
+fn add_code<C: Sink>(inspector: &Inspector<'_>, object: ObjectIndex, page: &mut PageOut<'_, '_, C>)
+    requires { object < object_count inspector.now.live.graph.heap.now }
+{
+    page.open('[');
+    match method_parts(inspector.alloc, inspector.live.graph.heap, object) {
+        Ok(parts) => page.digits(&parts.bytecodes),
+        Err(error) => page.need(Err(error)),
+    }
+    match inspector.names.label_of(object) {
+        Ok(Label::Method { class, .. }) => page.number(place_of(inspector, class)),
+        Ok(_) => page.number(-1),
+        Err(error) => page.need(Err(error)),
+    }
+    page.close(']');
 }
 
 /// Returns the label of an object, unless it is only its class and address.

@@ -146,6 +146,18 @@ impl<'a, 'b, C: Sink> PageOut<'a, 'b, C> {
         }
     }
 
+    /// Adds bytes as a text of hexadecimal digits.
+    pub(crate) fn digits(&mut self, bytes: &[u8]) {
+        self.separate();
+        self.letter('"');
+        for byte in bytes {
+            if write!(self.text, "{byte:02x}").is_err() {
+                self.need(Err(AllocError));
+            }
+        }
+        self.letter('"');
+    }
+
     /// Remembers an error.
     pub(crate) fn need(&mut self, done: Result<(), AllocError>) {
         if done.is_err() && self.failed.is_none() {

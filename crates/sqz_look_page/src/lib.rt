@@ -16,21 +16,25 @@ pub const PAGE: &str = r##"<!doctype html>
      classes  [class, name, category, objects, bytes, retained bytes, [instance variables]] for each
               class of a live object, those that retain most first.
      objects  [place, bytes, retained bytes, dominator, class, header, label, value, text, field..]
-              for each live object, by address.
-     end      [objects]: the number of live objects. A page without it was cut.
+              for each live object that is not left out, by address.
+     end      [objects]: the number of these objects. A page without it was cut.
+
+     Left out are the objects that retain fewer bytes than the first line has as `min`; it also has
+     how many they are and how many bytes they have. Classes are those of all live objects.
 
      Nothing is 0. A place is the number of a data word: the address is that of the base and four
-     times the place. A class is its place, or -1 less a compact class index; the dominator of the
-     special objects array is -1. A header is hash * 2048 + header words * 512 + compact class
-     index * 16 + format. A field is an odd number, a SmallInteger times two plus one; or an even
-     one, a place times two; an array of that if it is weak; or the digits of a word that leads to
-     no object. Only traced fields are listed.
+     times the place. A class is its place, or -1 minus the compact class index if the class is
+     unknown; the dominator of the special objects array is -1. A header is hash * 2048 + header
+     words * 512 + compact class index * 16 + format. A field is an odd number, a SmallInteger times
+     two plus one; or an even one, a place times two; an array of that if it is weak; or the digits
+     of a word that leads to no object. Only traced fields are listed. A method has as its text an
+     array of the digits of its bytecodes and its class, which is -1 if it is unknown.
 
      Whatever an image holds goes into the page as text, never as markup. The policy below allows
      this script and this style alone; `bench/embed_page.py` writes their hashes. -->
 <html lang="en">
 <meta charset="utf-8">
-<meta http-equiv="Content-Security-Policy" content="default-src 'none'; script-src 'sha256-5nZ7qZsM27ZJ0W7PoMDeFxq9HUiitYtTQIwCY8krXww='; style-src 'sha256-GxO1RD6lhjWxsHtYU6NLE8r+tf0mUnaM2XWcZ1yXJkQ='; base-uri 'none'; form-action 'none'">
+<meta http-equiv="Content-Security-Policy" content="default-src 'none'; script-src 'sha256-h25UGKPjopYyrB3Ii5yktmZ19omC9y9Pd8IN8UUWYSg='; style-src 'sha256-/6Bftxg8H9DUth6S6gj580ZHsEOAI+VOjPm9wApGmBI='; base-uri 'none'; form-action 'none'">
 <meta name="viewport" content="width=device-width, initial-scale=1">
 <meta name="color-scheme" content="light dark">
 <title>Squeak image</title>
@@ -63,7 +67,7 @@ h2 { font-size: 1.45rem; line-height: 1.25; margin: .2rem 0 .8rem; }
 h3 { font-size: 1.05rem; margin: 1.6rem 0 .5rem; }
 a { color: var(--link); }
 a:focus-visible, button:focus-visible, input:focus-visible, summary:focus-visible,
-svg:focus-visible { outline: 3px solid var(--link); outline-offset: 1px; }
+pre:focus-visible, svg:focus-visible { outline: 3px solid var(--link); outline-offset: 1px; }
 input, button { font: inherit; color: inherit; background: var(--panel); padding: .2rem .6rem;
   border: 1px solid var(--soft); border-radius: .4rem; }
 input[type="search"] { width: 15rem; max-width: 100%; }
@@ -84,6 +88,7 @@ tbody tr:hover { background: var(--head); }
 .code, pre { font-family: ui-monospace, "DejaVu Sans Mono", monospace; font-size: .92em; }
 pre { white-space: pre-wrap; margin: 0; padding: .6rem .75rem; max-height: 24rem; overflow: auto;
   background: var(--panel); border: 1px solid var(--line); border-radius: .5rem; }
+pre > code { display: block; font: inherit; }
 .facts { display: grid; grid-template-columns: repeat(auto-fit, minmax(13rem, 1fr)); gap: .6rem;
   margin: 0; }
 .facts > div { background: var(--panel); border: 1px solid var(--line); border-radius: .5rem;
@@ -147,6 +152,8 @@ const make = (tag, attributes = {}, ...children) =>
 const draw = (tag, attributes = {}, ...children) =>
   fill(document.createElementNS(SVG, tag), attributes, children);
 const byId = (id) => document.getElementById(id);
+// More objects than this may be too many for a browser.
+const MOST = 4000000;
 const grouped = (number) => number.toLocaleString("en-US");
 const counted = (number, what) => `${grouped(number)} ${what}${number === 1 ? "" : "s"}`;
 const share = (part, whole) => `${(whole ? (100 * part) / whole : 0).toFixed(1)}%`;
@@ -175,6 +182,8 @@ const image = {
   retained: new Numbers(Float64Array), above: new Numbers(Int32Array),
   kind: new Numbers(Int32Array), header: new Numbers(Int32Array),
   labels: [], values: [], texts: [],
+  // The bytecodes and the class of a method, by its row.
+  codes: new Map(),
   // The fields of object K begin at `first[K]`.
   first: new Numbers(Int32Array), fields: new Numbers(Int32Array, 65536),
   weak: new Set(), bad: new Map(), rowAt: new Int32Array(0),
@@ -188,7 +197,7 @@ function addClass([key, name, category, objects, bytes, retained, variables]) {
 }
 
 function addObject(cells) {
-  const row = count(), { fields } = image;
+  const row = count(), { fields } = image, text = cells[8];
   image.rowAt[cells[0]] = row + 1;
   image.place.push(cells[0]);
   image.bytes.push(cells[1]);
@@ -198,7 +207,8 @@ function addObject(cells) {
   image.header.push(cells[5]);
   image.labels.push(cells[6] || null);
   image.values.push(cells[7] === 0 ? null : cells[7]);
-  image.texts.push(cells[8] === 0 ? null : cells[8]);
+  image.texts.push(typeof text === "string" ? text : null);
+  if (Array.isArray(text)) image.codes.set(row, text);
   image.first.push(fields.length);
   for (let at = 9; at < cells.length; at += 1) {
     const cell = cells[at];
@@ -224,6 +234,13 @@ const classNameOf = (row) => {
   return found ? found.name : key < 0 ? `compact ${-1 - key}` : "?";
 };
 const labelOf = (row) => image.labels[row] ?? `${classNameOf(row)} ${addressOf(row)}`;
+/** Returns what stands for an object at a place that is not on the page. */
+const missing = (place, isWeak = false) => {
+  const { min, weak_cleared: isCleared } = image.head;
+  const reason = !image.isWhole ? "not read" : isWeak && isCleared
+    ? (min ? "not live, or left out" : "not live") : min ? "left out" : "not live";
+  return `${hexOf(place)} (${reason})`;
+};
 const isRoot = (row) => image.place.all[row] === image.head.special;
 
 /** Returns the row of the object at an address, or -1. */
@@ -425,7 +442,7 @@ function read() {
     }
   }
   if (image.head) {
-    const total = image.head.live_objects, part = count() / (total || 1);
+    const total = image.head.live_objects - image.head.left_out, part = count() / (total || 1);
     report(`${grouped(count())} of ${counted(total, "object")} read${timeLeft(part)}`, part);
   }
   if (!reading.block && !nextBlock() && document.readyState !== "loading") startIndex();
@@ -523,6 +540,17 @@ function* overview({ zoom }) {
   const { head } = image, dead = head.objects - head.live_objects;
   yield make("h2", {}, nameOf(head.image));
   if (head.skipped) yield make("p", { class: "warning" }, `Damaged: ${head.skipped}.`);
+  if (head.live_objects - head.left_out > MOST) {
+    yield make("p", { class: "warning", id: "large" }, `This page has more than ${grouped(MOST)} `
+      + "objects, which may be too many for a browser. `sqzlook explore --min BYTES` leaves out "
+      + "those that retain fewer than BYTES.");
+  }
+  if (head.min) {
+    yield make("p", { id: "left-out" }, `Left out: ${counted(head.left_out, "live object")} that `
+      + `${head.left_out === 1 ? "retains" : "retain"} fewer than ${counted(head.min, "byte")}, `
+      + `${counted(head.left_out_bytes, "byte")} in all. Sums, classes and retained bytes are `
+      + "those of the whole image; references from objects that were left out are missing.");
+  }
   yield make("p", head.fault ? { class: "warning" } : {},
     head.fault ? `Not sound: ${head.fault}.` : "Sound: no fault.");
   yield facts([
@@ -761,11 +789,13 @@ function* instances({ of }) {
     ["Retained bytes", `${grouped(found.retained)} (${share(found.retained,
       image.head.live_bytes)})`],
     found.category && ["Category", found.category],
-    row >= 0 ? ["The class itself", linkTo(row)] : null,
+    key >= 0 ? ["The class itself", row < 0 ? missing(key) : linkTo(row)] : null,
     found.variables?.length && ["Instance variables", found.variables.join(" ")],
   ]);
   yield make("h3", {}, "Those that retain most first");
   if (!image.isIndexed) { yield waiting(); return; }
+  yield* someLeftOut(index.members(key).length < found.objects
+    && counted(found.objects - index.members(key).length, "instance"));
   yield table([
     { title: "Address", kind: "address", cell: (it) => linkTo(it, addressOf(it)) },
     { title: "Preview", cell: previewOf },
@@ -780,6 +810,11 @@ function* instances({ of }) {
 
 // ---- An object.
 
+/** Says how many objects of a list were left out, if some were. */
+function* someLeftOut(what) {
+  if (image.head.min && image.isWhole && what) yield note(`${what} left out.`);
+}
+
 const FORMATS = ["no fields", "fixed fields", "indexed fields", "fixed and indexed fields",
   "fixed and weak fields", "5", "words", "7"];
 
@@ -788,6 +823,9 @@ function* object({ of }) {
   if (row < 0) {
     yield make("h2", {}, `No live object at ${of}`);
     if (!image.isIndexed) yield waiting();
+    else if (image.head.min) {
+      yield note(`Or it retains fewer than ${counted(image.head.min, "byte")} and was left out.`);
+    }
     return;
   }
   const { hash, compact, format, words } = headerOf(row), label = labelOf(row);
@@ -816,6 +854,7 @@ function* object({ of }) {
     yield make("h3", {}, "Text");
     yield long(image.texts[row]);
   }
+  if (image.codes.has(row)) yield* codeOf(row);
   yield* slotsOf(row);
   if (!image.isIndexed) { yield waiting(); return; }
   yield make("div", { class: "columns" }, make("section", {}, ...referrersOf(row)),
@@ -823,7 +862,7 @@ function* object({ of }) {
   const below = index.below.of(row);
   yield make("h3", {}, `Immediately dominates (${grouped(below.length)})`);
   yield below.length ? table(objectColumns(), below, { id: "below", piece: 50 })
-    : note("Nothing but itself.");
+    : note(image.head.min ? "Nothing that was not left out." : "Nothing but itself.");
 }
 
 const LONG = 20000;
@@ -844,7 +883,7 @@ function held(at) {
   const field = image.fields.all[at];
   if (isInteger(field)) return String((field - 1) / 2);
   const target = rowOf(field / 2), mark = image.weak.has(at) ? " (weak)" : "";
-  if (target < 0) return `${hexOf(field / 2)}${mark} (not ${image.isWhole ? "live" : "read"})`;
+  if (target < 0) return `${missing(field / 2, image.weak.has(at))}${mark}`;
   const cell = make("span", {}, linkTo(target), mark);
   const preview = image.values[target];
   if (preview !== null) cell.append(make("span", { class: "soft" }, ` ${preview}`));
@@ -870,8 +909,8 @@ function* slotsOf(row) {
 }
 
 function classHeld(row) {
-  const target = image.kind.all[row] < 0 ? -1 : rowOf(image.kind.all[row]);
-  return target < 0 ? "no object" : linkTo(target);
+  const kind = image.kind.all[row], target = kind < 0 ? -1 : rowOf(kind);
+  return target >= 0 ? linkTo(target) : kind < 0 ? "no object" : missing(kind);
 }
 
 /** Returns each slot of an object that points to another one, as [source, field, isWeak]. */
@@ -892,7 +931,8 @@ function* referrersOf(row) {
     { title: "Object", cell: ([source]) => linkTo(source) },
     { title: "Slot", kind: "slot", cell: ([source, field, isWeak]) =>
       `${slotName(source, field)}${isWeak ? " (weak)" : ""}` },
-  ], found, { id: "referrers", piece: 50 }) : note("Nothing.");
+  ], found, { id: "referrers", piece: 50 })
+    : note(image.head.min ? "Nothing that was not left out." : "Nothing.");
 }
 
 function* keepersOf(row) {
@@ -900,11 +940,148 @@ function* keepersOf(row) {
   yield make("h3", {}, "A shortest path from the roots");
   yield steps.length ? make("ol", { class: "path", id: "path" }, ...steps.map(([step, field], at) =>
     make("li", {}, at === 0 ? null : make("span", { class: "soft" },
-      `${slotName(steps[at - 1][0], field)}: `), linkTo(step)))) : note("None.");
+      `${slotName(steps[at - 1][0], field)}: `), linkTo(step))))
+    : note(image.head.min ? "None without an object that was left out." : "None.");
   yield make("h3", {}, `Dominated by (${grouped(chain.length)})`);
   yield chain.length ? make("ol", { class: "path", id: "dominators" }, ...chain.map((it) =>
     make("li", {}, linkTo(it), make("span", { class: "soft" },
       ` retains ${counted(image.retained.all[it], "byte")}`)))) : note("Nothing: it is the root.");
+}
+
+// ---- The code of a method, as `sqzlook code` prints it.
+
+const SELECTORS = ["+", "-", "<", ">", "<=", ">=", "=", "~=", "*", "/", "\\\\", "@", "bitShift:",
+  "//", "bitAnd:", "bitOr:", "at:", "at:put:", "size", "next", "nextPut:", "atEnd", "==", "class",
+  "blockCopy:", "value", "value:", "do:", "new", "new:", "x", "y"];
+const PUSHED = ["self", "true", "false", "nil", "-1", "0", "1", "2"];
+const RETURNED = ["self", "true", "false", "nil", "top", "top from block"];
+const OPERANDS = ["variable", "temporary", "literal", "literal"];
+const EXTENDED = [["send", "literal"], ["send super", "literal"], ["push", "variable"],
+  ["push", "literal"], ["push", "literal"], ["store", "variable"], ["pop into", "variable"],
+  ["store", "literal"]];
+const BLOCK_COPY = 200, MOST_INDENTED = 20, LONGEST_CHAIN = 100;
+const SUPERCLASS = 0, FORMAT = 2, VARIABLES = 3;
+
+const lengthOf = (code) =>
+  code === 132 ? 3 : (code >= 128 && code < 135) || (code >= 160 && code < 176) ? 2 : 1;
+
+/** Returns what an instruction does, from its bytes: {operation}, with {operand, index} if it works
+    on a variable or a literal, and with {distance} from its end if it jumps. */
+function decoded(code, second, third) {
+  const on = (operation, operand, index) => ({ operation, operand, index });
+  const far = (operation, distance) => ({ operation, distance });
+  if (code < 16) return on("push", "variable", code);
+  if (code < 32) return on("push", "temporary", code - 16);
+  if (code < 96) return on("push", "literal", code & 31);
+  if (code < 112) return on("pop into", OPERANDS[(code - 96) >> 3], code & 7);
+  if (code < 120) return { operation: `push ${PUSHED[code - 112]}` };
+  if (code < 126) return { operation: `return ${RETURNED[code - 120]}` };
+  if (code === 128) return on("push", OPERANDS[second >> 6], second & 63);
+  if ((code === 129 || code === 130) && second >> 6 !== 2) {
+    return on(code === 129 ? "store" : "pop into", OPERANDS[second >> 6], second & 63);
+  }
+  if (code === 131) return on("send", "literal", second & 31);
+  if (code === 132) return on(...EXTENDED[second >> 5], third);
+  if (code === 133) return on("send super", "literal", second & 31);
+  if (code === 134) return on("send", "literal", second & 63);
+  if (code === 135) return { operation: "pop" };
+  if (code === 136) return { operation: "duplicate" };
+  if (code === 137) return { operation: "push thisContext" };
+  if (code >= 144 && code < 152) return far("jump", code - 143);
+  if (code >= 152 && code < 160) return far("jump if false", code - 151);
+  if (code >= 160 && code < 168) return far("jump", (code - 164) * 256 + second);
+  if (code >= 168 && code < 172) return far("jump if true", (code - 168) * 256 + second);
+  if (code >= 172 && code < 176) return far("jump if false", (code - 172) * 256 + second);
+  if (code >= 176 && code < 208) return { operation: `send #${SELECTORS[code - 176]}` };
+  if (code >= 208) return on("send", "literal", code & 15);
+  return { operation: "unknown" };
+}
+
+/** Returns the instructions of bytecodes: what each does, with its place, its bytes, and in how many
+    blocks it is. The code of a block stands after the jump that follows `blockCopy:`, and ends
+    where this jump leads. One that is cut short is unknown. */
+function instructionsOf(code) {
+  const found = [], ends = [];
+  for (let start = 0, before = 0; start < code.length;) {
+    const bytes = code.slice(start, start + lengthOf(code[start])), end = start + bytes.length;
+    const does = bytes.length < lengthOf(code[start]) ? { operation: "unknown" }
+      : decoded(...bytes);
+    while (ends.length && ends[ends.length - 1] <= start) ends.pop();
+    found.push({ ...does, start, bytes, end, blocks: ends.length });
+    if (before === BLOCK_COPY && does.operation === "jump" && does.distance >= 0) {
+      ends.push(end + does.distance);
+    }
+    before = code[start];
+    start = end;
+  }
+  return found;
+}
+
+/** Returns the row of the object that a field points to, or -1. */
+function targetOf(row, field) {
+  const at = image.first.all[row] + field;
+  return row < 0 || at >= fieldsEnd(row) || isInteger(image.fields.all[at]) || image.bad.has(at)
+    ? -1 : rowOf(image.fields.all[at] / 2);
+}
+
+/** Returns the names of the instance variables of a class; none if they are unknown. One without
+    instances is not among the classes: it has its own names and those of its superclasses. */
+function variablesOf(place) {
+  const found = image.classes.get(place), names = [], row = rowOf(place);
+  if (found) return found.variables ?? [];
+  for (let at = row, steps = 0; at >= 0 && steps < LONGEST_CHAIN; steps += 1) {
+    const array = targetOf(at, VARIABLES), size = array < 0 ? 0
+      : fieldsEnd(array) - image.first.all[array];
+    names.unshift(...Array.from({ length: size }, (_, field) => {
+      const name = targetOf(array, field);
+      return name < 0 ? null : image.texts[name];
+    }));
+    at = targetOf(at, SUPERCLASS);
+  }
+  const at = image.first.all[row] + FORMAT, format = row >= 0 && at < fieldsEnd(row)
+    && isInteger(image.fields.all[at]) ? image.fields.all[at] : 0;
+  const fixed = ((format >>> 17) & 3) * 64 + ((format >>> 2) & 63) - 1;
+  return names.includes(null) || names.length !== fixed ? [] : names;
+}
+
+/** Returns a literal as text, with a link to an object. */
+function literalOf(row, index) {
+  const at = image.first.all[row] + 1 + index, field = image.fields.all[at];
+  if (at >= fieldsEnd(row)) return `literal ${index + 1}, which is not there`;
+  const target = isInteger(field) || image.bad.has(at) ? -1 : rowOf(field / 2);
+  return target < 0 ? held(at) : linkTo(target, image.values[target] ?? labelOf(target));
+}
+
+/** Returns what the header of a method says. */
+function headerText(header) {
+  const primitive = ((header >>> 1) & 511) + 512 * ((header >>> 29) & 1);
+  return `${counted((header >>> 25) & 15, "argument")}, ${(header >>> 19) & 63} temporaries with `
+    + `them${primitive ? `, primitive ${primitive}` : ""}`
+    + `${(header >>> 18) & 1 ? ", large frame" : ""}`;
+}
+
+/** Shows the code of a method: a line for each instruction, with its program counter, its bytes and
+    what it does. */
+function* codeOf(row) {
+  const [digits, place] = image.codes.get(row), first = image.first.all[row];
+  const code = Array.from(digits.match(/../g) ?? [], (it) => parseInt(it, 16));
+  const traced = fieldsEnd(row) - first, start = 4 * Math.max(traced, 1) + 1;
+  const variables = place < 0 ? [] : variablesOf(place);
+  const operand = ({ operand: kind, index }) => (kind === "literal" ? literalOf(row, index)
+    : kind === "temporary" ? `temp ${index}` : variables[index] ?? `instance variable ${index}`);
+  const lines = instructionsOf(code).map((it) => {
+    const bytes = it.bytes.map((byte) => byte.toString(16).padStart(2, "0")).join(" ");
+    const indent = "  ".repeat(Math.min(it.blocks, MOST_INDENTED));
+    return make("code", {},
+      `${String(it.start + start).padStart(6)}  ${bytes.padEnd(9)}  ${indent}${it.operation}`,
+      it.operand && " ", it.operand && operand(it),
+      it.distance === undefined ? null : ` to ${it.end + it.distance + start}`);
+  });
+  yield make("h3", {}, `Code (${counted(lines.length, "instruction")})`);
+  if (traced > 0 && isInteger(image.fields.all[first])) {
+    yield make("p", { class: "soft", id: "method" }, headerText(image.fields.all[first]));
+  }
+  yield make("pre", { id: "code", tabindex: 0, role: "region", "aria-label": "Code" }, ...lines);
 }
 
 // ---- Search.
@@ -1009,7 +1186,8 @@ function show() {
   const parts = [...(Object.hasOwn(VIEWS, name) ? VIEWS[name] : overview)(parameters)];
   if (image.isIndexed && !image.isWhole) {
     parts.unshift(make("p", { class: "warning", id: "cut" }, `This page was cut: it has `
-      + `${grouped(count())} of ${counted(image.head.live_objects, "live object")}. Sums and `
+      + `${grouped(count())} of `
+      + `${counted(image.head.live_objects - image.head.left_out, "live object")}. Sums and `
       + "retained bytes are those of the whole image; references from the rest are missing."));
   }
   const hadFilter = document.activeElement?.id === "filter";

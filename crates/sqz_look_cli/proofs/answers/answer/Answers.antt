@@ -12,3 +12,7 @@ returns-in-Check-clause-check g c = rw (c.in-Check.is, ← c.deref.ensures.len) 
 pub returns-in-Check-clause-silent : goal.returns-in-Check-clause-silent
 returns-in-Check-clause-silent g c =
     IfOk-weaker c.check_all.result _ _ (λ exit same zero. inl (same zero)) c.check_all.ensures.silent
+
+pub returns-in-Diff-clause-silent : goal.returns-in-Diff-clause-silent
+returns-in-Diff-clause-silent g c =
+    IfOk-weaker c.compare.result _ _ (λ exit silent zero. silent) c.compare.ensures.silent
