@@ -3,56 +3,65 @@
 use sqz_image::Fault;
 use sqz_marks::Workers;
 use sqz_regions::Cut;
-use std::process::Abort;
+use std::alloc::Global;
 use std::test::Fail;
+
+/// How an image is cut.
+#[derive(Clone, Copy)]
+pub(crate) enum CutBy {
+    /// Every so many words.
+    Every(u32),
+    /// At these words.
+    At(&'static [u32]),
+}
+
+/// A cut.
+pub(crate) fn cut_by(alloc: Global, by: CutBy) -> Result<Cut, Fault> {
+    match by {
+        CutBy::Every(words) => Cut::every(words),
+        CutBy::At(points) => Cut::at(points.to_vec(alloc)?),
+    }
+}
 
 /// The most words of a region, and the highest cut point.
 const MOST_WORDS: u32 = 1 << 30;
 
+/// Cuts, and why they are rejected. None if they are accepted.
+const CUTS: &[(CutBy, Option<Fault>)] = &[
+    (CutBy::Every(0), Some(Fault::BadCut)),
+    (CutBy::Every(MOST_WORDS + 1), Some(Fault::BadCut)),
+    (CutBy::Every(1), None),
+    (CutBy::Every(MOST_WORDS), None),
+    (CutBy::At(&[3, 3]), Some(Fault::BadCut)),
+    (CutBy::At(&[3, 2]), Some(Fault::BadCut)),
+    (CutBy::At(&[MOST_WORDS + 1]), Some(Fault::BadCut)),
+    (CutBy::At(&[2, MOST_WORDS]), None),
+    (CutBy::At(&[]), None),
+];
+
 #[test]
-fn numbers_of_words(rt: HostRuntime) {
-    for words in [0, MOST_WORDS + 1] {
-        let rejected = matches!(Cut::every(words), Err(Fault::BadCut));
-        assert!(rt; rejected, "every {words} words");
-    }
-    for words in [1, MOST_WORDS] {
-        assert!(rt; Cut::every(words).is_ok(), "every {words} words");
+fn cuts(rt: HostRuntime) {
+    for (k, (by, wanted)) in CUTS.iter().enumerate() {
+        assert_eq!(rt; cut_by(rt.alloc(), *by).err(), *wanted, "cut {k}");
     }
 }
 
-/// Asserts whether a cut at these points is accepted, or else rejected as no valid cut.
-fn assert_cut<R: Abort + AllocGlobal>(
-    rt: &R,
-    points: &[u32],
-    is_accepted: bool,
-) -> Result<(), Fail> {
-    let cut = Cut::at(points.to_vec(rt.alloc())?);
-    let is_rejected = matches!(cut, Err(Fault::BadCut));
-    assert_eq!(rt;
-        (cut.is_ok(), is_rejected),
-        (is_accepted, !is_accepted),
-        "{points:?}"
-    );
-    Ok(())
+/// The number of workers. Fails if it is rejected.
+fn number_of(number: u32) -> Result<u32, Fault> {
+    Ok(Workers::new(number)?.number())
 }
 
-#[test]
-fn cut_points(rt: HostRuntime) -> Result<(), Fail> {
-    assert_cut(&rt, &[3, 3], false)?;
-    assert_cut(&rt, &[3, 2], false)?;
-    assert_cut(&rt, &[MOST_WORDS + 1], false)?;
-    assert_cut(&rt, &[2, MOST_WORDS], true)?;
-    assert_cut(&rt, &[], true)
-}
+/// Numbers of workers, and what becomes of them.
+const NUMBERS: &[(u32, Result<u32, Fault>)] = &[
+    (0, Err(Fault::BadWorkers)),
+    (65, Err(Fault::BadWorkers)),
+    (1, Ok(1)),
+    (64, Ok(64)),
+];
 
 #[test]
-fn numbers_of_workers(rt: HostRuntime) -> Result<(), Fail> {
-    for number in [0, 65] {
-        let rejected = matches!(Workers::new(number), Err(Fault::BadWorkers));
-        assert!(rt; rejected, "{number} workers");
+fn numbers_of_workers(rt: HostRuntime) {
+    for (number, wanted) in NUMBERS {
+        assert_eq!(rt; number_of(*number), *wanted);
     }
-    for number in [1, 64] {
-        assert_eq!(rt; Workers::new(number)?.number(), number);
-    }
-    Ok(())
 }

@@ -1,142 +1,127 @@
 //! The four ways to mark give equal marks.
 
-ghost use Rattle.std.specs.Prelude.{◌≡◌, length, IfOk};
+ghost use Rattle.std.specs.Prelude.{◌≡◌, length};
 ghost use Rattle.sqz_image.specs.Objects.{object_count};
 
 use super::images::{FIXED_FIELD_BY_INDEX, FREE_AT_THE_END, THREE_WEAK_SLOTS};
 use super::marking::marked_by;
 use super::tracing::{finished, flags_of, marked};
-use sqz_image::Heap;
+use sqz_image::{Fault, Heap};
 use sqz_marks::Workers;
 use sqz_regions::{Cut, Regions, live_words};
 use sqz_test_fixtures::with_weak_classes::WEAK_TOO_MANY_FIXED;
 use sqz_test_fixtures::with_weak_objects::WEAK_FIXED_FIELD;
-use sqz_test_fixtures::{Folder, TestImage, WorkedImage, image_of, words_of, worked_tables};
-use sqz_trace::Weak;
+use sqz_test_fixtures::{Folder, TestImage, image_of, worked_tables};
+use sqz_trace::{Marks, Weak};
 use sqz_workers::{Marked, OpenGate, mark};
+use std::alloc::{AllocError, Global};
 use std::process::Abort;
 use std::sync::Wait;
 use std::test::Fail;
 use std::thread::Threads;
 
-/// Which objects are marked by three workers who steal.
-fn marked_by_stealing<R: Threads + Sync + Abort + AllocGlobal>(
-    rt: &R,
-    heap: &Heap,
-    weak: Weak,
-) -> Result<Vec<bool>, Fail> {
-    let cut = Cut::every(4)?;
-    let marked = counted(rt, heap, weak, &Regions::of(rt.alloc(), heap, &cut)?)?;
-    Ok(flags_of(rt.alloc(), heap, &marked.marks)?)
-}
-
-/// What the marking by three workers who steal gives. Asserts that the words that they counted in
-/// each region are those of the marked objects there.
-fn counted<R: Threads + Sync + Abort + AllocGlobal>(
-    rt: &R,
-    heap: &Heap,
-    weak: Weak,
-    regions: &Regions<'_>,
-) -> Result<Marked, Fail>
-    requires { regions.now.memory ≡ heap.now }
-    ensures { IfOk result (λ marked. length marked.marks ≡ object_count heap.now) }
+/// Whether these objects are marked.
+fn has_flags(alloc: Global, heap: &Heap, marks: &Marks, wanted: &[bool]) -> Result<bool, AllocError>
+    requires { length marks.now ≡ object_count heap.now }
 {
-    let workers = Workers::new(3)?;
-    let marked = mark(rt, rt.alloc(), heap, weak, regions, workers, &OpenGate)?;
-    assert_sums(rt, heap, regions, &marked)?;
-    Ok(marked)
+    Ok(flags_of(alloc, heap, marks)?.as_slice() == wanted)
 }
 
-/// Asserts that the words that workers counted in each region are those of the marked objects
-/// there.
-fn assert_sums<R: Abort + AllocGlobal>(
-    rt: &R,
+/// Whether the words that workers counted in each region are those of the marked objects there.
+fn has_sums(
+    alloc: Global,
     heap: &Heap,
     regions: &Regions<'_>,
     marked: &Marked,
-) -> Result<(), Fail>
+) -> Result<bool, Fault>
     requires regions { regions.now.memory ≡ heap.now }
     requires sized { length marked.now.marks ≡ object_count heap.now }
 {
-    let sums = live_words(rt.alloc(), heap, regions, &marked.marks)?;
-    assert_eq!(rt;
-        marked.live_words.as_slice(),
-        sums.as_slice(),
-        "words of regions"
-    );
-    Ok(())
+    let sums = live_words(alloc, heap, regions, &marked.marks)?;
+    Ok(marked.live_words.as_slice() == sums.as_slice())
 }
 
-/// Asserts that objects are marked alike by a worklist, from the first shades on without memory, by
-/// workers under a lock, and by workers who steal.
-fn assert_equal_marks<R: Threads + Wait + Sync + Abort + AllocGlobal>(
+/// Whether three workers who steal mark these objects, and whether the words that they counted in
+/// each region are those of the marked objects there.
+fn is_stolen_in<R: Threads + Sync + AllocGlobal>(
     rt: &R,
     heap: &Heap,
     weak: Weak,
-    words: &[u32],
-) -> Result<(), Fail> {
-    let plain = marked(rt.alloc(), heap, weak)?;
-    let finished = finished(rt.alloc(), heap, weak)?;
-    assert_eq!(rt; finished, plain, "without memory, {weak:?}, {words:?}");
-    assert_marks_by_workers(rt, heap, weak, words, &plain)
-}
-
-/// Asserts that workers mark these objects, under a lock and by stealing.
-fn assert_marks_by_workers<R: Threads + Wait + Sync + Abort + AllocGlobal>(
-    rt: &R,
-    heap: &Heap,
-    weak: Weak,
-    words: &[u32],
+    regions: &Regions<'_>,
     wanted: &[bool],
-) -> Result<(), Fail> {
-    let locked = marked_by(rt, heap, weak, 3, &OpenGate)?;
-    let stealing = marked_by_stealing(rt, heap, weak)?;
-    assert_eq!(rt;
-        locked.as_slice(),
-        wanted,
-        "under a lock, {weak:?}, {words:?}"
-    );
-    assert_eq!(rt;
-        stealing.as_slice(),
-        wanted,
-        "by stealing, {weak:?}, {words:?}"
-    );
-    Ok(())
+) -> Result<(bool, bool), Fault>
+    requires { regions.now.memory ≡ heap.now }
+{
+    let workers = Workers::new(3)?;
+    let marked = mark(rt, rt.alloc(), heap, weak, regions, workers, &OpenGate)?;
+    let has_flags = has_flags(rt.alloc(), heap, &marked.marks, wanted)?;
+    Ok((has_flags, has_sums(rt.alloc(), heap, regions, &marked)?))
 }
 
-/// Asserts it of an image under both policies on weak slots.
-fn assert_equal_under_both<R: Threads + Wait + Sync + Abort + AllocGlobal>(
+/// The same, for regions of four words.
+fn is_stolen<R: Threads + Sync + AllocGlobal>(
+    rt: &R,
+    heap: &Heap,
+    weak: Weak,
+    wanted: &[bool],
+) -> Result<(bool, bool), Fault> {
+    let cut = Cut::every(4)?;
+    let regions = Regions::of(rt.alloc(), heap, &cut)?;
+    is_stolen_in(rt, heap, weak, &regions, wanted)
+}
+
+/// Whether these objects are marked from the first shades on without memory.
+fn is_finished(alloc: Global, heap: &Heap, weak: Weak, wanted: &[bool]) -> Result<bool, Fault> {
+    Ok(finished(alloc, heap, weak)?.as_slice() == wanted)
+}
+
+/// Whether three workers mark these objects under a lock.
+fn is_locked<R: Threads + Wait + Sync + AllocGlobal>(
+    rt: &R,
+    heap: &Heap,
+    weak: Weak,
+    wanted: &[bool],
+) -> Result<bool, Fault> {
+    Ok(marked_by(rt, heap, weak, 3, &OpenGate)?.as_slice() == wanted)
+}
+
+/// Whether objects are marked as by a worklist: without memory, under a lock, and by workers who
+/// steal, who count the words in each region.
+type Equal = (bool, bool, (bool, bool));
+
+/// Whether the objects of a heap are marked alike.
+fn are_equal<R: Threads + Wait + Sync + AllocGlobal>(
+    rt: &R,
+    heap: &Heap,
+    weak: Weak,
+) -> Result<Equal, Fault> {
+    let plain = marked(rt.alloc(), heap, weak)?;
+    Ok((
+        is_finished(rt.alloc(), heap, weak, &plain)?,
+        is_locked(rt, heap, weak, &plain)?,
+        is_stolen(rt, heap, weak, &plain)?,
+    ))
+}
+
+/// Whether the objects of an image are marked alike.
+fn are_equal_in<R: Threads + Wait + Sync + AllocGlobal>(
     rt: &R,
     image: &TestImage,
-) -> Result<(), Fail> {
-    let words = words_of(rt.alloc(), image)?;
+    weak: Weak,
+) -> Result<Equal, Fault> {
     let image = image_of(rt.alloc(), image)?;
+    are_equal(rt, image.heap(), weak)
+}
+
+/// Asserts that the objects of an image are marked alike under both policies on weak slots.
+fn assert_equal<R: Threads + Wait + Sync + Abort + AllocGlobal>(
+    rt: &R,
+    name: &str,
+    image: &TestImage,
+) -> Result<(), Fail> {
     for weak in [Weak::Keep, Weak::Clear] {
-        assert_equal_marks(rt, image.heap(), weak, &words)?;
-    }
-    Ok(())
-}
-
-/// Asserts it of each of these images.
-fn assert_equal_for_each<R: Threads + Wait + Sync + Abort + AllocGlobal>(
-    rt: &R,
-    images: &[TestImage],
-) -> Result<(), Fail> {
-    for image in images {
-        assert_equal_under_both(rt, image)?;
-    }
-    Ok(())
-}
-
-/// Asserts it of each of these images that can be read.
-fn assert_equal_for_worked<R: Threads + Wait + Sync + Abort + AllocGlobal>(
-    rt: &R,
-    images: &[WorkedImage],
-) -> Result<(), Fail> {
-    for worked in images {
-        if !matches!(worked.folder, Folder::Unreadable) {
-            assert_equal_under_both(rt, worked.input.image())?;
-        }
+        let found = are_equal_in(rt, image, weak)?;
+        assert_eq!(rt; found, (true, true, (true, true)), "{name}, {weak:?}");
     }
     Ok(())
 }
@@ -145,22 +130,28 @@ fn assert_equal_for_worked<R: Threads + Wait + Sync + Abort + AllocGlobal>(
 #[test]
 fn of_all_images(rt: HostRuntime) -> Result<(), Fail> {
     for table in &worked_tables() {
-        assert_equal_for_worked(&rt, table)?;
+        for worked in *table {
+            if !matches!(worked.folder, Folder::Unreadable) {
+                assert_equal(&rt, worked.name, worked.input.image())?;
+            }
+        }
     }
     Ok(())
 }
 
 /// More weak objects, and free chunks after all objects.
+const MORE: &[(&str, &TestImage)] = &[
+    ("three weak slots", &THREE_WEAK_SLOTS),
+    ("weak object with a fixed field", &WEAK_FIXED_FIELD),
+    ("fixed field by compact index", &FIXED_FIELD_BY_INDEX),
+    ("too many fixed fields", &WEAK_TOO_MANY_FIXED),
+    ("free chunks at the end", &FREE_AT_THE_END),
+];
+
 #[test]
 fn of_weak_objects_and_of_free_chunks_at_the_end(rt: HostRuntime) -> Result<(), Fail> {
-    assert_equal_for_each(
-        &rt,
-        &[
-            THREE_WEAK_SLOTS,
-            WEAK_FIXED_FIELD,
-            FIXED_FIELD_BY_INDEX,
-            WEAK_TOO_MANY_FIXED,
-            FREE_AT_THE_END,
-        ],
-    )
+    for (name, image) in MORE {
+        assert_equal(&rt, name, image)?;
+    }
+    Ok(())
 }

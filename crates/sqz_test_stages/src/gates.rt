@@ -1,7 +1,6 @@
 //! A gate that counts the turns of each worker, and holds workers until others have come.
 
 use sqz_workers::{Gate, Phase};
-use std::process::Abort;
 use std::sync::atomic::{AtomicU64, Ordering};
 use std::thread;
 
@@ -41,6 +40,20 @@ pub(crate) const MEETING: [Hold; 2] = [
         until: Turn { worker: 0, turn: 0 },
     },
 ];
+
+/// Holds the first of two workers at its first turn until the other one has taken its turn 67.
+pub(crate) const FIRST_IS_HELD: [Hold; 1] = [Hold {
+    at: Turn { worker: 0, turn: 0 },
+    until: Turn {
+        worker: 1,
+        turn: 67,
+    },
+}];
+
+/// Whether workers did what is wanted, how many turns the first two of them took and how many were
+/// not the next one of their worker, and how often a worker was held until a turn was called and
+/// how often it was let through before.
+pub(crate) type Seen = (bool, (u64, u64, u64), (u64, u64));
 
 /// A gate for one phase.
 #[derive(Drop)]
@@ -83,19 +96,20 @@ impl<'a> TurnGate<'a> {
         }
     }
 
-    /// How many turns were called that are not the next one of their worker.
-    pub(crate) fn out_of_order(&self) -> u64 {
-        self.out_of_order.load(Ordering::SeqCst)
+    /// How many turns of the first two workers were called, and how many turns of all workers that
+    /// are not the next one of their worker.
+    pub(crate) fn turns_of_two(&self) -> (u64, u64, u64) {
+        let out_of_order = self.out_of_order.load(Ordering::SeqCst);
+        (self.turns(0), self.turns(1), out_of_order)
     }
 
-    /// How often a worker was held until the turn was called.
-    pub(crate) fn met(&self) -> u64 {
-        self.met.load(Ordering::SeqCst)
-    }
-
-    /// How often a worker was let through though the turn was not called.
-    pub(crate) fn missed(&self) -> u64 {
-        self.missed.load(Ordering::SeqCst)
+    /// How often a worker was held until the turn was called, and how often it was let through
+    /// though the turn was not called.
+    pub(crate) fn held(&self) -> (u64, u64) {
+        (
+            self.met.load(Ordering::SeqCst),
+            self.missed.load(Ordering::SeqCst),
+        )
     }
 
     /// Waits until a turn was called, but not for ever.
@@ -109,11 +123,6 @@ impl<'a> TurnGate<'a> {
         }
         self.missed.fetch_add(1, Ordering::SeqCst);
     }
-}
-
-/// Asserts that workers were held so often, each time until the turn was called.
-pub(crate) fn assert_held<R: Abort>(rt: &R, gate: &TurnGate<'_>, met: u64) {
-    assert_eq!(rt; (gate.met(), gate.missed()), (met, 0), "holds");
 }
 
 impl Gate for TurnGate<'_> {

@@ -2,13 +2,12 @@
 
 ghost use Rattle.std.specs.Prelude.{◌<◌};
 
-use sqz_image::{Image, read_image};
+use sqz_image::{Fault, Image, read_image};
 use sqz_object::Order;
 use sqz_test_fixtures::Chunk::{Array, Fixed, Free, Instance, Long, LongArray, Short, Weak, Words};
 use sqz_test_fixtures::accepted::DEAD_CYCLE;
 use sqz_test_fixtures::{EMPTY, LEAF, NIL, ODD, TestImage, image_of, put_header, put_words};
-use std::alloc::Global;
-use std::test::Fail;
+use std::alloc::{AllocError, Global};
 
 /// The second object is dead, and the third has six words, three of them header words.
 pub(crate) const LONG_HEADER: TestImage = TestImage {
@@ -185,28 +184,42 @@ pub(crate) const FAN: TestImage = TestImage {
 };
 
 /// The image of the dead cycle.
-pub(crate) fn dead_cycle_image(alloc: Global) -> Result<Image, Fail> {
-    Ok(image_of(alloc, &DEAD_CYCLE)?)
+pub(crate) fn dead_cycle_image(alloc: Global) -> Result<Image, Fault> {
+    image_of(alloc, &DEAD_CYCLE)
+}
+
+/// Puts words at the end of a file, and then bytes up to this length.
+pub(crate) fn put_object(
+    file: &mut Vec<u8>,
+    words: &[u32],
+    length: usize,
+) -> Result<(), AllocError> {
+    put_words(file, Order::Little, words)?;
+    file.resize(length, 7)
 }
 
 /// An image of nil, a byte object of `words` words after its three header words, and the special
 /// objects array, which points to it. All are live.
-pub(crate) fn long_object_image(alloc: Global, words: u32) -> Result<Image, Fail>
-    requires { words < 1000000 }
+pub(crate) fn long_object_image(alloc: Global, words: u32) -> Result<Image, Fault>
+    requires { words < 20000000 }
 {
     let order = Order::Little;
     let special = 0x1010 + 4 * words;
     let mut file = Vec::new(alloc);
     put_header(&mut file, order, 28 + 4 * words, 0x1000, special)?;
-    put_words(&mut file, order, &[0x1007, 4 + 4 * words, 0x1000, 0x800])?;
-    file.resize(80 + 4 * words as usize, 7)?;
+    let size = 4 + 4 * words;
+    put_object(
+        &mut file,
+        &[0x1007, size, 0x1000, 0x800],
+        76 + size as usize,
+    )?;
     put_words(&mut file, order, &[0x320F, 0x1000, 0x100C])?;
-    Ok(read_image(alloc, &file)?)
+    read_image(alloc, &file)
 }
 
 /// An image of nil, of this many objects that each point to the next one, and of the special
 /// objects array, which points to the first.
-pub(crate) fn chain_image(alloc: Global, count: u32) -> Result<Image, Fail>
+pub(crate) fn chain_image(alloc: Global, count: u32) -> Result<Image, Fault>
     requires { count < 10000 }
 {
     let order = Order::Little;
@@ -217,5 +230,5 @@ pub(crate) fn chain_image(alloc: Global, count: u32) -> Result<Image, Fail>
         put_words(&mut file, order, &[0x110B, 0x1004 + 8 * object])?;
     }
     put_words(&mut file, order, &[0x110B, 1, 0x320F, 0x1000, 0x1004])?;
-    Ok(read_image(alloc, &file)?)
+    read_image(alloc, &file)
 }

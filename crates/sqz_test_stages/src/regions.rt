@@ -3,39 +3,16 @@
 ghost use Rattle.std.specs.Prelude.{◌≡◌, length, IfOk};
 ghost use Rattle.sqz_image.specs.Objects.{object_count};
 
-use super::images::{FREE_AT_THE_END, LONG_HEADER, dead_cycle_image};
-use sqz_image::{Heap, Image};
-use sqz_regions::{Cut, Forward, Regions, bases, live_words};
-use sqz_test_fixtures::accepted::{SPECIAL_ARRAY_ALONE, THREE_WORD_HEADER};
-use sqz_test_fixtures::image_of;
+use super::cuts::{CutBy, cut_by};
+use super::images::{FREE_AT_THE_END, LONG_HEADER};
+use sqz_image::{Fault, Heap};
+use sqz_regions::{Forward, Regions, bases, live_words};
+use sqz_test_fixtures::accepted::{DEAD_CYCLE, SPECIAL_ARRAY_ALONE, THREE_WORD_HEADER};
+use sqz_test_fixtures::{TestImage, image_of};
 use sqz_trace::{Marks, Weak, mark_plain};
 use std::alloc::Global;
-use std::process::Abort;
 use std::test::Fail;
 use std::thread::Threads;
-
-/// The new addresses of the live objects of the dead cycle's image.
-const DEAD_CYCLE_PLACES: [Option<u32>; 6] = [
-    Some(0x1000),
-    Some(0x1004),
-    None,
-    Some(0x100C),
-    None,
-    Some(0x1014),
-];
-
-/// How many live words the dead cycle's image has in each region of one word.
-const WORD_SUMS: &[u32] = &[1, 2, 0, 0, 0, 2, 0, 0, 0, 3, 0, 0];
-
-/// The first address of the live words of each of them.
-const WORD_BASES: &[u64] = &[
-    0x1000, 0x1004, 0x100C, 0x100C, 0x100C, 0x100C, 0x1014, 0x1014, 0x1014, 0x1014, 0x1020, 0x1020,
-];
-
-/// A cut at these words.
-pub(crate) fn cut_at(alloc: Global, points: &[u32]) -> Result<Cut, Fail> {
-    Ok(Cut::at(points.to_vec(alloc)?)?)
-}
 
 /// Where the reachable objects of an image go, by regions.
 #[derive(Drop)]
@@ -53,7 +30,7 @@ pub(crate) fn places_of<R: Threads + Sync + AllocGlobal>(
     heap: &Heap,
     weak: Weak,
     regions: &Regions<'_>,
-) -> Result<Placed, Fail>
+) -> Result<Placed, Fault>
     requires { regions.now.memory ≡ heap.now }
     ensures { IfOk result (λ placed. length placed.forward ≡ object_count heap.now) }
 {
@@ -67,7 +44,7 @@ fn placed_by<R: Threads + Sync + AllocGlobal>(
     heap: &Heap,
     regions: &Regions<'_>,
     marks: &Marks,
-) -> Result<Placed, Fail>
+) -> Result<Placed, Fault>
     requires regions { regions.now.memory ≡ heap.now }
     requires sized { length marks.now ≡ object_count heap.now }
     ensures { IfOk result (λ placed. length placed.forward ≡ object_count heap.now) }
@@ -82,187 +59,268 @@ fn placed_by<R: Threads + Sync + AllocGlobal>(
     })
 }
 
-/// Where the reachable objects of an image are to go.
-#[derive(Clone, Copy)]
-struct Wanted<'a> {
+/// An image under a cut, and where its reachable objects go.
+struct Placing {
+    name: &'static str,
+    image: &'static TestImage,
+    by: CutBy,
     /// How many live words each region has.
-    sums: &'a [u32],
+    sums: &'static [u32],
     /// The first address of each region's live words.
-    bases: &'a [u64],
+    bases: &'static [u64],
     /// The place of each object that has one.
-    places: &'a [Option<u32>],
+    places: &'static [Option<u32>],
 }
 
-/// Asserts what the regions of an image have under a cut, and where its objects go.
-fn assert_places<R: Threads + Sync + Abort + AllocGlobal>(
-    rt: &R,
-    image: &Image,
-    cut: &Cut,
-    wanted: Wanted<'_>,
-) -> Result<(), Fail> {
-    let heap = image.heap();
-    let regions = Regions::of(rt.alloc(), heap, cut)?;
-    assert_eq!(rt; regions.count() as usize, wanted.sums.len());
-    let placed = places_of(rt, heap, Weak::Keep, &regions)?;
-    assert_placed(rt, heap, &placed, wanted.places);
-    let found = (placed.sums.as_slice(), placed.bases.as_slice());
-    assert_eq!(rt; found, (wanted.sums, wanted.bases));
-    Ok(())
-}
+/// The new addresses of the live objects of the dead cycle's image.
+const DEAD_CYCLE_PLACES: &[Option<u32>] = &[
+    Some(0x1000),
+    Some(0x1004),
+    None,
+    Some(0x100C),
+    None,
+    Some(0x1014),
+];
 
-/// Asserts which places the objects of a heap have.
-fn assert_placed<R: Abort>(rt: &R, heap: &Heap, placed: &Placed, places: &[Option<u32>])
-    requires { length placed.now.forward ≡ object_count heap.now }
-{
-    assert_eq!(rt; places.len(), heap.len() as usize);
-    for (object, place) in places.iter().enumerate() {
-        let found = placed.forward.place(object as u32);
-        assert_eq!(rt; found, *place, "object {object}");
-    }
-}
+/// Those of the image with free chunks at the end.
+const FREE_PLACES: &[Option<u32>] = &[Some(0x1000), Some(0x1004)];
 
-/// Asserts it for an image that is cut at these words.
-fn assert_places_at<R: Threads + Sync + Abort + AllocGlobal>(
-    rt: &R,
-    image: &Image,
-    points: &[u32],
-    wanted: Wanted<'_>,
-) -> Result<(), Fail> {
-    let cut = cut_at(rt.alloc(), points)?;
-    assert_places(rt, image, &cut, wanted)
-}
+/// Those of the image with a long header. The third object has six words, three of them header
+/// words.
+const LONG_HEADER_PLACES: &[Option<u32>] = &[Some(0x1000), None, Some(0x100C), Some(0x101C)];
 
-#[test]
-fn dead_cycle(rt: HostRuntime) -> Result<(), Fail> {
-    let image = dead_cycle_image(rt.alloc())?;
-    let wanted = Wanted {
+/// Images under cuts, and where their objects go.
+const PLACINGS: &[Placing] = &[
+    Placing {
+        name: "dead cycle",
+        image: &DEAD_CYCLE,
+        by: CutBy::At(&[1, 3]),
         sums: &[1, 2, 5],
         bases: &[0x1000, 0x1004, 0x100C],
-        places: &DEAD_CYCLE_PLACES,
-    };
-    assert_places_at(&rt, &image, &[1, 3], wanted)?;
-    let cut = Cut::every(1)?;
-    let wanted = Wanted {
-        sums: WORD_SUMS,
-        bases: WORD_BASES,
-        places: &DEAD_CYCLE_PLACES,
-    };
-    assert_places(&rt, &image, &cut, wanted)
-}
-
-/// Asserts which objects each region has: the index of the first, and that after the last.
-fn assert_objects<R: Abort>(rt: &R, regions: &Regions<'_>, wanted: &[(u32, u32)]) {
-    assert_eq!(rt; regions.count() as usize, wanted.len());
-    for (region, objects) in wanted.iter().enumerate() {
-        let found = regions.objects(region as u32);
-        assert_eq!(rt; found, *objects, "region {region}");
-    }
-}
-
-/// Asserts the region of each object of a heap.
-fn assert_region_of_each<R: Abort>(rt: &R, heap: &Heap, regions: &Regions<'_>, wanted: &[u32])
-    requires { regions.now.memory ≡ heap.now }
-{
-    assert_eq!(rt; heap.len() as usize, wanted.len());
-    for (object, region) in wanted.iter().enumerate() {
-        let found = regions.region(object as u32);
-        assert_eq!(rt; found, *region, "object {object}");
-    }
-}
-
-/// Asserts which objects each region of an image has under a cut, and the region of each object.
-fn assert_regions<R: Abort + AllocGlobal>(
-    rt: &R,
-    image: &Image,
-    cut: &Cut,
-    objects: &[(u32, u32)],
-    regions: &[u32],
-) -> Result<(), Fail> {
-    let heap = image.heap();
-    let found = Regions::of(rt.alloc(), heap, cut)?;
-    assert_objects(rt, &found, objects);
-    assert_region_of_each(rt, heap, &found, regions);
-    Ok(())
-}
-
-/// One cut point is inside the dead second object, and two are inside the third, which has 66
-/// words: at its base header, and among its fields.
-#[test]
-fn cut_points_inside_objects(rt: HostRuntime) -> Result<(), Fail> {
-    let image = image_of(rt.alloc(), &THREE_WORD_HEADER)?;
-    let cut = cut_at(rt.alloc(), &[2, 6, 40])?;
-    let objects = [(0, 2), (2, 3), (3, 3), (3, 4)];
-    assert_regions(&rt, &image, &cut, &objects, &[0, 0, 1, 3])?;
-    let wanted = Wanted {
+        places: DEAD_CYCLE_PLACES,
+    },
+    Placing {
+        name: "dead cycle in regions of one word",
+        image: &DEAD_CYCLE,
+        by: CutBy::Every(1),
+        sums: &[1, 2, 0, 0, 0, 2, 0, 0, 0, 3, 0, 0],
+        bases: &[
+            0x1000, 0x1004, 0x100C, 0x100C, 0x100C, 0x100C, 0x1014, 0x1014, 0x1014, 0x1014, 0x1020,
+            0x1020,
+        ],
+        places: DEAD_CYCLE_PLACES,
+    },
+    Placing {
+        name: "cut points inside objects",
+        image: &THREE_WORD_HEADER,
+        by: CutBy::At(&[2, 6, 40]),
         sums: &[1, 66, 0, 3],
         bases: &[0x1000, 0x1004, 0x110C, 0x110C],
         places: &[Some(0x1000), None, Some(0x100C), Some(0x110C)],
-    };
-    assert_places(&rt, &image, &cut, wanted)
-}
-
-/// The third object has six words, three of them header words.
-#[test]
-fn cut_points_in_small_objects(rt: HostRuntime) -> Result<(), Fail> {
-    let image = image_of(rt.alloc(), &LONG_HEADER)?;
-    let places = [Some(0x1000), None, Some(0x100C), Some(0x101C)];
-    let wanted = Wanted {
+    },
+    Placing {
+        name: "cut points in small objects",
+        image: &LONG_HEADER,
+        by: CutBy::At(&[2, 6, 8]),
         sums: &[1, 6, 0, 3],
         bases: &[0x1000, 0x1004, 0x101C, 0x101C],
-        places: &places,
-    };
-    assert_places_at(&rt, &image, &[2, 6, 8], wanted)?;
-    let wanted = Wanted {
+        places: LONG_HEADER_PLACES,
+    },
+    Placing {
+        name: "cut points at first and last words",
+        image: &LONG_HEADER,
+        by: CutBy::At(&[4, 9, 1 << 30]),
         sums: &[1, 6, 3, 0],
         bases: &[0x1000, 0x1004, 0x101C, 0x1028],
-        places: &places,
-    };
-    let first_and_last_words = [4, 9, 1 << 30];
-    assert_places_at(&rt, &image, &first_and_last_words, wanted)
-}
-
-#[test]
-fn no_cut_point(rt: HostRuntime) -> Result<(), Fail> {
-    let image = dead_cycle_image(rt.alloc())?;
-    let cut = cut_at(rt.alloc(), &[])?;
-    assert_regions(&rt, &image, &cut, &[(0, 6)], &[0; 6])
-}
-
-#[test]
-fn one_word(rt: HostRuntime) -> Result<(), Fail> {
-    let image = image_of(rt.alloc(), &SPECIAL_ARRAY_ALONE)?;
-    let cut = Cut::every(1)?;
-    assert_regions(&rt, &image, &cut, &[(0, 1)], &[0])?;
-    let cut = cut_at(rt.alloc(), &[5])?;
-    assert_regions(&rt, &image, &cut, &[(0, 1), (1, 1)], &[0])
-}
-
-#[test]
-fn one_object(rt: HostRuntime) -> Result<(), Fail> {
-    let image = image_of(rt.alloc(), &SPECIAL_ARRAY_ALONE)?;
-    let wanted = Wanted {
+        places: LONG_HEADER_PLACES,
+    },
+    Placing {
+        name: "one object, cut at its end",
+        image: &SPECIAL_ARRAY_ALONE,
+        by: CutBy::At(&[1]),
         sums: &[1, 0],
         bases: &[0x1000, 0x1004],
         places: &[Some(0x1000)],
-    };
-    assert_places_at(&rt, &image, &[1], wanted)?;
-    assert_places_at(&rt, &image, &[5], wanted)
+    },
+    Placing {
+        name: "one object, cut after its end",
+        image: &SPECIAL_ARRAY_ALONE,
+        by: CutBy::At(&[5]),
+        sums: &[1, 0],
+        bases: &[0x1000, 0x1004],
+        places: &[Some(0x1000)],
+    },
+    Placing {
+        name: "free chunks at the end",
+        image: &FREE_AT_THE_END,
+        by: CutBy::At(&[]),
+        sums: &[3],
+        bases: &[0x1000],
+        places: FREE_PLACES,
+    },
+    Placing {
+        name: "cut before free chunks at the end",
+        image: &FREE_AT_THE_END,
+        by: CutBy::At(&[1, 3]),
+        sums: &[1, 2, 0],
+        bases: &[0x1000, 0x1004, 0x100C],
+        places: FREE_PLACES,
+    },
+];
+
+/// Whether the objects of a heap have these places.
+fn have_places(heap: &Heap, forward: &Forward, places: &[Option<u32>]) -> bool
+    requires { length forward.now ≡ object_count heap.now }
+{
+    if heap.len() as usize != places.len() {
+        return false;
+    }
+    for (object, place) in places.iter().enumerate() {
+        if forward.place(object as u32) != *place {
+            return false;
+        }
+    }
+    true
+}
+
+/// Whether regions have these live words and bases, and their objects these places.
+fn have_placing<R: Threads + Sync + AllocGlobal>(
+    rt: &R,
+    heap: &Heap,
+    regions: &Regions<'_>,
+    case: &Placing,
+) -> Result<bool, Fault>
+    requires { regions.now.memory ≡ heap.now }
+{
+    let placed = places_of(rt, heap, Weak::Keep, regions)?;
+    Ok(
+        regions.count() as usize == case.sums.len()
+            && placed.sums.as_slice() == case.sums
+            && placed.bases.as_slice() == case.bases
+            && have_places(heap, &placed.forward, case.places),
+    )
+}
+
+/// The same, for the regions of a heap.
+fn has_placing<R: Threads + Sync + AllocGlobal>(
+    rt: &R,
+    heap: &Heap,
+    case: &Placing,
+) -> Result<bool, Fault> {
+    let cut = cut_by(rt.alloc(), case.by)?;
+    let regions = Regions::of(rt.alloc(), heap, &cut)?;
+    have_placing(rt, heap, &regions, case)
+}
+
+/// The same, for those of an image.
+fn is_placed<R: Threads + Sync + AllocGlobal>(rt: &R, case: &Placing) -> Result<bool, Fault> {
+    let image = image_of(rt.alloc(), case.image)?;
+    has_placing(rt, image.heap(), case)
 }
 
 #[test]
-fn free_chunks_at_the_end(rt: HostRuntime) -> Result<(), Fail> {
-    let image = image_of(rt.alloc(), &FREE_AT_THE_END)?;
-    let places = [Some(0x1000), Some(0x1004)];
-    let wanted = Wanted {
-        sums: &[3],
-        bases: &[0x1000],
-        places: &places,
-    };
-    assert_places_at(&rt, &image, &[], wanted)?;
-    let wanted = Wanted {
-        sums: &[1, 2, 0],
-        bases: &[0x1000, 0x1004, 0x100C],
-        places: &places,
-    };
-    assert_places_at(&rt, &image, &[1, 3], wanted)
+fn places(rt: HostRuntime) -> Result<(), Fail> {
+    for case in PLACINGS {
+        assert!(rt; is_placed(&rt, case)?, "{}", case.name);
+    }
+    Ok(())
+}
+
+/// An image under a cut, and what its regions are.
+struct Objects {
+    name: &'static str,
+    image: &'static TestImage,
+    by: CutBy,
+    /// Which objects each region has: the index of the first, and that after the last.
+    objects: &'static [(u32, u32)],
+    /// The region of each object.
+    regions: &'static [u32],
+}
+
+/// Images under cuts, and what their regions are.
+const OBJECTS: &[Objects] = &[
+    // One cut point is inside the dead second object, and two are inside the third, which has 66
+    // words: at its base header, and among its fields.
+    Objects {
+        name: "cut points inside objects",
+        image: &THREE_WORD_HEADER,
+        by: CutBy::At(&[2, 6, 40]),
+        objects: &[(0, 2), (2, 3), (3, 3), (3, 4)],
+        regions: &[0, 0, 1, 3],
+    },
+    Objects {
+        name: "no cut point",
+        image: &DEAD_CYCLE,
+        by: CutBy::At(&[]),
+        objects: &[(0, 6)],
+        regions: &[0; 6],
+    },
+    Objects {
+        name: "one word",
+        image: &SPECIAL_ARRAY_ALONE,
+        by: CutBy::Every(1),
+        objects: &[(0, 1)],
+        regions: &[0],
+    },
+    Objects {
+        name: "one word, cut after its end",
+        image: &SPECIAL_ARRAY_ALONE,
+        by: CutBy::At(&[5]),
+        objects: &[(0, 1), (1, 1)],
+        regions: &[0],
+    },
+];
+
+/// Whether the regions have these objects.
+fn have_objects(regions: &Regions<'_>, wanted: &[(u32, u32)]) -> bool {
+    if regions.count() as usize != wanted.len() {
+        return false;
+    }
+    for (region, objects) in wanted.iter().enumerate() {
+        if regions.objects(region as u32) != *objects {
+            return false;
+        }
+    }
+    true
+}
+
+/// Whether the objects of a heap are in these regions.
+fn are_in(heap: &Heap, regions: &Regions<'_>, wanted: &[u32]) -> bool
+    requires { regions.now.memory ≡ heap.now }
+{
+    if heap.len() as usize != wanted.len() {
+        return false;
+    }
+    for (object, region) in wanted.iter().enumerate() {
+        if regions.region(object as u32) != *region {
+            return false;
+        }
+    }
+    true
+}
+
+/// For a heap under a cut, whether each region has these objects, and whether each object is in
+/// this region.
+fn are_regions(alloc: Global, heap: &Heap, case: &Objects) -> Result<(bool, bool), Fault> {
+    let cut = cut_by(alloc, case.by)?;
+    let regions = Regions::of(alloc, heap, &cut)?;
+    Ok((
+        have_objects(&regions, case.objects),
+        are_in(heap, &regions, case.regions),
+    ))
+}
+
+/// The same, for an image.
+fn are_regions_in(alloc: Global, case: &Objects) -> Result<(bool, bool), Fault> {
+    let image = image_of(alloc, case.image)?;
+    are_regions(alloc, image.heap(), case)
+}
+
+#[test]
+fn objects_of_regions(rt: HostRuntime) -> Result<(), Fail> {
+    for case in OBJECTS {
+        let found = are_regions_in(rt.alloc(), case)?;
+        assert_eq!(rt; found, (true, true), "{}", case.name);
+    }
+    Ok(())
 }

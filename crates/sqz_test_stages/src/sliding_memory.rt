@@ -1,37 +1,21 @@
 //! Sliding allocates only after the gate, as the size of the process shows.
 
-use super::gates::{Hold, TurnGate, assert_held, turn_of};
-use super::sliding::{Team, slid, slid_by};
-use super::sliding_gates::assert_turns;
-use sqz_image::{Image, read_image};
+use super::cuts::CutBy;
+use super::gates::{Hold, Turn, TurnGate};
+use super::images::{long_object_image, put_object};
+use super::sliding::{Team, slid};
+use sqz_image::{Fault, Heap, Image, read_image};
 use sqz_object::Order;
-use sqz_regions::Cut;
 use sqz_test_fixtures::{put_header, put_words};
 use sqz_trace::Weak;
 use sqz_workers::{Gate, Phase};
 use std::alloc::Global;
 use std::fs::File;
 use std::io::Read;
-use std::process::Abort;
 use std::rt::Files;
 use std::sync::atomic::{AtomicU64, Ordering};
 use std::test::Fail;
-
-/// How many bytes the large object has. An allocation of this many bytes makes the process larger.
-const MANY: u32 = 40 << 20;
-
-/// An image with an object of many bytes, from its second word on, and a special objects array that
-/// points to it.
-fn large_image(alloc: Global) -> Result<Image, Fail> {
-    let special = 0x1010 + MANY;
-    let order = Order::Little;
-    let mut file = Vec::new(alloc);
-    put_header(&mut file, order, MANY + 28, 0x1000, special)?;
-    put_words(&mut file, order, &[0x1007, MANY + 4, 0x1000, 0x800])?;
-    file.resize(80 + MANY as usize, 7)?;
-    put_words(&mut file, order, &[0x320F, 0x1000, 0x100C])?;
-    Ok(read_image(alloc, &file)?)
-}
+use std::thread::Threads;
 
 /// How many pages the process has.
 fn pages<R: Files>(rt: &R) -> u64 {
@@ -52,16 +36,21 @@ fn pages<R: Files>(rt: &R) -> u64 {
     pages
 }
 
-/// A gate that notes how large the process is at the first two turns.
+/// A gate that notes how large the process is at the first three turns of a worker, and before that
+/// holds workers.
 #[derive(Drop)]
 struct SizeGate<'a, R> {
     rt: &'a R,
-    sizes: [AtomicU64; 2],
+    worker: u32,
+    turns: TurnGate<'a>,
+    sizes: [AtomicU64; 3],
 }
 
 impl<R: Files + Sync> Gate for SizeGate<'_, R> {
-    fn pass(&self, phase: Phase, _worker: u32, turn: u64) {
+    fn pass(&self, phase: Phase, worker: u32, turn: u64) {
+        self.turns.pass(phase, worker, turn);
         if phase == Phase::Slide
+            && worker == self.worker
             && let Some(size) = self.sizes.get(turn as usize)
         {
             size.store(pages(self.rt), Ordering::SeqCst);
@@ -69,33 +58,59 @@ impl<R: Files + Sync> Gate for SizeGate<'_, R> {
     }
 }
 
-/// Asserts that the process had a size before, and by how many pages at least it was larger after
-/// it.
-fn assert_grows<R: Abort>(rt: &R, before: &AtomicU64, behind: &AtomicU64, least: u64) {
-    let before = before.load(Ordering::SeqCst);
-    let more = behind.load(Ordering::SeqCst).saturating_sub(before);
-    assert!(rt;
-        before > 0 && more >= least,
-        "{before} pages, and {more} more"
-    );
+impl<'a, R> SizeGate<'a, R> {
+    /// A gate that notes sizes at the turns of this worker, and holds workers.
+    fn new(rt: &'a R, worker: u32, holds: &'a [Hold]) -> Self {
+        SizeGate {
+            rt,
+            worker,
+            turns: TurnGate::new(Phase::Slide, holds),
+            sizes: [AtomicU64::new(0), AtomicU64::new(0), AtomicU64::new(0)],
+        }
+    }
+
+    /// Whether the process had a size at a turn, and was larger by this many pages at the next one.
+    fn grows(&self, turn: usize, least: u64) -> bool {
+        let (Some(size), Some(next)) = (
+            self.sizes.get(turn),
+            self.sizes.get(turn.saturating_add(1)),
+        ) else {
+            return false;
+        };
+        let before = size.load(Ordering::SeqCst);
+        before > 0 && next.load(Ordering::SeqCst).saturating_sub(before) >= least
+    }
+}
+
+/// How many bytes the large object has. An allocation of this many bytes makes the process larger.
+const MANY: u32 = 40 << 20;
+
+/// Has workers who pass a gate slide a heap.
+fn slide_past<R: Threads + Sync + AllocGlobal, G: Gate>(
+    rt: &R,
+    heap: &Heap,
+    by: CutBy,
+    workers: u32,
+    gate: &G,
+) -> Result<(), Fault> {
+    let team = Team { workers, gate };
+    slid(rt, heap, Weak::Keep, by, &team)?;
+    Ok(())
+}
+
+/// Has one worker who passes a gate slide a large object.
+fn slide_one<R: Threads + Sync + AllocGlobal, G: Gate>(rt: &R, gate: &G) -> Result<(), Fault> {
+    let image = long_object_image(rt.alloc(), MANY / 4)?;
+    slide_past(rt, image.heap(), CutBy::Every(4), 1, gate)
 }
 
 /// The room for the list of pieces, 60 MiB, and the first piece, 40 MiB, are allocated after the
 /// first turn and before the second.
 #[test]
 fn first_turn_is_before_all_memory(rt: HostRuntime) -> Result<(), Fail> {
-    let image = large_image(rt.alloc())?;
-    let gate = SizeGate {
-        rt: &rt,
-        sizes: [AtomicU64::new(0), AtomicU64::new(0)],
-    };
-    let team = Team {
-        workers: 1,
-        gate: &gate,
-    };
-    slid_by(&rt, image.heap(), Weak::Keep, &Cut::every(4)?, &team)?;
-    let [first, second] = &gate.sizes;
-    assert_grows(&rt, first, second, (95 << 20) / 4096);
+    let gate = SizeGate::new(&rt, 0, &[]);
+    slide_one(&rt, &gate)?;
+    assert!(rt; gate.grows(0, (95 << 20) / 4096));
     Ok(())
 }
 
@@ -107,47 +122,54 @@ const PIECE: u32 = 33 << 20;
 const PIECE_PAGES: u64 = (PIECE / 4096) as u64;
 
 /// A large object's header, of three words.
-const LARGE: [u32; 3] = [PIECE + 4, 0x1000, 0x800];
+const LARGE: &[u32] = &[PIECE + 4, 0x1000, 0x800];
+
+/// Nil, a small object, and a large one's header.
+const SMALL_AND_LARGE: &[u32] = &[0x1007, 0x110B, 1, PIECE + 4, 0x1000, 0x800];
+
+/// The special objects array.
+const POINTERS: &[u32] = &[0x3217, 0x1000, 0x1004, 0x1014, 0x1020 + PIECE];
 
 /// An image with nil, a small object, two large ones and the special objects array, which points to
 /// all of them.
-fn image_of_two(alloc: Global) -> Result<Image, Fail> {
+fn image_of_two(alloc: Global) -> Result<Image, Fault> {
     let special = 0x1024 + 2 * PIECE;
     let order = Order::Little;
     let mut file = Vec::new(alloc);
     put_header(&mut file, order, 2 * PIECE + 56, 0x1000, special)?;
-    put_words(&mut file, order, &[0x1007, 0x110B, 1])?;
-    put_words(&mut file, order, &LARGE)?;
-    file.resize(88 + PIECE as usize, 7)?;
-    put_words(&mut file, order, &LARGE)?;
-    file.resize(100 + 2 * PIECE as usize, 7)?;
-    put_words(
-        &mut file,
-        order,
-        &[0x3217, 0x1000, 0x1004, 0x1014, 0x1020 + PIECE],
-    )?;
-    Ok(read_image(alloc, &file)?)
+    put_object(&mut file, SMALL_AND_LARGE, 88 + PIECE as usize)?;
+    put_object(&mut file, LARGE, 100 + 2 * PIECE as usize)?;
+    put_words(&mut file, order, POINTERS)?;
+    read_image(alloc, &file)
 }
 
-/// A gate that notes how large the process is at the first three turns of the second worker, and
-/// before that holds workers.
-#[derive(Drop)]
-struct SecondGate<'a, R> {
-    rt: &'a R,
-    turns: TurnGate<'a>,
-    sizes: [AtomicU64; 3],
-}
+/// The first word of the second large object.
+const SECOND: u32 = 6 + PIECE / 4;
 
-impl<R: Files + Sync> Gate for SecondGate<'_, R> {
-    fn pass(&self, phase: Phase, worker: u32, turn: u64) {
-        self.turns.pass(phase, worker, turn);
-        if phase == Phase::Slide
-            && worker == 1
-            && let Some(size) = self.sizes.get(turn as usize)
-        {
-            size.store(pages(self.rt), Ordering::SeqCst);
-        }
-    }
+/// The first word of the special objects array.
+const SPECIAL: u32 = 2 * SECOND - 3;
+
+/// Where the image is cut: before each object but the first, and inside the small object and the
+/// special objects array.
+const POINTS: &[u32] = &[1, 2, 3, SECOND, SPECIAL, SPECIAL + 1];
+
+/// The second worker begins when the first, whose pieces are small, comes to its second turn, where
+/// it is held until the second one has come to its last.
+const HOLDS: [Hold; 2] = [
+    Hold {
+        at: Turn { worker: 1, turn: 0 },
+        until: Turn { worker: 0, turn: 1 },
+    },
+    Hold {
+        at: Turn { worker: 0, turn: 1 },
+        until: Turn { worker: 1, turn: 3 },
+    },
+];
+
+/// Has two workers who pass a gate slide that image.
+fn slide_two<R: Threads + Sync + AllocGlobal, G: Gate>(rt: &R, gate: &G) -> Result<(), Fault> {
+    let image = image_of_two(rt.alloc())?;
+    slide_past(rt, image.heap(), CutBy::At(POINTS), 2, gate)
 }
 
 /// At its second turn a worker has the memory of its first piece, and not yet that of its second
@@ -155,34 +177,16 @@ impl<R: Files + Sync> Gate for SecondGate<'_, R> {
 /// meanwhile: it has three regions, and the second one four.
 #[test]
 fn each_turn_is_before_the_memory_of_its_piece(rt: HostRuntime) -> Result<(), Fail> {
-    let image = image_of_two(rt.alloc())?;
-    let holds = [
-        Hold {
-            at: turn_of(1, 0),
-            until: turn_of(0, 1),
-        },
-        Hold {
-            at: turn_of(0, 1),
-            until: turn_of(1, 3),
-        },
-    ];
-    let gate = SecondGate {
-        rt: &rt,
-        turns: TurnGate::new(Phase::Slide, &holds),
-        sizes: [AtomicU64::new(0), AtomicU64::new(0), AtomicU64::new(0)],
-    };
-    let second = 6 + PIECE / 4;
-    let special = 2 * second - 3;
-    let points = [1, 2, 3, second, special, special + 1];
-    let team = Team {
-        workers: 2,
-        gate: &gate,
-    };
-    slid(&rt, &image, Weak::Keep, &points, &team)?;
-    assert_turns(&rt, &gate.turns, 3, 4);
-    assert_held(&rt, &gate.turns, 2);
-    let [first, second, third] = &gate.sizes;
-    assert_grows(&rt, first, second, PIECE_PAGES);
-    assert_grows(&rt, second, third, PIECE_PAGES);
+    let gate = SizeGate::new(&rt, 1, &HOLDS);
+    slide_two(&rt, &gate)?;
+    assert_eq!(rt;
+        (
+            gate.turns.turns_of_two(),
+            gate.turns.held(),
+            gate.grows(0, PIECE_PAGES),
+            gate.grows(1, PIECE_PAGES)
+        ),
+        ((3, 4, 0), (2, 0), true, true)
+    );
     Ok(())
 }

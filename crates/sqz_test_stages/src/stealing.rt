@@ -4,18 +4,17 @@
 ghost use Rattle.std.specs.Prelude.{◌≡◌, ◌≤◌, length, IfOk};
 ghost use Rattle.sqz_image.specs.Objects.{object_count};
 
-use super::gates::{Hold, MEETING, Turn, TurnGate, assert_held, turn_of};
+use super::cuts::{CutBy, cut_by};
+use super::gates::{FIRST_IS_HELD, Hold, MEETING, Seen, Turn, TurnGate, turn_of};
 use super::images::{FAN, chain_image, dead_cycle_image};
-use super::regions::cut_at;
-use super::tracing::{DEAD_CYCLE_MARKS, assert_all, flags_of};
-use sqz_image::Image;
+use super::tracing::{DEAD_CYCLE_MARKS, are_all, flags_of};
+use sqz_image::{Fault, Image};
 use sqz_marks::Workers;
-use sqz_regions::{Cut, Regions};
+use sqz_regions::Regions;
 use sqz_test_fixtures::image_of;
 use sqz_trace::Weak;
 use sqz_workers::{Gate, Marked, OpenGate, Phase, mark};
 use std::alloc::{AllocError, Global};
-use std::process::Abort;
 use std::test::Fail;
 use std::thread::Threads;
 
@@ -23,47 +22,46 @@ use std::thread::Threads;
 fn marked_by<R: Threads + Sync + AllocGlobal, G: Gate>(
     rt: &R,
     image: &Image,
-    cut: &Cut,
+    by: CutBy,
     workers: u32,
     gate: &G,
-) -> Result<Marked, Fail>
+) -> Result<Marked, Fault>
     ensures { IfOk result (λ marked. length marked.marks ≡ object_count image.now.memory) }
 {
     let heap = image.heap();
     let workers = Workers::new(workers)?;
-    let regions = Regions::of(rt.alloc(), heap, cut)?;
-    let marked = mark(rt, rt.alloc(), heap, Weak::Keep, &regions, workers, gate)?;
-    Ok(marked)
+    let cut = cut_by(rt.alloc(), by)?;
+    let regions = Regions::of(rt.alloc(), heap, &cut)?;
+    mark(rt, rt.alloc(), heap, Weak::Keep, &regions, workers, gate)
 }
 
-/// Which objects of an image are marked.
-fn flags_in(alloc: Global, image: &Image, marked: &Marked) -> Result<Vec<bool>, AllocError>
-    requires { length marked.now.marks ≡ object_count image.now.memory }
-{
-    flags_of(alloc, image.heap(), &marked.marks)
-}
-
-/// What the marking of an image of six objects returns. Asserts that the four reachable ones are
-/// marked.
-fn marked_dead_cycle<R: Threads + Sync + Abort + AllocGlobal, G: Gate>(
+/// The same. None unless those objects are marked that are reachable in the dead cycle's image.
+fn marked_four_in<R: Threads + Sync + AllocGlobal, G: Gate>(
     rt: &R,
-    cut: &Cut,
+    image: &Image,
+    by: CutBy,
     workers: u32,
     gate: &G,
-) -> Result<Marked, Fail> {
-    let image = dead_cycle_image(rt.alloc())?;
-    let marked = marked_by(rt, &image, cut, workers, gate)?;
-    assert_dead_cycle(rt, workers, &flags_in(rt.alloc(), &image, &marked)?);
-    Ok(marked)
+) -> Result<Option<Marked>, Fault> {
+    let marked = marked_by(rt, image, by, workers, gate)?;
+    let flags = flags_of(rt.alloc(), image.heap(), &marked.marks)?;
+    if flags.as_slice() == DEAD_CYCLE_MARKS.as_slice() {
+        Ok(Some(marked))
+    } else {
+        Ok(None)
+    }
 }
 
-/// Asserts that the four reachable objects of the dead cycle's image are marked.
-fn assert_dead_cycle<R: Abort>(rt: &R, workers: u32, flags: &[bool]) {
-    assert_eq!(rt;
-        flags,
-        DEAD_CYCLE_MARKS.as_slice(),
-        "with {workers} workers"
-    );
+/// What the marking of an image of six objects returns. None unless the four reachable ones are
+/// marked.
+fn marked_four<R: Threads + Sync + AllocGlobal, G: Gate>(
+    rt: &R,
+    by: CutBy,
+    workers: u32,
+    gate: &G,
+) -> Result<Option<Marked>, Fault> {
+    let image = dead_cycle_image(rt.alloc())?;
+    marked_four_in(rt, &image, by, workers, gate)
 }
 
 /// How many objects were won, by the workers and outside of their turns.
@@ -75,117 +73,147 @@ fn won(marked: &Marked) -> u64 {
     won
 }
 
-/// Asserts the live words that the marking of that image returns, that there is a count for each
-/// worker, and that four objects were won.
-fn assert_counts<R: Abort>(rt: &R, workers: u32, live_words: &[u32], marked: &Marked) {
-    let found = (
-        marked.live_words.as_slice(),
-        marked.claims.len(),
-        won(marked),
-    );
-    assert_eq!(rt;
-        found,
-        (live_words, workers as usize, 4),
-        "with {workers} workers"
-    );
-}
+/// Cuts of that image, and the live words of each region.
+const LIVE_WORDS: &[(CutBy, &[u32])] = &[
+    (CutBy::Every(1), &[1, 2, 0, 0, 0, 2, 0, 0, 0, 3, 0, 0]),
+    (CutBy::Every(65536), &[8]),
+    (CutBy::At(&[1, 3]), &[1, 2, 5]),
+];
 
-/// Asserts what marking by any number of workers returns under a cut whose regions have these live
-/// words.
-fn assert_marked<R: Threads + Sync + Abort + AllocGlobal>(
+/// Whether the marking of that image by this many workers returns these live words, how many counts
+/// of workers there are, and how many objects were won. None unless the reachable ones are marked.
+fn counts<R: Threads + Sync + AllocGlobal>(
     rt: &R,
-    cut: &Cut,
+    by: CutBy,
+    workers: u32,
     live_words: &[u32],
-) -> Result<(), Fail> {
-    for workers in [1, 2, 64] {
-        let marked = marked_dead_cycle(rt, cut, workers, &OpenGate)?;
-        assert_counts(rt, workers, live_words, &marked);
+) -> Result<Option<(bool, usize, u64)>, Fault> {
+    match marked_four(rt, by, workers, &OpenGate)? {
+        Some(marked) => Ok(Some((
+            marked.live_words.as_slice() == live_words,
+            marked.claims.len(),
+            won(&marked),
+        ))),
+        None => Ok(None),
     }
-    Ok(())
-}
-
-/// Asserts that the workers won this many objects each, and that the special objects array alone
-/// was won outside of their turns.
-pub(crate) fn assert_won<R: Abort>(rt: &R, marked: &Marked, claims: &[u32]) {
-    let won = (marked.claims.as_slice(), marked.finished);
-    assert_eq!(rt;
-        won,
-        (claims, 1),
-        "what each worker won, and what was won at the end"
-    );
-}
-
-/// Asserts that workers pass a gate, and win this many objects each.
-fn assert_claims<R: Threads + Sync + Abort + AllocGlobal>(
-    rt: &R,
-    gate: &TurnGate<'_>,
-    claims: &[u32],
-) -> Result<(), Fail>
-    requires { length claims.now ≤ 64 }
-{
-    let marked = marked_dead_cycle(rt, &Cut::every(1)?, claims.len() as u32, gate)?;
-    assert_won(rt, &marked, claims);
-    assert_eq!(rt; gate.out_of_order(), 0, "turns out of order");
-    Ok(())
 }
 
 #[test]
 fn live_words_of_each_region(rt: HostRuntime) -> Result<(), Fail> {
-    let of_one_word = [1, 2, 0, 0, 0, 2, 0, 0, 0, 3, 0, 0];
-    assert_marked(&rt, &Cut::every(1)?, &of_one_word)?;
-    assert_marked(&rt, &Cut::every(65536)?, &[8])?;
-    assert_marked(&rt, &cut_at(rt.alloc(), &[1, 3])?, &[1, 2, 5])
-}
-
-/// A turn takes each of the four objects, and then 64 find none.
-#[test]
-fn worker_leaves_after_64_empty_turns(rt: HostRuntime) -> Result<(), Fail> {
-    let gate = TurnGate::new(Phase::Mark, &[]);
-    assert_claims(&rt, &gate, &[3])?;
-    assert_eq!(rt; gate.turns(0), 68, "turns of the worker");
+    for (k, (by, live_words)) in LIVE_WORDS.iter().enumerate() {
+        for workers in [1, 2, 64] {
+            let found = counts(&rt, *by, workers, live_words)?;
+            assert_eq!(rt; found, Some((true, workers as usize, 4)), "cut {k}");
+        }
+    }
     Ok(())
 }
 
-/// The first worker, in whose deque the marking begins, is held at its first turn: the other one
-/// steals what is there, and marks all.
-#[test]
-fn worker_marks_all_while_the_first_is_held(rt: HostRuntime) -> Result<(), Fail> {
-    let holds = [Hold {
-        at: turn_of(0, 0),
-        until: turn_of(1, 67),
-    }];
-    let gate = TurnGate::new(Phase::Mark, &holds);
-    assert_claims(&rt, &gate, &[0, 3])?;
-    assert_held(&rt, &gate, 1);
-    assert_eq!(rt; (gate.turns(0), gate.turns(1)), (64, 68), "turns");
-    Ok(())
+/// Whether the workers won this many objects each, and the special objects array alone was won
+/// outside of their turns.
+pub(crate) fn have_won(marked: &Marked, claims: &[u32]) -> bool {
+    marked.claims.as_slice() == claims && marked.finished == 1
+}
+
+/// Whether workers, at most 64, who pass a gate mark the four reachable objects, and win this many
+/// each.
+fn win<R: Threads + Sync + AllocGlobal>(
+    rt: &R,
+    gate: &TurnGate<'_>,
+    claims: &[u32],
+) -> Result<bool, Fault> {
+    let workers = claims.len().min(64) as u32;
+    match marked_four(rt, CutBy::Every(1), workers, gate)? {
+        Some(marked) => Ok(have_won(&marked, claims)),
+        None => Ok(false),
+    }
+}
+
+/// Whether two workers who meet mark the four reachable objects, and how often they are held.
+fn meet<R: Threads + Sync + AllocGlobal>(rt: &R) -> Result<(bool, (u64, u64)), Fault> {
+    let gate = TurnGate::new(Phase::Mark, &MEETING);
+    let marked = marked_four(rt, CutBy::Every(1), 2, &gate)?;
+    Ok((marked.is_some(), gate.held()))
 }
 
 #[test]
 fn two_workers_mark_at_one_time(rt: HostRuntime) -> Result<(), Fail> {
-    let gate = TurnGate::new(Phase::Mark, &MEETING);
-    marked_dead_cycle(&rt, &Cut::every(1)?, 2, &gate)?;
-    assert_held(&rt, &gate, 2);
+    assert_eq!(rt; meet(&rt)?, (true, (2, 0)));
     Ok(())
 }
 
-/// What the marking of the fan by two workers, who pass a gate, returns.
-fn marked_fan<R: Threads + Sync + AllocGlobal>(
-    rt: &R,
-    gate: &TurnGate<'_>,
-) -> Result<Marked, Fail> {
-    let image = image_of(rt.alloc(), &FAN)?;
-    marked_by(rt, &image, &Cut::every(1)?, 2, gate)
+/// Workers who mark, and what a gate sees of them.
+struct Marking {
+    name: &'static str,
+    /// How many objects each wins.
+    claims: &'static [u32],
+    holds: &'static [Hold],
+    /// How many turns the first two take, and how many are not the next one of their worker.
+    turns: (u64, u64, u64),
+    /// How often one is held.
+    met: u64,
 }
 
-/// Asserts how many objects of the fan each of two workers won, if the first stops at this turn
-/// until the other has won the rest.
-fn assert_fan<R: Threads + Sync + Abort + AllocGlobal>(
+/// The marking begins in the deque of the first worker. If that one is held at its first turn the
+/// other one steals what is there, and marks all.
+const MARKINGS: &[Marking] = &[
+    Marking {
+        name: "a turn takes each of the four objects, and then 64 find none",
+        claims: &[3],
+        holds: &[],
+        turns: (68, 0, 0),
+        met: 0,
+    },
+    Marking {
+        name: "a worker marks all while the first is held",
+        claims: &[0, 3],
+        holds: &FIRST_IS_HELD,
+        turns: (64, 68, 0),
+        met: 1,
+    },
+];
+
+/// Whether workers win what is wanted, and what a gate sees of them.
+fn seen<R: Threads + Sync + AllocGlobal>(rt: &R, case: &Marking) -> Result<Seen, Fault> {
+    let gate = TurnGate::new(Phase::Mark, case.holds);
+    let win = win(rt, &gate, case.claims)?;
+    Ok((win, gate.turns_of_two(), gate.held()))
+}
+
+#[test]
+fn turns_of_workers(rt: HostRuntime) -> Result<(), Fail> {
+    for case in MARKINGS {
+        let found = seen(&rt, case)?;
+        assert_eq!(rt; found, (true, case.turns, (case.met, 0)), "{}", case.name);
+    }
+    Ok(())
+}
+
+/// Whether two workers, who pass a gate, win this many objects of an image each.
+fn win_in<R: Threads + Sync + AllocGlobal>(
     rt: &R,
-    stop: u64,
+    image: &Image,
+    gate: &TurnGate<'_>,
     claims: &[u32],
-) -> Result<(), Fail> {
-    let holds = [
+) -> Result<bool, Fault> {
+    let marked = marked_by(rt, image, CutBy::Every(1), 2, gate)?;
+    Ok(marked.claims.as_slice() == claims)
+}
+
+/// Whether two workers, who pass a gate, win this many objects of the fan each.
+fn win_fan<R: Threads + Sync + AllocGlobal>(
+    rt: &R,
+    gate: &TurnGate<'_>,
+    claims: &[u32],
+) -> Result<bool, Fault> {
+    let image = image_of(rt.alloc(), &FAN)?;
+    win_in(rt, &image, gate, claims)
+}
+
+/// Holds the first worker at this turn until the other has won the rest, which begins when the
+/// first has come to it.
+fn fan_holds(stop: u64) -> [Hold; 2] {
+    [
         Hold {
             at: turn_of(0, stop),
             until: turn_of(1, 16),
@@ -194,21 +222,33 @@ fn assert_fan<R: Threads + Sync + Abort + AllocGlobal>(
             at: turn_of(1, 0),
             until: turn_of(0, stop),
         },
-    ];
-    let gate = TurnGate::new(Phase::Mark, &holds);
-    let marked = marked_fan(rt, &gate)?;
-    assert_held(rt, &gate, 2);
-    assert_eq!(rt; marked.claims.as_slice(), claims, "what each worker won");
-    Ok(())
+    ]
 }
+
+/// Whether two workers, of whom the first is held at this turn, win this many objects of the fan
+/// each, and how often they are held.
+fn fan_seen<R: Threads + Sync + AllocGlobal>(
+    rt: &R,
+    stop: u64,
+    claims: &[u32],
+) -> Result<(bool, (u64, u64)), Fault> {
+    let holds = fan_holds(stop);
+    let gate = TurnGate::new(Phase::Mark, &holds);
+    let win = win_fan(rt, &gate, claims)?;
+    Ok((win, gate.held()))
+}
+
+/// At which turn the first worker is held, and how many objects each wins.
+const FANS: &[(u64, [u32; 2])] = &[(1, [3, 7]), (2, [4, 6]), (3, [6, 4]), (4, [10, 0])];
 
 /// A worker takes the objects of its own deque first in, first out: after the special objects array
 /// the one that points to one object, then the one that points to two, and then the one that points
 /// to four.
 #[test]
 fn worker_takes_first_what_it_won_first(rt: HostRuntime) -> Result<(), Fail> {
-    for (stop, claims) in &[(1, [3, 7]), (2, [4, 6]), (3, [6, 4]), (4, [10, 0])] {
-        assert_fan(&rt, *stop, claims)?;
+    for (stop, claims) in FANS {
+        let found = fan_seen(&rt, *stop, claims)?;
+        assert_eq!(rt; found, (true, (2, 0)), "stop {stop}");
     }
     Ok(())
 }
@@ -221,9 +261,7 @@ const fn stop_of(worker: u32) -> Turn {
 
 /// Each worker but the last stops until the last one has come to its turn 8, and each but the first
 /// begins when the one before it stops.
-fn chain_holds(alloc: Global, last: u32) -> Result<Vec<Hold>, AllocError>
-    requires { last ≤ 7 }
-{
+fn chain_holds(alloc: Global, last: u32) -> Result<Vec<Hold>, AllocError> {
     let mut holds = Vec::new(alloc);
     for worker in 0..last {
         let stop = stop_of(worker);
@@ -239,61 +277,62 @@ fn chain_holds(alloc: Global, last: u32) -> Result<Vec<Hold>, AllocError>
     Ok(holds)
 }
 
-/// What the marking of a chain of objects returns. Asserts that all are marked.
-pub(crate) fn marked_chain<R: Threads + Sync + Abort + AllocGlobal>(
+/// Whether workers, at most 64, who pass a gate mark all objects of a chain of this many, and win
+/// this many each.
+pub(crate) fn win_chain<R: Threads + Sync + AllocGlobal>(
     rt: &R,
     count: u32,
-    cut: &Cut,
-    workers: u32,
+    by: CutBy,
     gate: &TurnGate<'_>,
-) -> Result<Marked, Fail>
+    claims: &[u32],
+) -> Result<bool, Fault>
     requires { count ≤ 6000 }
 {
     let image = chain_image(rt.alloc(), count)?;
-    let marked = marked_by(rt, &image, cut, workers, gate)?;
-    let flags = flags_in(rt.alloc(), &image, &marked)?;
-    assert_all(rt, &flags, count as usize + 2);
-    Ok(marked)
+    Ok(image.heap().len() == count + 2 && win_all(rt, &image, by, gate, claims)?)
 }
 
-/// How many objects each worker of a chain won, up to the worker with this number.
-fn chain_claims(alloc: Global, last: u32) -> Result<Vec<u32>, AllocError>
-    requires { last ≤ 7 }
-{
-    let mut claims = vec![in alloc; 2]?;
-    claims.resize(last as usize + 1, 1)?;
-    Ok(claims)
-}
-
-/// Asserts what the workers of a chain win, who pass a gate.
-fn assert_chain_by<R: Threads + Sync + Abort + AllocGlobal>(
+/// Whether workers, at most 64, who pass a gate mark all objects of an image, and win this many
+/// each.
+fn win_all<R: Threads + Sync + AllocGlobal>(
     rt: &R,
-    last: u32,
+    image: &Image,
+    by: CutBy,
     gate: &TurnGate<'_>,
-) -> Result<(), Fail>
-    requires { last ≤ 7 }
-{
-    let marked = marked_chain(rt, last + 1, &Cut::every(1)?, last + 1, gate)?;
-    assert_won(rt, &marked, &chain_claims(rt.alloc(), last)?);
-    Ok(())
+    claims: &[u32],
+) -> Result<bool, Fault> {
+    let workers = claims.len().min(64) as u32;
+    let marked = marked_by(rt, image, by, workers, gate)?;
+    let flags = flags_of(rt.alloc(), image.heap(), &marked.marks)?;
+    Ok(are_all(&flags, image.heap().len() as usize) && have_won(&marked, claims))
 }
 
-/// Asserts that in a chain of objects each worker steals one from the worker before it, and wins
-/// the next.
-fn assert_chain<R: Threads + Sync + Abort + AllocGlobal>(rt: &R, last: u32) -> Result<(), Fail>
-    requires { last ≤ 7 }
-{
-    let holds = chain_holds(rt.alloc(), last)?;
+/// Whether workers win this many objects each of a chain of as many as there are workers, and how
+/// often they are held.
+fn along_chain<R: Threads + Sync + AllocGlobal>(
+    rt: &R,
+    claims: &[u32],
+) -> Result<(bool, (u64, u64)), Fault> {
+    let count = claims.len().min(64) as u32;
+    let holds = chain_holds(rt.alloc(), count.saturating_sub(1))?;
     let gate = TurnGate::new(Phase::Mark, &holds);
-    assert_chain_by(rt, last, &gate)?;
-    assert_held(rt, &gate, 2 * u64::from(last));
-    Ok(())
+    let win = win_chain(rt, count, CutBy::Every(1), &gate, claims)?;
+    Ok((win, gate.held()))
 }
 
+/// How many objects each worker of a chain wins, and how often they are held.
+const CHAINS: &[(&[u32], u64)] = &[
+    (&[2, 1], 2),
+    (&[2, 1, 1], 4),
+    (&[2, 1, 1, 1, 1, 1, 1, 1], 14),
+];
+
+/// In a chain of objects each worker steals one from the worker before it, and wins the next.
 #[test]
 fn workers_steal_along_a_chain(rt: HostRuntime) -> Result<(), Fail> {
-    for last in [1, 2, 7] {
-        assert_chain(&rt, last)?;
+    for (claims, met) in CHAINS {
+        let found = along_chain(&rt, claims)?;
+        assert_eq!(rt; found, (true, (*met, 0)), "held {met} times");
     }
     Ok(())
 }

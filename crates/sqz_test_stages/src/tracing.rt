@@ -5,19 +5,18 @@ ghost use Rattle.std.specs.Prelude.{◌≡◌, length};
 ghost use Rattle.sqz_image.specs.Objects.{object_count};
 
 use super::images::{CONTEXT_AND_METHOD, FIXED_FIELD_BY_INDEX, dead_cycle_image};
-use sqz_image::{Fault, Heap, Image, Slot};
-use sqz_test_fixtures::accepted::SPECIAL_ARRAY_ALONE;
-use sqz_test_fixtures::image_of;
+use sqz_image::{Fault, Heap, Slot};
+use sqz_test_fixtures::accepted::{DEAD_CYCLE, SPECIAL_ARRAY_ALONE};
 use sqz_test_fixtures::with_classes::CLASS_EDGE;
 use sqz_test_fixtures::with_defects::LOWER_OF_TWO;
 use sqz_test_fixtures::with_weak_classes::{WEAK_SPECIAL, WEAK_TOO_MANY_FIXED};
 use sqz_test_fixtures::with_weak_objects::WEAK_FIXED_FIELD;
+use sqz_test_fixtures::{TestImage, image_of};
 use sqz_trace::{
     Marks, Weak, defect, finish, first_defect, first_shades, lacks_nil, mark_plain, strong, target,
     traced,
 };
 use std::alloc::{AllocError, Global};
-use std::process::Abort;
 use std::test::Fail;
 use std::thread::Threads;
 
@@ -35,179 +34,239 @@ pub(crate) fn flags_of(alloc: Global, heap: &Heap, marks: &Marks) -> Result<Vec<
     Ok(flags)
 }
 
-/// Asserts that this many objects are marked, which are all.
-pub(crate) fn assert_all<R: Abort>(rt: &R, flags: &[bool], count: usize) {
-    assert_eq!(rt; flags.len(), count);
-    assert!(rt; flags.iter().all(|flag| *flag), "all objects are marked");
+/// Whether this many objects are marked, which are all.
+pub(crate) fn are_all(flags: &[bool], count: usize) -> bool {
+    flags.len() == count && flags.iter().all(|flag| *flag)
 }
 
 /// Which objects are marked without a lock.
-pub(crate) fn marked(alloc: Global, heap: &Heap, weak: Weak) -> Result<Vec<bool>, Fail> {
+pub(crate) fn marked(alloc: Global, heap: &Heap, weak: Weak) -> Result<Vec<bool>, Fault> {
     let marks = mark_plain(alloc, heap, weak)?;
     Ok(flags_of(alloc, heap, &marks)?)
 }
 
 /// Which objects are marked if all is left to the end.
-pub(crate) fn finished(alloc: Global, heap: &Heap, weak: Weak) -> Result<Vec<bool>, Fail> {
+pub(crate) fn finished(alloc: Global, heap: &Heap, weak: Weak) -> Result<Vec<bool>, Fault> {
     let marks = finish(heap, weak, first_shades(alloc, heap)?);
     Ok(flags_of(alloc, heap, &marks)?)
 }
 
-/// The defect of the lowest reachable object that has one.
-fn lowest_defect<R: Threads + Sync + AllocGlobal>(
-    rt: &R,
-    image: &Image,
-    weak: Weak,
-) -> Result<Option<Fault>, Fail> {
-    let marks = mark_plain(rt.alloc(), image.heap(), weak)?;
-    Ok(first_defect(rt, image.heap(), weak, &marks))
+/// Whether the objects of a heap that are reachable in the dead cycle's image are marked without a
+/// lock, and whether they are if all is left to the end.
+fn mark_four_in(alloc: Global, heap: &Heap) -> Result<(bool, bool), Fault> {
+    let plain = marked(alloc, heap, Weak::Keep)?;
+    let finished = finished(alloc, heap, Weak::Keep)?;
+    let wanted = DEAD_CYCLE_MARKS.as_slice();
+    Ok((plain.as_slice() == wanted, finished.as_slice() == wanted))
 }
 
-/// Asserts which defect the lowest reachable object has that has one.
-fn assert_lowest<R: Threads + Sync + Abort + AllocGlobal>(
-    rt: &R,
-    image: &Image,
-    weak: Weak,
-    wanted: Option<Fault>,
-) -> Result<(), Fail> {
-    assert_eq!(rt; lowest_defect(rt, image, weak)?, wanted);
-    Ok(())
-}
-
-/// Asserts that objects have these defects.
-fn assert_defects<R: Abort>(rt: &R, image: &Image, weak: Weak, defects: &[Option<Fault>]) {
-    let heap = image.heap();
-    assert_eq!(rt; heap.len() as usize, defects.len());
-    for (object, wanted) in defects.iter().enumerate() {
-        assert_eq!(rt;
-            defect(heap, weak, object as u32),
-            *wanted,
-            "object {object}, {weak:?}"
-        );
-    }
-}
-
-/// Asserts that a slot of an object points to another object, or to none.
-fn assert_names<R: Abort>(rt: &R, image: &Image, object: u32, slot: Slot, named: Option<u32>) {
-    let heap = image.heap();
-    assert!(rt; object < heap.len());
-    assert_eq!(rt; target(heap, object, slot), named, "slot {slot:?}");
-}
-
-/// Asserts how many fields of an object are traced, how many are strong if weak slots are cleared, and
-/// that all traced ones are strong if they are kept.
-fn assert_strong<R: Abort>(rt: &R, image: &Image, object: u32, count: u32, cleared: u32) {
-    let heap = image.heap();
-    assert!(rt; object < heap.len());
-    let kept = strong(heap, Weak::Keep, object);
-    let found = (
-        traced(heap, object),
-        kept,
-        strong(heap, Weak::Clear, object),
-    );
-    assert_eq!(rt; found, (count, count, cleared), "object {object}");
-}
-
-/// Asserts whether nil is missing if weak slots are cleared. If they are kept, it is not needed.
-fn assert_lacks_nil<R: Abort>(rt: &R, image: &Image, wanted: bool) {
-    let heap = image.heap();
-    assert!(rt; !lacks_nil(heap, Weak::Keep));
-    assert_eq!(rt; lacks_nil(heap, Weak::Clear), wanted);
-}
-
-/// Asserts which objects are marked without a lock, and which if all is left to the end.
-fn assert_marks_without_workers<R: Abort + AllocGlobal>(
-    rt: &R,
-    heap: &Heap,
-    wanted: &[bool],
-) -> Result<(), Fail> {
-    let plain = marked(rt.alloc(), heap, Weak::Keep)?;
-    let finished = finished(rt.alloc(), heap, Weak::Keep)?;
-    assert_eq!(rt; (plain.as_slice(), finished.as_slice()), (wanted, wanted));
-    Ok(())
+/// The same, for that image.
+fn mark_four(alloc: Global) -> Result<(bool, bool), Fault> {
+    let image = dead_cycle_image(alloc)?;
+    mark_four_in(alloc, image.heap())
 }
 
 #[test]
 fn marks_of_a_dead_cycle(rt: HostRuntime) -> Result<(), Fail> {
-    let image = dead_cycle_image(rt.alloc())?;
-    assert_marks_without_workers(&rt, image.heap(), &DEAD_CYCLE_MARKS)?;
-    assert_lowest(&rt, &image, Weak::Keep, None)
+    assert_eq!(rt; mark_four(rt.alloc())?, (true, true));
+    Ok(())
+}
+
+/// Objects, their slots, and what these point to.
+const TARGETS: &[(u32, Slot, Option<u32>)] = &[
+    (3, Slot::ClassWord, Some(2)),
+    (3, Slot::Field(0), None),
+    (4, Slot::Field(1), Some(3)),
+    (4, Slot::Field(2), None),
+    (4, Slot::ClassWord, None),
+];
+
+/// What a slot of an object points to. None if there is no such object.
+fn target_of(alloc: Global, object: u32, slot: Slot) -> Result<Option<Option<u32>>, Fault> {
+    let image = image_of(alloc, &CLASS_EDGE)?;
+    let heap = image.heap();
+    if object < heap.len() {
+        Ok(Some(target(heap, object, slot)))
+    } else {
+        Ok(None)
+    }
 }
 
 #[test]
 fn targets_of_slots(rt: HostRuntime) -> Result<(), Fail> {
-    let image = image_of(rt.alloc(), &CLASS_EDGE)?;
-    let some = [
-        (3, Slot::ClassWord, Some(2)),
-        (3, Slot::Field(0), None),
-        (4, Slot::Field(1), Some(3)),
-        (4, Slot::Field(2), None),
-        (4, Slot::ClassWord, None),
-    ];
-    for (object, slot, named) in some {
-        assert_names(&rt, &image, object, slot, named);
+    for (object, slot, wanted) in TARGETS {
+        let found = target_of(rt.alloc(), *object, *slot)?;
+        assert_eq!(rt; found, Some(*wanted), "object {object}, {slot:?}");
     }
     Ok(())
 }
 
-#[test]
-fn traced_fields(rt: HostRuntime) -> Result<(), Fail> {
-    let image = image_of(rt.alloc(), &CONTEXT_AND_METHOD)?;
-    assert_strong(&rt, &image, 1, 7, 7);
-    assert_strong(&rt, &image, 2, 3, 3);
-    assert_strong(&rt, &image, 3, 2, 2);
-    Ok(())
+/// How many fields of an object are traced, how many of these are strong if weak slots are kept,
+/// and how many if they are cleared. None if there is no such object.
+fn fields_of(
+    alloc: Global,
+    image: &TestImage,
+    object: u32,
+) -> Result<Option<(u32, u32, u32)>, Fault> {
+    let image = image_of(alloc, image)?;
+    let heap = image.heap();
+    if object < heap.len() {
+        Ok(Some((
+            traced(heap, object),
+            strong(heap, Weak::Keep, object),
+            strong(heap, Weak::Clear, object),
+        )))
+    } else {
+        Ok(None)
+    }
 }
 
+/// Objects of images, how many of their fields are traced, which are all strong if weak slots are
+/// kept, and how many are strong if these are cleared: a context, a method, the special objects
+/// array, and four weak objects.
+const FIELDS: &[(&TestImage, u32, u32, u32)] = &[
+    (&CONTEXT_AND_METHOD, 1, 7, 7),
+    (&CONTEXT_AND_METHOD, 2, 3, 3),
+    (&CONTEXT_AND_METHOD, 3, 2, 2),
+    (&WEAK_FIXED_FIELD, 4, 2, 1),
+    (&WEAK_FIXED_FIELD, 5, 2, 2),
+    (&FIXED_FIELD_BY_INDEX, 4, 2, 1),
+    (&WEAK_TOO_MANY_FIXED, 2, 1, 0),
+];
+
 #[test]
-fn strong_fields_of_weak_objects(rt: HostRuntime) -> Result<(), Fail> {
-    for (image, object, count, cleared) in &[
-        (WEAK_FIXED_FIELD, 4, 2, 1),
-        (WEAK_FIXED_FIELD, 5, 2, 2),
-        (FIXED_FIELD_BY_INDEX, 4, 2, 1),
-        (WEAK_TOO_MANY_FIXED, 2, 1, 0),
-    ] {
-        let image = image_of(rt.alloc(), image)?;
-        assert_strong(&rt, &image, *object, *count, *cleared);
+fn traced_and_strong_fields(rt: HostRuntime) -> Result<(), Fail> {
+    for (k, (image, object, count, cleared)) in FIELDS.iter().enumerate() {
+        let found = fields_of(rt.alloc(), image, *object)?;
+        assert_eq!(rt; found, Some((*count, *count, *cleared)), "row {k}");
     }
     Ok(())
 }
 
+/// An image, the policy on weak slots, the defect of each object, and that of the lowest reachable
+/// object that has one.
+struct Defects {
+    image: &'static TestImage,
+    weak: Weak,
+    of_each: &'static [Option<Fault>],
+    lowest: Option<Fault>,
+}
+
+/// The defects of two objects.
+const BAD_POINTER: Fault = Fault::BadPointer {
+    address: 0x1004,
+    slot: Slot::Field(0),
+};
+
+const NO_CLASS: Fault = Fault::NoClass { address: 0x1010 };
+
+/// The defect of a weak object.
+const BAD_WEAK: Fault = Fault::BadWeak { address: 0x1018 };
+
+/// Images without a defect, with two, and with one of a weak object.
+const DEFECTS: &[Defects] = &[
+    Defects {
+        image: &DEAD_CYCLE,
+        weak: Weak::Keep,
+        of_each: &[None; 6],
+        lowest: None,
+    },
+    Defects {
+        image: &LOWER_OF_TWO,
+        weak: Weak::Keep,
+        of_each: &[None, Some(BAD_POINTER), Some(NO_CLASS)],
+        lowest: Some(BAD_POINTER),
+    },
+    Defects {
+        image: &LOWER_OF_TWO,
+        weak: Weak::Clear,
+        of_each: &[None, Some(BAD_POINTER), Some(NO_CLASS)],
+        lowest: Some(BAD_POINTER),
+    },
+    Defects {
+        image: &WEAK_TOO_MANY_FIXED,
+        weak: Weak::Keep,
+        of_each: &[None; 4],
+        lowest: None,
+    },
+    Defects {
+        image: &WEAK_TOO_MANY_FIXED,
+        weak: Weak::Clear,
+        of_each: &[None, None, Some(BAD_WEAK), None],
+        lowest: Some(BAD_WEAK),
+    },
+];
+
+/// Whether objects have these defects.
+fn have_defects(heap: &Heap, weak: Weak, wanted: &[Option<Fault>]) -> bool {
+    if heap.len() as usize != wanted.len() {
+        return false;
+    }
+    for (object, wanted) in wanted.iter().enumerate() {
+        if defect(heap, weak, object as u32) != *wanted {
+            return false;
+        }
+    }
+    true
+}
+
+/// The defect of the lowest reachable object that has one.
+fn lowest_in<R: Threads + Sync + AllocGlobal>(
+    rt: &R,
+    heap: &Heap,
+    weak: Weak,
+) -> Result<Option<Fault>, Fault> {
+    let marks = mark_plain(rt.alloc(), heap, weak)?;
+    Ok(first_defect(rt, heap, weak, &marks))
+}
+
+/// Whether the objects of a heap have these defects, and the defect of the lowest reachable one
+/// that has one.
+fn defects_of<R: Threads + Sync + AllocGlobal>(
+    rt: &R,
+    heap: &Heap,
+    case: &Defects,
+) -> Result<(bool, Option<Fault>), Fault> {
+    let lowest = lowest_in(rt, heap, case.weak)?;
+    Ok((have_defects(heap, case.weak, case.of_each), lowest))
+}
+
+/// The same, for an image.
+fn defects_in<R: Threads + Sync + AllocGlobal>(
+    rt: &R,
+    case: &Defects,
+) -> Result<(bool, Option<Fault>), Fault> {
+    let image = image_of(rt.alloc(), case.image)?;
+    defects_of(rt, image.heap(), case)
+}
+
 #[test]
-fn defects_of_two_objects(rt: HostRuntime) -> Result<(), Fail> {
-    let image = image_of(rt.alloc(), &LOWER_OF_TWO)?;
-    let bad_pointer = Fault::BadPointer {
-        address: 0x1004,
-        slot: Slot::Field(0),
-    };
-    let no_class = Fault::NoClass { address: 0x1010 };
-    let defects = [None, Some(bad_pointer), Some(no_class)];
-    for weak in [Weak::Keep, Weak::Clear] {
-        assert_defects(&rt, &image, weak, &defects);
-        assert_lowest(&rt, &image, weak, Some(bad_pointer))?;
+fn defects_of_objects(rt: HostRuntime) -> Result<(), Fail> {
+    for (k, case) in DEFECTS.iter().enumerate() {
+        let found = defects_in(&rt, case)?;
+        assert_eq!(rt; found, (true, case.lowest), "row {k}");
     }
     Ok(())
 }
 
-#[test]
-fn bad_weak_object(rt: HostRuntime) -> Result<(), Fail> {
-    let image = image_of(rt.alloc(), &WEAK_TOO_MANY_FIXED)?;
-    let bad_weak = Some(Fault::BadWeak { address: 0x1018 });
-    for (weak, wanted) in &[(Weak::Keep, None), (Weak::Clear, bad_weak)] {
-        assert_defects(&rt, &image, *weak, &[None, None, *wanted, None]);
-        assert_lowest(&rt, &image, *weak, *wanted)?;
-    }
-    Ok(())
+/// Images, and whether nil is missing if weak slots are cleared.
+const NILS: &[(&TestImage, bool)] = &[
+    (&SPECIAL_ARRAY_ALONE, true),
+    (&WEAK_SPECIAL, true),
+    (&WEAK_TOO_MANY_FIXED, false),
+];
+
+/// Whether nil is missing if weak slots are kept, where it is not needed, and if they are cleared.
+fn lacks(alloc: Global, image: &TestImage) -> Result<(bool, bool), Fault> {
+    let image = image_of(alloc, image)?;
+    let heap = image.heap();
+    Ok((lacks_nil(heap, Weak::Keep), lacks_nil(heap, Weak::Clear)))
 }
 
 #[test]
 fn images_without_nil(rt: HostRuntime) -> Result<(), Fail> {
-    for (image, wanted) in &[
-        (SPECIAL_ARRAY_ALONE, true),
-        (WEAK_SPECIAL, true),
-        (WEAK_TOO_MANY_FIXED, false),
-    ] {
-        assert_lacks_nil(&rt, &image_of(rt.alloc(), image)?, *wanted);
+    for (k, (image, wanted)) in NILS.iter().enumerate() {
+        assert_eq!(rt; lacks(rt.alloc(), image)?, (false, *wanted), "row {k}");
     }
     Ok(())
 }

@@ -12,7 +12,7 @@ fn values(rt: HostRuntime) {
         (0x1002, Value::Odd(0x1002)),
         (0x1000, Value::Pointer(0x1000)),
     ] {
-        assert_eq!(rt; value_of(word), value, "at {word}");
+        assert_eq!(rt; value_of(word), value);
     }
 }
 
