@@ -15,10 +15,12 @@ from tests.making.method_images import METHOD_NAME, TRAILERS, MethodImage
 from tests.reference.bytecodes import instructions, method_parts
 from tests.reference.fields import SpecialField
 from tests.reference.file_format import HEADER_WORDS, PREFIX, words_of
-from tests.reference.objects import ZERO, Format, format_of, is_method
+from tests.reference.names import SYMBOLS, Names
+from tests.reference.objects import ZERO, Format, format_of, has_bytes, is_method
+from tests.reference.senders import Senders
 
-# The number of methods whose instructions are compared.
-METHODS = 200
+# The number of methods whose instructions are compared, and of selectors that nobody implements.
+METHODS, SELECTORS = 200, 20
 # The bytes that a damaged disk loses at once.
 SECTOR = 512
 
@@ -101,20 +103,27 @@ class CodeTest(SavedImageTest):
         self.assertEqual(rows, self.rows("implementors", "#startUp"))
 
     def test_senders(self):
-        methods = {it["method"] for it in self.rows("senders", "at:put:")}
-        self.assertGreater(len(methods), 500)
-        (row,) = self.rows("code", sorted(methods)[0])
-        sent = {it["operand"] for it in row["instructions"] if it["operation"].startswith("send")}
-        self.assertTrue("#at:put:" in sent or "#at:put:" in row["literals"])
+        """Selectors that are literals, that are sent by special codes, and that nobody sends."""
+        image = self.image
+        live = {number for number, it in enumerate(image.live(False)) if it}
+        names, symbols = Names(image, live), {}
+        senders = Senders(image, live & names.methods.keys())
+        for number in live:
+            if has_bytes(image.header_of(number)) and names.class_name(number) in SYMBOLS:
+                symbols.setdefault(image.text(number), set()).add(number)
+        for word in ("at:put:", "+", "x", "value", "uniformWindowColors", "nobodySendsThis"):
+            with self.subTest(word):
+                found = [it["address"] for it in self.rows("senders", word)]
+                wanted = senders.of(symbols.get(word.encode(), ()))
+                self.assertEqual(sorted(found), sorted(map(names.address, wanted)))
 
     def test_unimplemented(self):
         rows = {it["selector"]: it for it in self.rows("code", "--unimplemented")}
         self.assertIn("uniformWindowColors", rows)
         self.assertTrue(rows["uniformWindowColors"]["senders"])
-        for selector in rows:
+        for selector in self.sample(sorted(rows), SELECTORS):
             with self.subTest(selector):
                 self.assertEqual(self.rows("implementors", selector), [])
-                break
 
     def test_unsent(self):
         rows = self.rows("code", "--unsent")
@@ -152,6 +161,7 @@ class CodeTest(SavedImageTest):
         slots = [(it["slot"], it["kind"], it["value"]) for it in shown["slots"]]
         found = [(it["slot"], it["kind"], it["value"]) for it in special["slots"]]
         self.assertEqual(found, slots)
+        self.assertEqual((special["retained"], special["dominator"]), (shown["retained"], None))
 
     def answers_about(self, *options):
         """The answers of all commands about an image, without addresses."""
