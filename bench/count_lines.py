@@ -54,15 +54,17 @@ def print_row(name, counts):
     print(f"| {name} | " + " | ".join(map(str, counts)) + " |")
 
 
-def main():
+def main(with_crates=True):
+    """Prints a row for each group of crates and for all, before them one for each crate if asked."""
     groups = groups_of((ROOT / "crates.txt").read_text(encoding="utf-8").splitlines())
-    print("| crate | " + " | ".join(COLUMNS) + " |")
+    print("| crates | " + " | ".join(COLUMNS) + " |")
     print("|---|" + "---:|" * len(COLUMNS))
     sums = {}
     for group, names in groups.items():
         rows = {name: counts_of(ROOT / "crates" / name) for name in names}
-        for name, counts in rows.items():
-            print_row(f"`{name}`", counts)
+        if with_crates:
+            for name, counts in rows.items():
+                print_row(f"`{name}`", counts)
         sums[group] = sums_of(rows.values())
     for group, counts in sums.items():
         print_row(f"{len(groups[group])} crates: {group}", counts)

@@ -30,7 +30,7 @@ class Table(typing.NamedTuple):
 
 def print_lines(_options, _folder):
     """Prints the lines of each crate."""
-    count_lines.main()
+    count_lines.main(with_crates=False)
     print(flush=True)
 
 
