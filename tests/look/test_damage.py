@@ -40,6 +40,8 @@ REST, EACH_WORD = 64 << 20, 32
 CHAIN = 4
 # Random damages of an image that Squeak saved.
 SAVED_DAMAGES = int(os.environ.get("SQZ_DAMAGES", "8"))
+# How many objects to which slots lead the wrong size of another one must cover to be rejected.
+LEAST_COVERED = 5
 # The maximum number of words that `mend --nil` lists.
 MOST_WORDS = 20
 # Where words of that image are lost, in percent of its data, and the bases to which it is moved.
@@ -521,7 +523,8 @@ class SavedDamageTest(SavedImageTest):
 
     def assert_keeps(self, image, repaired, damaged):
         """Checks which words of an image were changed by its damage and its repair, and that each
-        object without a damaged word is an object, or was freed."""
+        object without a damaged word is an object, or was freed. A damaged header may state a size
+        that covers a few objects: then these may be lost."""
         nil = image.address(image.objects[image.field(image.special, SpecialField.NIL)])
         freed = set()
         for place, (old, new) in enumerate(zip(image.words, repaired.words)):
@@ -529,9 +532,14 @@ class SavedDamageTest(SavedImageTest):
                 self.assertEqual(new & 3, FREE)
                 freed.update(range(place, place + (new >> 2)))
         found = {(it.first, it.end) for it in repaired.objects}
-        for it in image.objects:
-            if it.end <= damaged.start or damaged.stop <= it.first:
-                self.assertTrue((it.first, it.end) in found or it.first in freed)
+        undamaged = (
+            it for it in image.objects if it.end <= damaged.start or damaged.stop <= it.first
+        )
+        lost = [it for it in undamaged if (it.first, it.end) not in found and it.first not in freed]
+        covered = max((it.end for it in repaired.objects if it.first in damaged), default=0)
+        self.assertLess(len(lost), LEAST_COVERED)
+        for it in lost:
+            self.assertTrue(damaged.start < it.first and it.end <= covered)
 
     def test_check_says_how_much_can_be_read(self):
         damages = self.damages()
