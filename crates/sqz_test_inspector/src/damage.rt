@@ -186,9 +186,10 @@ fn gaps_of_words(rt: HostRuntime) -> Result<(), Fail> {
     Ok(())
 }
 
-/// The index of a word of `CHAIN`, and the word before which it is found to be lost without it. The
-/// objects after that one are 18, 16, 15 and none.
-const LOST: &[(usize, Option<WordIndex>)] = &[(1, Some(3)), (5, Some(7)), (7, None), (39, None)];
+/// The index of a word of `CHAIN`, a slot, and the word before which it is found to be lost. The
+/// object of the slot covers the next header, so the slot of the next object is lost, too, and nothing
+/// leads to the one after it. From the next one on, 17, 16, 15 and no objects move.
+const LOST: &[(usize, Option<WordIndex>)] = &[(1, Some(5)), (3, Some(7)), (5, None), (39, None)];
 
 /// The word before which one word was lost of `CHAIN` without the word at this index.
 fn loss_without(alloc: Global, lost: usize) -> Result<Option<WordIndex>, AllocError> {
