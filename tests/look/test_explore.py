@@ -23,6 +23,7 @@ from tests.reference.answers import Answers
 from tests.reference.bytecodes import instructions, method_parts
 from tests.reference.explored import Explored, data_of
 from tests.reference.image import Image
+from tests.reference.values import preview
 
 # A page is at most this many times as large as the image.
 MOST_TIMES = 5
@@ -30,6 +31,17 @@ MOST_TIMES = 5
 MANY = 4_000_000
 # How many objects of the known image are opened, and of how many methods the code is compared.
 OPENED, METHODS = 20, 20
+# Classes whose instances have numbers of elements, and some that have none.
+COLLECTIONS = (
+    "OrderedCollection",
+    "Set",
+    "Dictionary",
+    "MethodDictionary",
+    "WeakArray",
+    "Semaphore",
+    "MethodContext",
+    "StrikeFont",
+)
 # What the page finds in bytecodes, and what it calls the operands of the second implementation.
 DECODED = """instructionsOf(%s).map((it) => [it.start, it.bytes, it.operation, it.operand ?? null,
   it.index ?? null, it.distance === undefined ? null : it.end + it.distance])"""
@@ -307,6 +319,23 @@ class KnownPageTest(BrowserTest, KnownImageTest):
         its.sort(key=lambda it: (-retained[it], it))
         found = [(row[0], number_in(row[3])) for row in self.page.cells("instances")]
         self.assertEqual(found, [(self.names.address(it), retained[it]) for it in its])
+
+    def test_previews(self):
+        """They are those of `list`, or else say how large an object is."""
+        kept = re.compile(r"[\d,]+ (field|byte)s?")
+        for name in COLLECTIONS:
+            with self.subTest(name):
+                a_class = self.names.class_named(name)
+                self.page.go(f"#class/{self.explored.at(a_class)}")
+                found = {row[0]: row[1] for row in self.page.cells("instances")}
+                for number in self.answers.live:
+                    if self.names.class_of(number) == a_class:
+                        wanted = preview(self.names, number)
+                        shown = found[self.names.address(number)]
+                        if wanted is None:
+                            self.assertRegex(shown, kept)
+                        else:
+                            self.assertEqual(shown.replace(",", ""), wanted.replace(",", ""))
 
     def test_objects(self):
         for number in self.sample(self.answers.live, OPENED):

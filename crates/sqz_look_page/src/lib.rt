@@ -34,7 +34,7 @@ pub const PAGE: &str = r##"<!doctype html>
      this script and this style alone; `bench/embed_page.py` writes their hashes. -->
 <html lang="en">
 <meta charset="utf-8">
-<meta http-equiv="Content-Security-Policy" content="default-src 'none'; script-src 'sha256-h25UGKPjopYyrB3Ii5yktmZ19omC9y9Pd8IN8UUWYSg='; style-src 'sha256-/6Bftxg8H9DUth6S6gj580ZHsEOAI+VOjPm9wApGmBI='; base-uri 'none'; form-action 'none'">
+<meta http-equiv="Content-Security-Policy" content="default-src 'none'; script-src 'sha256-kOhl7VqJsGDnn7jkKTD1Yh/juFtT/tVKRBVzNnw3zjk='; style-src 'sha256-/6Bftxg8H9DUth6S6gj580ZHsEOAI+VOjPm9wApGmBI='; base-uri 'none'; form-action 'none'">
 <meta name="viewport" content="width=device-width, initial-scale=1">
 <meta name="color-scheme" content="light dark">
 <title>Squeak image</title>
@@ -249,10 +249,38 @@ function rowAtAddress(address) {
   return Number.isInteger(place) && place >= 0 ? rowOf(place) : -1;
 }
 
+/** Returns the SmallInteger in a field of an object, or null. */
+function integerIn(row, field) {
+  const at = image.first.all[row] + field;
+  if (at >= fieldsEnd(row) || image.bad.has(at) || !isInteger(image.fields.all[at])) return null;
+  return (image.fields.all[at] - 1) / 2;
+}
+
+/** Returns how many elements a collection states that keeps them in `array`, or null. */
+function statedCount(row, names) {
+  if (!names?.includes("array")) return null;
+  const [tally, first, last] = ["tally", "firstIndex", "lastIndex"]
+    .map((it) => names.indexOf(it)).map((field) => (field < 0 ? null : integerIn(row, field)));
+  const number = names.includes("tally") ? tally
+    : first === null || last === null ? null : last - first + 1;
+  return number !== null && number >= 0 ? number : null;
+}
+
+/** Returns how many elements an object has, as `list` counts them, or null. */
+function elementsOf(row) {
+  const { format, words } = headerOf(row), names = classOf(row)?.variables;
+  if (format > 4) return null;
+  const stated = statedCount(row, names), fields = image.bytes.all[row] / 4 - words;
+  if (stated !== null || format < 2) return stated;
+  return format === 2 ? fields : names && fields >= names.length ? fields - names.length : null;
+}
+
 /** Returns what an object is in a few words, next to its class. */
 function previewOf(row) {
   if (image.values[row] !== null) return image.values[row];
   if (image.labels[row] !== null) return image.labels[row];
+  const elements = elementsOf(row);
+  if (elements !== null) return counted(elements, "element");
   const { format, words } = headerOf(row), size = image.bytes.all[row] / 4 - words;
   return format < 5 ? counted(size, "field") : counted(4 * size, "byte");
 }
