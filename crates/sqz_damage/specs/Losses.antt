@@ -1,5 +1,5 @@
--- Where data words were lost: before the object from which on slots lead to the objects only if the
--- words were there.
+-- Where data words were lost: slots lead to the objects before this place as they are, and to those
+-- after it only if the words are put back.
 use Rattle.std.specs.Prelude.{◌≡◌, ℕ, ◌+◌, ◌*◌, ◌<◌, ◌≤◌, Bool, ◌||◌, if◌then◌else◌, List, [], ◌∷◌, ◌++◌, length, drop, Option, Some, None}
 use Rattle.std.specs.List.{flat_map}
 use Rattle.sqz_object.specs.Chunk.{is_object, before}
@@ -16,8 +16,8 @@ has_either_vote base lost voters k = has_vote base voters k || has_vote base vot
 abbrev pub either_votes : ℕ → ℕ → List ℕ → ℕ → ℕ
 either_votes base lost voters k = if has_either_vote base lost voters k then 1 else 0
 
--- the object of a part that begins at word `first`, and whether it has a vote, by a function that says
--- so of each word
+-- the object of a part that begins at word `first`, and whether it has a vote where it is, and if
+-- words were lost before it; `has` says which words have a vote
 abbrev pub fits_at : (ℕ → Bool) → ℕ → ℕ → Part → List Fit
 fits_at has lost first (Chunk words) =
     if is_object words

@@ -14,12 +14,12 @@ use std::alloc::{AllocError, Global};
 /// the first data word. None if it is not clear where they were lost, as if they were the last ones.
 ///
 /// Where chunks lie does not depend on addresses. So the data are read twice, as `gaps_of` reads
-/// them, but an address is a vote for two words: that which has it if the words were lost later,
-/// and that which has it if they were lost before. Each object of the second reading fits where it
-/// is, or only if the words were lost before it, or neither, by the slots of the first reading.
-/// The words were lost before the object for which most objects fit, the last such one. That is
-/// clear if at least 16 objects more fit than if nothing was lost before any, and if more than half
-/// of the objects from there on fit.
+/// them, but an address is a vote for two words: the one at the address if the words were lost
+/// after it, and the one at the address if they were lost before it. Slots of the first reading
+/// lead to an object of the second one where it is, or only if the words were lost before it, or
+/// not at all. The words were lost before the object for which slots lead to most objects, the last
+/// such one. That is clear if slots then lead to at least 16 objects more than if the words were
+/// lost at the end, and to more than half of the objects from there on.
 ///
 /// Fails only if out of memory.
 pub fn loss_in(

@@ -1,7 +1,6 @@
 -- What stays of bytes of which some were written anew.
--- Serves `mend`, `fill`, `mend_file`, `restored` and `gaps_if_any`.
-use Rattle.std.proofs.Common.{◌≡◌, ◌∙◌, ℕ, ◌+◌, ◌-◌, ◌≤◌, List, take, drop, Result, Ok, Err, sym, ap, subst, arith}
-use Rattle.std.specs.Prelude.{IfOk}
+-- Serves `mend`, `fill` and `mend_file`.
+use Rattle.std.proofs.Common.{◌≡◌, ◌∙◌, ℕ, ◌+◌, ◌-◌, ◌≤◌, List, take, drop, sym, ap, subst, arith}
 use Rattle.std.proofs.lemmas.List.{take-take, drop-take, drop-drop}
 use Rattle.sqz_image.specs.declared.header.Header.{Header}
 use Rattle.sqz_trace.specs.declared.weak.Weak.{Weak}
@@ -52,9 +51,3 @@ IsMendedFile-damaged weak file header mended has unsound is =
       };
       read_as = subst (λ (h : Header). AreReadAs file h mended.damage mended.bytes.items) (sym is.header_is) is.read_as;
     }
-
--- ---- what follows from a result
-
-pub IfOk-map : {A E : Type 0} (P Q : A → Type 0) (result : Result A E) → ((x : A) → P x → Q x) → IfOk result P → IfOk result Q
-IfOk-map P Q (Ok x) to is = to x is
-IfOk-map P Q (Err e) to is = tt

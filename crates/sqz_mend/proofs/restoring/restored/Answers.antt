@@ -4,7 +4,7 @@ use Rattle.sqz_image.specs.File.{IsHeader, header_offset}
 use Rattle.sqz_mend.specs.Damaged.{HasSoundWords, IsPlaceOfLoss, words_there}
 use Rattle.sqz_mend.proofs.DataLemmas.{IsPlaceOfLoss-within}
 use Rattle.sqz_mend.proofs.HeaderLemmas.{IsHeader-other}
-use Rattle.sqz_mend.proofs.MendLemmas.{IfOk-map}
+use Rattle.std.proofs.lemmas.Result.{IfOk-weaker}
 use Rattle.sqz_mend.proofs.restoring.restored.Goals as goal
 use Rattle.sqz_mend.proofs.restoring.restored.Goals.{After-deref-2}
 
@@ -52,6 +52,6 @@ sound_still c zeros =
 pub returns-clause-sound : goal.returns-clause-sound
 returns-clause-sound c =
     let at = (goal.at.returns-clause-sound c).After-deref-2 in
-    IfOk-map _ _ c.with_zeros.result
+    IfOk-weaker c.with_zeros.result _ _
     (λ bytes is. subst (λ (b : List ℕ). HasSoundWords b c.args.header.now) (sym is) (sound_still at (replicate c.args.missing 0)))
     c.with_zeros.ensures
