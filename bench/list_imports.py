@@ -39,7 +39,6 @@ PROMISES = {
     "`why`": ["sqz_answers/Why"],
     "`refs`": ["sqz_answers/References"],
     "`top`": ["sqz_answers/TopRows"],
-    "`top --by`": ["sqz_answers/GroupedRows"],
     "`diff`: alike": ["sqz_alike/Alike"],
     "`diff`: the first objects": ["sqz_alike/FirstDifference"],
     "`diff`: the exit": ["sqz_look_cli/Comparison"],

@@ -11,9 +11,9 @@ _sqzlook() {
     show | refs | diff | senders | implementors | stacks | find) options+=' --all' ;;
     code) options+=' --all --classes --unsent --unimplemented' ;;
     list) options+=' --all --by --dead' ;;
-    census) options+=' --all --dead --retained' ;;
+    census) options+=' --all --by --dead --retained' ;;
     why) options+=' --all --raw' ;;
-    top) options+=' --by --depth --min --folded' ;;
+    top) options+=' --depth --min --folded' ;;
     explore) options+=' --min' ;;
   esac
   if [[ $word == -* ]]; then

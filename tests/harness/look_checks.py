@@ -61,9 +61,20 @@ class Asking:
             self.question("info", rows=[answers.info(path)]),
             self.question("census", rows=answers.census(path)),
             self.question("census", "--dead", rows=answers.census(path, dead=True)),
+            *self.by_category(),
             self.question("digest", rows=[{"image": path, "digest": digest_of(answers)}]),
             self.question("stacks", rows=Stacks(answers.names).rows()),
             self.question("find", PATTERN, rows=find(answers, PATTERN.encode())),
+        ]
+
+    def by_category(self):
+        """What `census --by category` prints about the live and the dead objects."""
+        by = ("--by", "category")
+        return [
+            self.question("census", *by, rows=self.answers.category_census(self.path)),
+            self.question(
+                "census", *by, "--dead", rows=self.answers.category_census(self.path, dead=True)
+            ),
         ]
 
     def of_retained(self):

@@ -3,7 +3,7 @@
 import json
 import re
 
-from tests.harness.json_rows import rows_of
+from tests.harness.json_rows import difference, rows_of
 from tests.harness.outcomes import Outcome
 from tests.harness.look_checks import LookTest
 from tests.harness.saved_image import SavedImageTest
@@ -18,6 +18,7 @@ from tests.reference.file_format import HEADER_WORDS, PREFIX, words_of
 from tests.reference.names import SYMBOLS, Names
 from tests.reference.objects import ZERO, Format, format_of, has_bytes, is_method
 from tests.reference.senders import Senders
+from tests.reference.values import method_of
 
 # The number of methods whose instructions are compared, and of selectors that nobody implements.
 METHODS, SELECTORS = 200, 20
@@ -49,6 +50,7 @@ class CodeTest(SavedImageTest):
         literals, code = method_parts(self.image, number)
         start = 4 * (literals + 1) + 1
         self.assertEqual((row["address"], len(row["literals"])), (address, literals))
+        self.assertIsNone(difference(row["header"], method_of(self.image, number)))
         wanted, found = list(instructions(code)), row["instructions"]
         self.assertEqual(len(found), len(wanted))
         for one, it in zip(found, wanted):
@@ -74,7 +76,8 @@ class CodeTest(SavedImageTest):
     def test_method(self):
         text = self.look("code", "in.image", "Point>>+").stdout.decode()
         self.assertTrue(text.startswith("Point>>+ "))
-        self.assertIn("1 argument, ", text)
+        said = r"\n\d+ temporar(y|ies), 1 of them arguments, \d+ literals?, primitive \d+\n"
+        self.assertRegex(text, said)
         self.assertIn("push temp 0", text)
         self.assertIn("send #", text)
 

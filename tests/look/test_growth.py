@@ -47,7 +47,7 @@ def lines_about(it):
     lines = [("check", "--all"), ("check", "--strict"), ("info",), ("top", "--min", "0")]
     lines += [("code", "--all"), ("code", "--unsent"), ("code", "--unimplemented")]
     lines += [("stacks",), ("dump",), ("explore",)]
-    lines += [("census", "--dead"), ("census", "--retained")]
+    lines += [("census", "--dead"), ("census", "--retained"), ("census", "--by", "category")]
     lines += [("top", *form) for form in (("--json",), ("--folded", "--min", "0"))]
     lines += [("show", "--json"), ("why", "--raw")]
     lines = [(*line, NAME, *((first,) if line[0] in ("show", "why") else ())) for line in lines]

@@ -23,7 +23,9 @@ class LookArgumentsTest(DeadArrayTest):
             "no object": ("show", "in"),
             "no class": ("list", "in"),
             "no order": ("list", "--by", "name", "in", "Point"),
-            "no group": ("top", "--by", "retained", "in"),
+            "no group": ("census", "--by", "retained", "in"),
+            "what categories retain": ("census", "--by", "category", "--retained", "in"),
+            "a tree of groups": ("top", "--by", "class", "in"),
         }.items():
             with self.subTest(name):
                 outcome = self.look(*words)

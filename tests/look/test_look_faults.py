@@ -23,6 +23,7 @@ QUESTIONS = (
     CHECK,
     ("info", "accepted/dead_cycle.image"),
     ("census", "accepted/class_names.image", "--json"),
+    ("census", "accepted/class_names.image", "--by", "category"),
     ("list", "accepted/class_names.image", "00001004"),
     ("show", "accepted/context_stack.image", "0000101c"),
     ("show", "accepted/class_names.image", "00001024", "--json"),

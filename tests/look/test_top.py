@@ -24,7 +24,6 @@ from tests.making.named_image import NamedImage
 from tests.making.random_images import random_files
 from tests.making.seed import SEED
 from tests.reference.answers import Answers
-from tests.reference.grouped import CATEGORY, CLASS, GroupedTree
 from tests.reference.image import Image
 from tests.reference.tree import Tree, percent
 
@@ -38,7 +37,6 @@ SHAPES = (
     Shape(3, "100"),
     Shape(100, "0.000001"),
 )
-GROUP_SHAPES = USUAL, Shape(100, "0"), Shape(least="12.5")
 # The shapes of trees from other objects, and how many objects they are asked about.
 OBJECT_SHAPES = (USUAL, Shape(1, "0"), Shape(least="12.5"))
 SMALL_OBJECTS, REAL_OBJECTS = 4, 20
@@ -57,15 +55,6 @@ def trees_of(files):
         Asked(Tree(Answers(Image.read(file)[0], options == CLEAR)), path, options)
         for path, file in files.items()
         for options in ((), CLEAR)
-    ]
-
-
-def grouped(trees):
-    """The same trees with their objects in groups of each kind."""
-    return [
-        it._replace(tree=GroupedTree(it.tree, by), options=(*it.options, "--by", by))
-        for it in trees
-        for by in (CLASS, CATEGORY)
     ]
 
 
@@ -136,11 +125,6 @@ class SmallImagesTest(TopTest):
 
     def test_image_with_names(self):
         self.check_trees(self.write_all({NAME: named_file()}), SHAPES)
-
-    def test_groups(self):
-        self.check_trees(grouped(trees_of(readable_files())), GROUP_SHAPES, folder=IMAGES)
-        self.check_trees(grouped(self.write_all(random_files())), GROUP_SHAPES)
-        self.check_trees(grouped(self.write_all({NAME: named_file()})), GROUP_SHAPES)
 
     def check_objects(self, trees, folder=None):
         """Asks for the trees from some live objects of each image."""

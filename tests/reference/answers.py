@@ -3,6 +3,7 @@
 import functools
 import typing
 
+from tests.reference.categories import Categories
 from tests.reference.faults import Defects
 from tests.reference.fields import SPECIAL_NAMES, AssociationField
 from tests.reference.names import Names, escaped
@@ -10,6 +11,9 @@ from tests.reference.objects import Format, compact_index, format_of, has_bytes,
 from tests.reference.reachability import Reachability
 from tests.reference.repair import repair_row
 from tests.reference.values import method_of, preview, signed, value_of
+
+# What stands for the category of objects whose class has none.
+NO_CATEGORY = "no category"
 
 
 class Group(typing.NamedTuple):
@@ -36,6 +40,7 @@ class Answers:
         self.reach = Reachability(image, clear_weak)
         self.live = sorted(self.reach.found)
         self.names = Names(image, self.reach.found, clear_weak)
+        self.categories = Categories(self.names)
 
     @functools.cached_property
     def defects(self):
@@ -123,13 +128,36 @@ class Answers:
     def live_groups(self):
         return self.groups(self.live)
 
+    def counted(self, dead=False):
+        """The live or the dead objects."""
+        numbers = range(len(self.image.objects))
+        return [number for number in numbers if self.is_live(number) != dead]
+
     def census(self, path, dead=False):
         """The class histogram of the live or the dead objects."""
-        numbers = range(len(self.image.objects))
-        chosen = [number for number in numbers if self.is_live(number) != dead]
+        chosen = self.counted(dead)
         groups = self.groups(chosen)
         rows = [self.census_row(group, groups[group]) for group in self.by_size(groups)]
         return [{"image": path, **row} for row in (*rows, self.census_row(None, chosen))]
+
+    def category_census(self, path, dead=False):
+        """The sums of the class histogram by category."""
+        chosen, categories = self.counted(dead), {}
+        for number in chosen:
+            categories.setdefault(self.category_of(self.group_of(number)), []).append(number)
+        rows = [self.category_row(name, its) for name, its in sorted(categories.items())]
+        rows.sort(key=lambda row: -row["bytes"])
+        return [{"image": path, **row} for row in (*rows, self.category_row(None, chosen))]
+
+    def category_of(self, group):
+        """The category of the class of a group, as a row has it."""
+        category = None if group.a_class is None else self.categories.of_class(group.a_class)
+        return NO_CATEGORY if category is None else category
+
+    def category_row(self, name, numbers):
+        """The row of the objects of a category, or of all."""
+        groups, size = self.groups(numbers), self.reach.bytes_of(numbers)
+        return {"category": name, "classes": len(groups), "objects": len(numbers), "bytes": size}
 
     def by_size(self, groups):
         """These groups in the order of a class histogram."""
@@ -151,13 +179,19 @@ class Answers:
 
     def census_row(self, group, numbers):
         """The row of the objects of a group, or of all."""
-        name, address = None, None
+        name, address, category = None, None, None
         if group is not None and group.a_class is None:
             name = f"compact {group.compact}"
         elif group is not None:
             name, address = self.names.name(group.a_class), self.names.address(group.a_class)
-        size = self.reach.bytes_of(numbers)
-        return {"class": name, "address": address, "objects": len(numbers), "bytes": size}
+            category = self.categories.of_class(group.a_class)
+        return {
+            "class": name,
+            "address": address,
+            "category": category,
+            "objects": len(numbers),
+            "bytes": self.reach.bytes_of(numbers),
+        }
 
     def list(self, group, by="retained"):
         """The live objects of a group."""

@@ -7,10 +7,11 @@ import re
 import typing
 
 from tests.reference.alike import first_difference
-from tests.reference.fields import AssociationField, ClassField, OrganizerField
+from tests.reference.categories import Categories
+from tests.reference.fields import AssociationField, ClassField
 from tests.reference.file_format import bytes_of
 from tests.reference.literals import Literals
-from tests.reference.names import STRINGS, SYMBOLS, escaped
+from tests.reference.names import escaped
 from tests.reference.objects import Format, format_of, traced_end
 from tests.reference.partners import Partners
 from tests.reference.tree import Tree
@@ -24,8 +25,6 @@ HALF = 10
 LONGEST = 80
 # The parts of the definition of a class.
 PARTS = "superclass", "instance_variables", "category"
-# The global variable that lists the classes of each category.
-ORGANIZATION = b"SystemOrganization"
 # Names that are printed without quotes.
 PLAIN = re.compile(r"(?!none\Z)\w+", re.ASCII)
 # A last byte of at least this says that the last four bytes of a method are a source pointer.
@@ -126,6 +125,7 @@ class Side:
         self.tree, self.answers, self.names = tree, tree.answers, tree.names
         self.image = self.answers.image
         self.literals = Literals(self.image, self.names)
+        self.categories = Categories(self.names)
 
     @classmethod
     def of(cls, answers):
@@ -175,48 +175,10 @@ class Side:
             parts = (
                 self.name(superclass) if superclass in classes else "nil",
                 tuple(None if it is None else self.text(it) for it in its),
-                self.categories.get(names.target(a_class, ClassField.NAME)),
+                self.categories.whole(a_class),
             )
             found[self.name(a_class)].append(parts)
         return dict(found)
-
-    @functools.cached_property
-    def categories(self):
-        """The text of the category of each listed name of a class."""
-        return {
-            name: None if category is None else self.text(category)
-            for name, category in self.category_objects.items()
-        }
-
-    @functools.cached_property
-    def category_objects(self):
-        """The category of each listed name of a class, if it is a string or a symbol."""
-        names, found = self.names, {}
-        organizers = [
-            number
-            for number, it in sorted(self.tree.variables.items())
-            if it.a_class is None
-            and self.image.text(names.target(number, AssociationField.KEY)) == ORGANIZATION
-        ]
-        organizer = names.target(organizers[0], AssociationField.VALUE) if organizers else None
-        arrays = [names.target(organizer, field) for field in OrganizerField]
-        if None in arrays[1:]:
-            return {}
-        categories = [] if arrays[0] is None else names.fields(arrays[0])
-        it = self.image.objects[arrays[1]]
-        ends = iter(enumerate(self.image.words[it.base + 1 : it.end]))
-        place, end = 0, 0
-        for at, listed in enumerate(names.fields(arrays[2])):
-            while end <= at:
-                place, word = next(ends, (None, 0))
-                if not word & 1:
-                    return found
-                end = signed(word)
-            if listed is not None and listed not in found:
-                category = categories[place] if place < len(categories) else None
-                is_text = category is not None and names.class_name(category) in STRINGS + SYMBOLS
-                found[listed] = category if is_text else None
-        return found
 
     @functools.cached_property
     def classes(self):

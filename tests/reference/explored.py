@@ -1,15 +1,14 @@
 """What `sqzlook explore` must write about an image, block by block."""
 
-import functools
 import json
 
 from tests.reference.bytecodes import method_parts
-from tests.reference.changes import Side
-from tests.reference.fields import SPECIAL_NAMES, ClassField
-from tests.reference.names import escaped, shortened
+from tests.reference.categories import Categories
+from tests.reference.fields import SPECIAL_NAMES
+from tests.reference.names import escaped
 from tests.reference.objects import compact_index, format_of, has_bytes, is_method, traced_end
 from tests.reference.tree import Tree
-from tests.reference.values import signed, value_of
+from tests.reference.values import element_count, signed, value_of
 
 
 class Explored:
@@ -20,7 +19,7 @@ class Explored:
         self.answers, self.names, self.image = answers, answers.names, answers.image
         self.least = least
         self.tree, self.clear_weak = Tree(answers), answers.clear_weak
-        self.categories = Side(self.tree).category_objects
+        self.categories = Categories(self.names)
         self.shown = [it for it in answers.live if self.tree.retained[it] >= least]
 
     def at(self, number):
@@ -77,16 +76,11 @@ class Explored:
         sums = [len(numbers), self.answers.reach.bytes_of(numbers), retained]
         if group.a_class is None:
             return [self.key_of(group), f"compact {group.compact}", 0, *sums, 0]
-        name = self.names.target(group.a_class, ClassField.NAME)
-        category = self.categories.get(name)
-        text = 0 if category is None else self.text(category)
+        category = self.categories.of_class(group.a_class)
+        text = 0 if category is None else category
         variables = self.names.variables_of(group.a_class)
         known = 0 if variables is None else variables
         return [self.key_of(group), self.names.name(group.a_class), text, *sums, known]
-
-    def text(self, number):
-        """The text of a category."""
-        return shortened(self.image.text(number))
 
     def objects(self):
         """A row for each object that is shown, by address."""
@@ -104,10 +98,18 @@ class Explored:
             self.key_of(self.answers.group_of(number)),
             bits | compact_index(header) << 4 | format_of(header),
             self.names.label(number) if self.names.has_name(number) else 0,
-            value_of(self.names, number) or 0,
+            self.value(number),
             self.contents(number),
             *self.slots(number),
         ]
+
+    def value(self, number):
+        """The value of a number or a character; of a collection one more than its elements."""
+        value = value_of(self.names, number)
+        if value is not None:
+            return value
+        count = element_count(self.names, number)
+        return 0 if count is None else count + 1
 
     def contents(self, number):
         """The bytes of a byte object as text; the bytecodes and the class of a method."""

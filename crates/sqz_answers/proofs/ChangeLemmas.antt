@@ -12,7 +12,7 @@ use Rattle.std.specs.List.Sorted.{IsStrictlySortedBy}
 use Rattle.std.specs.String.{string_cmp}
 use Rattle.std.proofs.lemmas.Bool.Decides.{same_from_decides}
 use Rattle.std.proofs.lemmas.List.{append-nil, append_assoc, get_or-map, length-map, map-append}
-use Rattle.std.proofs.lemmas.List.Elements.{All-nil, All-push}
+use Rattle.std.proofs.lemmas.List.Elements.{All-push}
 use Rattle.std.proofs.lemmas.List.Kept.{AllPairs-filter}
 use Rattle.std.proofs.lemmas.List.Folds.{Any-from_list_any}
 use Rattle.std.proofs.lemmas.Map.Keys.{Less-from_sorted}
@@ -107,9 +107,6 @@ AllPairs-texts (first ∷ others) sorted i j d lt inside =
     (Less-from_sorted string_cmp names i j first sorted lt there)
 
 module _ {V : Type 0} (same : V → V → Bool) (old new : BTreeMap (String Global) V) (names : List (String Global)) where
-  pub IsListing-none : IsListing same old new names names []
-  IsListing-none = record { each = All-nil (IsChange same old new); listed = refl }
-
   module _ (left rest : List (String Global)) (changes : List (Change V)) (name : String Global) (left_is : left ≡ name ∷ rest)
       (is : IsListing same old new names left changes) where
     pub IsListing-no : differs same old new (string_bytes name) ≡ false → IsListing same old new names rest changes

@@ -15,8 +15,3 @@ pub mod SizeLemmas
 pub mod OutermostLemmas
 pub mod TogetherLemmas
 pub mod GroupCountLemmas
-pub mod KeyedLemmas
-pub mod GroupSumLemmas
-pub mod GroupedRowLemmas
-pub mod GroupedSumLemmas
-pub mod GroupedRowSumLemmas

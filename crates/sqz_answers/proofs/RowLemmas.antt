@@ -91,17 +91,6 @@ module _ (top : TopTree) (place : Place) (level : Level) (is : IsLevelOf top pla
   abbrev row : ℕ → TopRow
   row apart = object_row top.dominators.now top.parts.now place.depth place.parent place.object level.own apart
 
-  -- a row at the greatest depth
-  pub AddsRows-deepest : (new : List TopRow) → place.depth ≡ top.limits.depth
-      → new ≡ old ++ row (retained_bytes top.dominators.now place.object) ∷ [] → AddsRows top place old new
-  AddsRows-deepest new deepest added =
-      let none_left : top.limits.depth - place.depth ≡ 0 = omega arith in
-      record {
-        rows = row (retained_bytes top.dominators.now place.object) ∷ [];
-        are = rw none_left (record { own = level.own; below = level.below.items; level = is.is; are = refl });
-        added = added;
-      }
-
   -- a row with the rows below it
   pub AddsRows-inner : (first shown new : List TopRow) → place.depth < top.limits.depth
       → first ≡ old ++ row level.own ∷ [] → AddsBelow top place first shown level.below.items

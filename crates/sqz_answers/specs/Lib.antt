@@ -20,5 +20,3 @@ pub mod Together
 pub mod RetainedHistograms
 pub mod GroupCounts
 pub mod Smaller
-pub mod GroupedRows
-pub mod KeyedTrees

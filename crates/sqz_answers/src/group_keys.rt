@@ -17,7 +17,7 @@ pub(crate) const COMPACT_INDEXES: u32 = 32;
 
 /// Returns the number of the group of each object, by object index: the index of its class; for an
 /// object without a class, the number of objects plus its compact index.
-pub fn class_keys(alloc: Global, graph: ObjectGraph<'_>) -> Result<Vec<u32>, AllocError>
+pub(crate) fn class_keys(alloc: Global, graph: ObjectGraph<'_>) -> Result<Vec<u32>, AllocError>
     ensures keys { IfOk result (λ keys.
         AreGroupKeys graph.entry.heap.now graph.entry.weak keys.items) }
     ensures inside { IfOk result (λ keys.

@@ -4,100 +4,49 @@ ghost use Rattle.std.specs.Prelude.{All};
 ghost use Rattle.sqz_image.specs.Objects.{object_count};
 ghost use Rattle.sqz_histogram.specs.Groups.{IsInside};
 
-use serde::Serialize;
+use crate::category_sums::{CategorySum, category_sums};
 use sqz_answers::{Histogram, dead_histogram, live_histogram, retained_histogram};
 use sqz_histogram::{Group, GroupTotal};
 use sqz_image::Sink;
-use sqz_look_view::{Hex, Out, PrintError, Subject, write_amount};
+use sqz_look_args::Grouping;
+use sqz_look_view::{Categories, Inspector, Out, PrintError, field_of};
+use sqz_names::fields::NAME;
 use std::alloc::AllocError;
-use std::fmt;
 use std::thread::Threads;
 
-/// The line above a class histogram, in the text form.
+/// The line above a class histogram, in the text form. The columns are those that
+/// `sqzcompact --census` prints, and one for the addresses of the classes.
 const HEADING: &str = "   objects        bytes address  class";
+
+/// The line above the sums of a class histogram by category, in the text form.
+const CATEGORY_HEADING: &str = "   objects        bytes   classes  category";
 
 /// The line above a class histogram with what the instances of each class retain.
 const RETAINED_HEADING: &str = "   objects        bytes     retained address  class";
 
-/// A row of the class histogram of an image. The totals have no class.
-#[derive(Drop, Serialize)]
-struct GroupView<'a> {
-    image: &'a str,
-    class: Option<String>,
-    address: Option<Hex>,
-    objects: u32,
-    bytes: u64,
-    /// What the objects retain, if it is asked for.
-    #[serde(skip_serializing_if = "Option::is_none")]
-    retained: Option<u64>,
-}
-
-impl<'a> GroupView<'a> {
-    /// Returns the row of a group.
-    fn of(
-        subject: &Subject<'_>,
-        image: &'a str,
-        total: GroupTotal,
-        retained: Option<u64>,
-    ) -> Result<Self, AllocError>
-        requires { IsInside (object_count subject.now.live.graph.heap.now) total.group }
-    {
-        let (class, address) = match total.group {
-            Group::Class(class) => { (subject.name_of_class(class)?, Some(subject.address(class))) }
-            Group::Compact(index) => (format!(in subject.alloc; "compact {index}")?, None),
-        };
-        Ok(GroupView {
-            image,
-            class: Some(class),
-            address,
-            objects: total.count,
-            bytes: total.bytes,
-            retained,
-        })
-    }
-
-    /// Returns the row of the totals.
-    fn total(image: &'a str, objects: u32, bytes: u64, retained: Option<u64>) -> Self {
-        GroupView {
-            image,
-            class: None,
-            address: None,
-            objects,
-            bytes,
-            retained,
-        }
-    }
-}
-
-/// The columns are those that `sqzcompact --census` prints, and one for what the objects retain.
-impl fmt::Display for GroupView<'_> {
-    fn fmt<W: fmt::Write>(&self, f: &mut fmt::Formatter<W>) -> fmt::Result {
-        let (objects, bytes) = (self.objects, self.bytes);
-        write!(f, "{objects:>10} ")?;
-        write_amount(f, bytes, 12)?;
-        f.write_str(" ")?;
-        if let Some(retained) = self.retained {
-            write_amount(f, retained, 12)?;
-            f.write_str(" ")?;
-        }
-        match (&self.class, self.address) {
-            (Some(class), Some(address)) => write!(f, "{address} {class}"),
-            (Some(class), None) => write!(f, "-------- {class}"),
-            (None, _) => f.write_str("total"),
-        }
-    }
-}
-
 /// Prints a class histogram of the live objects of the image in a file, with the addresses of the
-/// classes.
+/// classes, and to JSON their categories.
 pub fn print_census<C: Sink>(
     rt: &(impl Threads + Sync),
-    subject: &Subject<'_>,
+    inspector: &Inspector<'_>,
     path: &str,
+    by: Grouping,
     out: &mut Out<'_, C>,
 ) -> Result<(), PrintError> {
-    let histogram = live_histogram(rt, subject.alloc, &subject.live)?;
-    print_histogram(subject, path, &histogram, out)
+    let histogram = live_histogram(rt, inspector.alloc, &inspector.live)?;
+    print_histogram(inspector, path, &histogram, by, out)
+}
+
+/// Prints a class histogram of the objects that are not live, as `print_census` does.
+pub fn print_dead_census<C: Sink>(
+    rt: &(impl Threads + Sync),
+    inspector: &Inspector<'_>,
+    path: &str,
+    by: Grouping,
+    out: &mut Out<'_, C>,
+) -> Result<(), PrintError> {
+    let histogram = dead_histogram(rt, inspector.alloc, &inspector.live)?;
+    print_histogram(inspector, path, &histogram, by, out)
 }
 
 /// Prints a class histogram of the live objects, as `print_census` does, with what the instances of
@@ -105,48 +54,140 @@ pub fn print_census<C: Sink>(
 /// bytes.
 pub fn print_retained_census<C: Sink>(
     rt: &(impl Threads + Sync),
-    subject: &Subject<'_>,
+    inspector: &Inspector<'_>,
     path: &str,
     out: &mut Out<'_, C>,
 ) -> Result<(), PrintError> {
-    let histogram = retained_histogram(rt, subject.alloc, &subject.live)?;
+    let histogram = retained_histogram(rt, inspector.alloc, &inspector.live)?;
+    let categories = Categories::of_classes(inspector.alloc, &inspector.names)?;
     let rows = histogram.rows.as_slice();
-    out.text(&RETAINED_HEADING)?;
+    out.heading(RETAINED_HEADING);
     for row in &rows[..out.shown(rows.len())] {
-        let view = GroupView::of(subject, path, row.total, Some(row.retained))?;
-        out.emit(&view)?;
+        add_group(inspector, path, &categories, row.total, out);
+        out.amount("retained", row.retained);
+        out.line(match row.total.group {
+            Group::Class(_) => "{objects:>10} {bytes:>12} {retained:>12} {address} {class}",
+            Group::Compact(_) => "{objects:>10} {bytes:>12} {retained:>12} -------- {class}",
+        });
     }
-    out.rest(rows.len(), "row")?;
-    let (objects, bytes) = (histogram.objects, histogram.bytes);
-    out.emit(&GroupView::total(path, objects, bytes, Some(bytes)))
+    out.rest(rows.len(), "row");
+    add_total(path, histogram.objects, histogram.bytes, out);
+    out.amount("retained", histogram.bytes);
+    out.line("{objects:>10} {bytes:>12} {retained:>12} total");
+    out.end()
 }
 
-/// Prints a class histogram of the objects that are not live, as `print_census` does.
-pub fn print_dead_census<C: Sink>(
-    rt: &(impl Threads + Sync),
-    subject: &Subject<'_>,
+/// Prints the rows of a class histogram, or their sums by category, and the sums of all.
+fn print_histogram<C: Sink>(
+    inspector: &Inspector<'_>,
     path: &str,
+    histogram: &Histogram,
+    by: Grouping,
     out: &mut Out<'_, C>,
-) -> Result<(), PrintError> {
-    let histogram = dead_histogram(rt, subject.alloc, &subject.live)?;
-    print_histogram(subject, path, &histogram, out)
+) -> Result<(), PrintError>
+    requires { All (λ total. IsInside (object_count inspector.now.live.graph.heap.now) total.group)
+        histogram.now.totals.items }
+{
+    match by {
+        Grouping::Class => print_classes(inspector, path, histogram, out)?,
+        Grouping::Category => {
+            let sums = category_sums(inspector, &histogram.totals)?;
+            print_categories(path, histogram, &sums, out);
+        }
+    }
+    out.end()
 }
 
 /// Prints the rows of a class histogram, and their sums.
-fn print_histogram<C: Sink>(
-    subject: &Subject<'_>,
+fn print_classes<C: Sink>(
+    inspector: &Inspector<'_>,
     path: &str,
     histogram: &Histogram,
     out: &mut Out<'_, C>,
-) -> Result<(), PrintError>
-    requires { All (λ total. IsInside (object_count subject.now.live.graph.heap.now) total.group)
+) -> Result<(), AllocError>
+    requires { All (λ total. IsInside (object_count inspector.now.live.graph.heap.now) total.group)
         histogram.now.totals.items }
 {
+    let categories = Categories::of_classes(inspector.alloc, &inspector.names)?;
     let totals = histogram.totals.as_slice();
-    out.text(&HEADING)?;
+    out.heading(HEADING);
     for total in &totals[..out.shown(totals.len())] {
-        out.emit(&GroupView::of(subject, path, *total, None)?)?;
+        add_group(inspector, path, &categories, *total, out);
+        out.line(match total.group {
+            Group::Class(_) => "{objects:>10} {bytes:>12} {address} {class}",
+            Group::Compact(_) => "{objects:>10} {bytes:>12} -------- {class}",
+        });
     }
-    out.rest(totals.len(), "row")?;
-    out.emit(&GroupView::total(path, histogram.objects, histogram.bytes, None))
+    out.rest(totals.len(), "row");
+    add_total(path, histogram.objects, histogram.bytes, out);
+    out.line("{objects:>10} {bytes:>12} total");
+    Ok(())
+}
+
+/// Adds a group of objects, their number and their bytes.
+fn add_group<C: Sink>(
+    inspector: &Inspector<'_>,
+    path: &str,
+    categories: &Categories<'_, '_>,
+    total: GroupTotal,
+    out: &mut Out<'_, C>,
+)
+    requires { IsInside (object_count inspector.now.live.graph.heap.now) total.group }
+{
+    out.word("image", path);
+    match total.group {
+        Group::Class(class) => {
+            out.text("class", inspector.names.name_of_class(class));
+            out.hex("address", inspector.address(class).0);
+            match field_of(inspector, class, NAME) {
+                Some(name) if out.is_json() => out.text_or_null(
+                    "category",
+                    categories.text_of(name),
+                ),
+                _ => out.null("category"),
+            }
+        }
+        Group::Compact(index) => {
+            out.text("class", format!(in inspector.alloc; "compact {index}"));
+            out.null("address");
+            out.null("category");
+        }
+    }
+    out.number("objects", u64::from(total.count));
+    out.amount("bytes", total.bytes);
+}
+
+/// Adds how many objects and bytes there are.
+fn add_total<C: Sink>(path: &str, objects: u32, bytes: u64, out: &mut Out<'_, C>) {
+    out.word("image", path);
+    out.null("class");
+    out.null("address");
+    out.null("category");
+    out.number("objects", u64::from(objects));
+    out.amount("bytes", bytes);
+}
+
+/// Prints the sums of a class histogram by category, and of all its rows.
+fn print_categories<C: Sink>(
+    path: &str,
+    histogram: &Histogram,
+    sums: &[CategorySum],
+    out: &mut Out<'_, C>,
+) {
+    out.heading(CATEGORY_HEADING);
+    for sum in &sums[..out.shown(sums.len())] {
+        out.word("image", path);
+        out.word("category", sum.category.as_str());
+        out.number("classes", sum.classes);
+        out.number("objects", sum.objects);
+        out.amount("bytes", sum.bytes);
+        out.line("{objects:>10} {bytes:>12} {classes:>9}  {category}");
+    }
+    out.rest(sums.len(), "row");
+    out.word("image", path);
+    out.null("category");
+    out.number("classes", histogram.totals.len() as u64);
+    out.number("objects", u64::from(histogram.objects));
+    out.amount("bytes", histogram.bytes);
+    out.line("{objects:>10} {bytes:>12} {classes:>9}  total");
 }

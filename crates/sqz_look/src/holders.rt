@@ -1,7 +1,6 @@
 //! The variables that hold objects.
 
 ghost use Rattle.std.specs.Prelude.{◌<◌};
-ghost use Rattle.sqz_image.specs.Objects.{object_count};
 
 use sqz_look_view::Inspector;
 use sqz_object::ObjectIndex;
@@ -37,14 +36,7 @@ impl Holders {
     }
 
     /// Returns the label of the first variable that holds an object.
-    pub(crate) fn label_of(
-        &self,
-        inspector: &Inspector<'_>,
-        object: ObjectIndex,
-    ) -> Result<Option<String>, AllocError> {
-        match self.labels.get(&object) {
-            Some(label) => Ok(Some(String::from_str(inspector.alloc, label.as_str())?)),
-            None => Ok(None),
-        }
+    pub(crate) fn label_of(&self, object: ObjectIndex) -> Option<&str> {
+        self.labels.get(&object).map(|label| label.as_str())
     }
 }

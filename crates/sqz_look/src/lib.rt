@@ -2,23 +2,21 @@
 //! instances, what an object is, what keeps it, what points to it, and which strings match.
 #![tactic(auto)]
 
+mod category_sums;
 mod census;
 mod dump;
-mod elements;
 mod holders;
 mod list;
 mod matches;
-mod method_view;
+mod method_header;
 mod missing;
 mod near_names;
 mod path_rows;
 mod paths;
-mod preview;
 mod refs;
 mod show;
 mod slot_holders;
 mod slot_rows;
-mod weak_note;
 mod why;
 
 pub use census::{print_census, print_dead_census, print_retained_census};

@@ -1,8 +1,9 @@
 //! Messages about words that stand for nothing.
 
-ghost use Rattle.std.specs.Prelude.{◌≡◌, ◌<◌, All, None};
-ghost use Rattle.sqz_image.specs.Objects.{find, object_count};
+ghost use Rattle.std.specs.Prelude.{◌≡◌, All, None};
+ghost use Rattle.sqz_image.specs.Objects.{find};
 ghost use Rattle.sqz_words.specs.Found.{IsMissing};
+ghost use Rattle.sqz_look_view.specs.Inspectors.{IsObjectOf};
 
 use crate::near_names::{near_classes, near_names};
 use sqz_facts::{Site, site_of};
@@ -68,7 +69,7 @@ fn no_object_at(inspector: &Inspector<'_>, address: Address) -> Result<String, A
 
 /// Returns the address of an object and the name of its class.
 fn address_and_class(inspector: &Inspector<'_>, object: ObjectIndex) -> Result<String, AllocError>
-    requires { object < object_count inspector.now.live.graph.heap.now }
+    requires { IsObjectOf inspector.now object }
 {
     let address = inspector.address(object);
     let class = inspector.names.name_of_class_of(object)?;
@@ -82,7 +83,7 @@ fn ambiguous(
     name: &str,
     objects: &[ObjectIndex],
 ) -> Result<String, AllocError>
-    requires { All (λ object. object < object_count inspector.now.live.graph.heap.now) objects.now }
+    requires { All (λ object. IsObjectOf inspector.now object) objects.now }
 {
     let mut message = format!(in inspector.alloc; "{name} is ambiguous")?;
     let mut count = 0;

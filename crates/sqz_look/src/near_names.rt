@@ -1,7 +1,6 @@
 //! Names that are near to words that name nothing.
 
-ghost use Rattle.std.specs.Prelude.{◌<◌};
-ghost use Rattle.sqz_image.specs.Objects.{object_count};
+ghost use Rattle.sqz_look_view.specs.Inspectors.{IsObjectOf};
 
 use sqz_look_view::Inspector;
 use sqz_names::Label;
@@ -79,7 +78,7 @@ impl NearNames {
 
     /// Adds the name of a class if it is near.
     fn add_class(&mut self, inspector: &Inspector<'_>, class: ObjectIndex) -> Result<(), AllocError>
-        requires { class < object_count inspector.now.live.graph.heap.now }
+        requires { IsObjectOf inspector.now class }
     {
         let name = inspector.names.name_of_class(class)?;
         self.add(name.as_str(), name.as_str())

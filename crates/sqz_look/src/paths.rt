@@ -1,8 +1,9 @@
 //! Which steps of a path are rows.
 
-ghost use Rattle.std.specs.Prelude.{◌<◌, All, IfOk};
+ghost use Rattle.std.specs.Prelude.{All, IfOk};
 ghost use Rattle.sqz_image.specs.Objects.{object_count};
 ghost use Rattle.sqz_look.specs.Paths.{IsInside};
+ghost use Rattle.sqz_look_view.specs.Inspectors.{IsObjectOf};
 
 use sqz_answers::WhyStep;
 use sqz_image::Slot;
@@ -31,7 +32,7 @@ pub(crate) fn visible_steps(
     steps: &[WhyStep],
     raw: bool,
 ) -> Result<Vec<PathStep>, AllocError>
-    requires { All (λ step. step.object < object_count inspector.now.live.graph.heap.now) steps.now }
+    requires { All (λ step. IsObjectOf inspector.now step.object) steps.now }
     ensures { IfOk result (λ visible.
         All (IsInside (object_count inspector.now.live.graph.heap.now)) visible.items) }
 {
@@ -60,7 +61,7 @@ pub(crate) fn visible_steps(
 /// Returns for each step of a path whether it only leads to the value of a global or of a class
 /// variable: the step to the association, and the steps to the dictionary and its array before it.
 fn hidden_steps(inspector: &Inspector<'_>, steps: &[WhyStep]) -> Result<Vec<bool>, AllocError>
-    requires { All (λ step. step.object < object_count inspector.now.live.graph.heap.now) steps.now }
+    requires { All (λ step. IsObjectOf inspector.now step.object) steps.now }
 {
     let mut hidden = vec![in inspector.alloc; false; steps.len()]?;
     for (index, step) in steps.iter().enumerate() {

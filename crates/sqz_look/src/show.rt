@@ -1,65 +1,23 @@
 //! What an object is.
 
-ghost use Rattle.std.specs.Prelude.{◌<◌, ◌≤◌};
-ghost use Rattle.sqz_image.specs.Objects.{object_count, chunk_words};
-ghost use Rattle.sqz_answers.specs.Shown.{shown_count};
+ghost use Rattle.std.specs.Prelude.{IfSome};
+ghost use Rattle.sqz_look_view.specs.Inspectors.{IsObjectOf};
 
-use crate::method_view::MethodView;
-use crate::slot_rows::SlotView;
-use serde::Serialize;
+use crate::method_header::header_of;
+use crate::slot_rows::print_slot;
 use sqz_answers::{Shown, shown_object, slot_at, slot_count};
+use sqz_facts::{Held, ObjectFacts};
 use sqz_histogram::first_bytes;
 use sqz_image::Sink;
-use sqz_look_view::{
-    Counted, Hex, Inspector, More, ObjectLabel, Out, PrintError, SlotNames, value_text,
-    write_amount, write_bytes,
-};
+use sqz_look_view::{Inspector, Out, PrintError, SlotNames, add_method_header, value_text};
 use sqz_names::escaped;
 use sqz_object::ObjectIndex;
-use std::alloc::AllocError;
-use std::fmt;
 
 /// The maximum number of bytes of a byte object in the text form, unless all are requested.
 const MOST_BYTES: usize = 400;
 
-/// An object.
-#[derive(Drop, Serialize)]
-struct ObjectView {
-    address: Hex,
-    class: String,
-    class_address: Option<Hex>,
-    label: ObjectLabel,
-    live: bool,
-    bytes: u64,
-    retained: Option<u64>,
-    header_words: u32,
-    format: u32,
-    hash: u32,
-    compact_index: u32,
-    /// The value of a number or a character.
-    value: Option<String>,
-    /// What the header of a method says.
-    method: Option<MethodView>,
-    /// The first slots, or all.
-    slots: Vec<SlotView>,
-    /// The number of slots that are left out.
-    #[serde(skip)]
-    more_slots: usize,
-    /// The first bytes of a byte object as text, or all.
-    text: Option<String>,
-    /// The number of bytes of which only the first are there.
-    #[serde(skip)]
-    cut_of: Option<usize>,
-}
-
-/// The bytes of a byte object as text.
-#[derive(Drop)]
-struct ByteText {
-    /// The first bytes, or all.
-    text: String,
-    /// The number of bytes, if some are left out.
-    cut_of: Option<usize>,
-}
+/// The line about the bytes of a byte object that are left out in the text form.
+const CUT_BYTES: &str = "... cut after 400 of {count} bytes; --all prints all";
 
 /// Prints what an object is: its class, its size and what it retains, its header, what its slots
 /// hold, and its bytes as text if it has any.
@@ -68,154 +26,105 @@ pub fn print_show<C: Sink>(
     object: ObjectIndex,
     out: &mut Out<'_, C>,
 ) -> Result<(), PrintError>
-    requires { object < object_count inspector.now.live.graph.heap.now }
+    requires { IsObjectOf inspector.now object }
 {
     let Shown { facts, retained } = shown_object(inspector.alloc, &inspector.live, object)?;
-    let count = slot_count(inspector.live.graph.heap, object);
-    let shown = out.shown_of(count);
-    let class_address = match facts.class {
-        Some(class) => Some(inspector.address(class)),
-        None => None,
-    };
-    let bytes = bytes_of(inspector, object, out.is_cut())?;
-    let (text, cut_of) = match bytes {
-        Some(ByteText { text, cut_of }) => (Some(text), cut_of),
-        None => (None, None),
-    };
-    out.emit(&ObjectView {
-        address: Hex(facts.address),
-        class: inspector.names.name_of_class_of(object)?,
-        class_address,
-        label: ObjectLabel::of(inspector, object)?,
-        live: retained.is_some(),
-        bytes: facts.bytes,
-        retained,
-        header_words: facts.header_words,
-        format: facts.format,
-        hash: facts.hash,
-        compact_index: facts.compact_index,
-        value: value_text(inspector, object)?,
-        method: MethodView::of(inspector.live.graph.heap, object),
-        slots: slots_of(inspector, object, shown)?,
-        more_slots: (count - shown) as usize,
-        text,
-        cut_of,
-    })
+    add_facts(inspector, object, facts, retained, out);
+    let header = header_of(inspector.live.graph.heap, object);
+    add_method_header("method", header, "  method    ", out);
+    print_slots(inspector, object, out);
+    add_text(inspector, object, out);
+    out.end_row();
+    out.end()
 }
 
-/// Returns the first slots of an object and what they hold.
-fn slots_of(
+/// Adds the class of an object, its size, what it retains, its header, and its value.
+fn add_facts<C: Sink>(
     inspector: &Inspector<'_>,
     object: ObjectIndex,
-    count: u32,
-) -> Result<Vec<SlotView>, AllocError>
-    requires inside { object < object_count inspector.now.live.graph.heap.now }
-    requires count { count ≤ shown_count (chunk_words inspector.now.live.graph.heap.now object) }
+    facts: ObjectFacts,
+    retained: Option<u64>,
+    out: &mut Out<'_, C>,
+)
+    requires object { IsObjectOf inspector.now object }
+    requires class { IfSome facts.class (λ class.
+        IsObjectOf inspector.now class) }
+{
+    out.hex("address", facts.address);
+    out.text("class", inspector.names.name_of_class_of(object));
+    match facts.class {
+        Some(class) => out.hex("class_address", inspector.address(class).0),
+        None => out.null("class_address"),
+    }
+    out.label("label", inspector, object);
+    out.truth("live", retained.is_some());
+    out.amount("bytes", facts.bytes);
+    out.amount_or_null("retained", retained);
+    out.number("header_words", u64::from(facts.header_words));
+    out.number("format", u64::from(facts.format));
+    out.number("hash", u64::from(facts.hash));
+    out.number("compact_index", u64::from(facts.compact_index));
+    out.text_or_null("value", value_text(inspector, object));
+    out.part("{label} {address}");
+    out.part("  class     {class}{class_address/ }");
+    out.part(match retained {
+        Some(_) => "  size      {bytes#byte}, retains {retained}",
+        None => "  size      {bytes#byte}, not reachable",
+    });
+    out.part(
+        "  header    {header_words#word}, format {format}, hash {hash}, compact index {compact_index}",
+    );
+    out.part_if("value", "  value     {value}");
+}
+
+/// Prints the first slots of an object, or all, and what they hold.
+fn print_slots<C: Sink>(inspector: &Inspector<'_>, object: ObjectIndex, out: &mut Out<'_, C>)
+    requires { IsObjectOf inspector.now object }
 {
     let heap = inspector.live.graph.heap;
-    let names = SlotNames::of(inspector, object)?;
-    let mut slots = Vec::new(inspector.alloc);
-    for place in 0..count {
-        slots.push(SlotView::of(inspector, &names, slot_at(heap, object, place))?)?;
+    let mut names = SlotNames::none(inspector.alloc);
+    out.need(names.set_object(inspector, object));
+    let count = slot_count(heap, object);
+    let shown = out.shown_of(count);
+    out.begin_list("slots");
+    if shown > 0 {
+        out.part("slots");
     }
-    Ok(slots)
+    let mut was_traced = true;
+    for place in 0..shown {
+        let slot = slot_at(heap, object, place);
+        let is_traced = !matches!(slot.facts.held, Held::Untraced);
+        if was_traced && !is_traced {
+            out.part("  not traced:");
+        }
+        was_traced = is_traced;
+        print_slot(inspector, &names, slot, out);
+    }
+    out.rest(count as usize, "slot");
+    out.end_list();
 }
 
-/// Returns the bytes of a byte object as text, of many only the first if `is_cut`.
-fn bytes_of(
-    inspector: &Inspector<'_>,
-    object: ObjectIndex,
-    is_cut: bool,
-) -> Result<Option<ByteText>, AllocError>
-    requires { object < object_count inspector.now.live.graph.heap.now }
+/// Adds the bytes of a byte object as text, in the text form of many only the first.
+fn add_text<C: Sink>(inspector: &Inspector<'_>, object: ObjectIndex, out: &mut Out<'_, C>)
+    requires { IsObjectOf inspector.now object }
 {
     let (alloc, heap) = (inspector.alloc, inspector.live.graph.heap);
-    let Some(bytes) = first_bytes(alloc, heap.order(), &heap.object(object), usize::MAX)? else {
-        return Ok(None);
+    let bytes = match first_bytes(alloc, heap.order(), &heap.object(object), usize::MAX) {
+        Ok(Some(bytes)) => bytes,
+        Ok(None) => return out.null("text"),
+        Err(error) => return out.need(Err(error)),
     };
     let count = bytes.len();
-    if !is_cut || count <= MOST_BYTES {
-        let text = escaped(alloc, &bytes)?;
-        return Ok(Some(ByteText { text, cut_of: None }));
-    }
-    let (first, _) = bytes.split_at(MOST_BYTES);
-    let text = escaped(alloc, first)?;
-    let cut_of = Some(count);
-    Ok(Some(ByteText { text, cut_of }))
-}
-
-impl fmt::Display for ObjectView {
-    fn fmt<W: fmt::Write>(&self, f: &mut fmt::Formatter<W>) -> fmt::Result {
-        self.write_head(f)?;
-        self.write_slots(f)?;
-        let Some(text) = &self.text else {
-            return Ok(());
-        };
-        let text = text.as_str();
-        write!(f, "\ntext\n  {text}")?;
-        match self.cut_of {
-            Some(count) => {
-                write!(
-                    f,
-                    "\n... cut after {MOST_BYTES} of {count} bytes; --all prints all"
-                )
-            }
-            None => Ok(()),
-        }
-    }
-}
-
-impl ObjectView {
-    /// Writes the lines about the object before its slots.
-    fn write_head<W: fmt::Write>(&self, f: &mut fmt::Formatter<W>) -> fmt::Result {
-        let (label, address, class) = (&self.label, self.address, self.class.as_str());
-        write!(f, "{label} {address}\n  {:<10}{class}", "class")?;
-        if let Some(address) = self.class_address {
-            write!(f, " {address}")?;
-        }
-        let bytes = self.bytes;
-        write!(f, "\n  {:<10}", "size")?;
-        write_bytes(f, bytes)?;
-        match self.retained {
-            Some(retained) => {
-                f.write_str(", retains ")?;
-                write_amount(f, retained, 0)?;
-            }
-            None => f.write_str(", not reachable")?,
-        }
-        let words = Counted(u64::from(self.header_words), "word");
-        let (format, hash, compact) = (self.format, self.hash, self.compact_index);
-        write!(
-            f,
-            "\n  {:<10}{words}, format {format}, hash {hash}, compact index {compact}",
-            "header"
-        )?;
-        if let Some(value) = &self.value {
-            write!(f, "\n  {:<10}{}", "value", value.as_str())?;
-        }
-        match &self.method {
-            Some(method) => write!(f, "\n  {:<10}{method}", "method"),
-            None => Ok(()),
-        }
-    }
-
-    /// Writes a line for each slot.
-    fn write_slots<W: fmt::Write>(&self, f: &mut fmt::Formatter<W>) -> fmt::Result {
-        if self.slots.is_empty() {
-            return Ok(());
-        }
-        f.write_str("\nslots")?;
-        let mut is_traced = true;
-        for slot in &self.slots {
-            if is_traced && slot.is_untraced() {
-                f.write_str("\n  not traced:")?;
-                is_traced = false;
-            }
-            write!(f, "\n{slot}")?;
-        }
-        match self.more_slots {
-            0 => Ok(()),
-            count => write!(f, "\n{}", More(count, "slot")),
-        }
+    let shown = if out.is_cut() {
+        count.min(MOST_BYTES)
+    } else {
+        count
+    };
+    out.text("text", escaped(alloc, &bytes[..shown]));
+    out.part("text");
+    out.part("  {text}");
+    if shown < count {
+        out.count("count", count);
+        out.part(CUT_BYTES);
     }
 }

@@ -1,7 +1,6 @@
 //! Slots that point to objects, as text.
 
-ghost use Rattle.std.specs.Prelude.{◌<◌};
-ghost use Rattle.sqz_image.specs.Objects.{object_count};
+ghost use Rattle.sqz_look_view.specs.Inspectors.{IsObjectOf};
 
 use sqz_facts::Referrer;
 use sqz_look_view::{Inspector, SlotNames};
@@ -14,7 +13,7 @@ pub(crate) fn referrer_text(
     inspector: &Inspector<'_>,
     referrer: Referrer,
 ) -> Result<String, AllocError>
-    requires { referrer.object < object_count inspector.now.live.graph.heap.now }
+    requires { IsObjectOf inspector.now referrer.object }
 {
     let object = referrer.object;
     let label = owner_text(inspector, object)?;
@@ -24,7 +23,7 @@ pub(crate) fn referrer_text(
 
 /// Returns the label of an object. If that has no name, it is its class, with its address.
 fn owner_text(inspector: &Inspector<'_>, object: ObjectIndex) -> Result<String, AllocError>
-    requires { object < object_count inspector.now.live.graph.heap.now }
+    requires { IsObjectOf inspector.now object }
 {
     if inspector.names.label_of(object)? != Label::Other {
         return inspector.names.label(object);

@@ -4,137 +4,55 @@ ghost use Rattle.std.specs.Prelude.{◌<◌};
 ghost use Rattle.sqz_image.specs.Objects.{object_count};
 ghost use Rattle.sqz_facts.specs.Held.{PointsBelow};
 
-use serde::{Described, Serialize, Serializer};
 use sqz_answers::ShownSlot;
 use sqz_facts::{Held, SlotFacts};
-use sqz_look_view::{Hex, Inspector, ObjectLabel, SlotName, SlotNames};
-use std::alloc::AllocError;
-use std::fmt;
+use sqz_image::Sink;
+use sqz_look_view::{Inspector, Out, SlotNames};
 
-/// What a slot holds: a SmallInteger, or a word.
-#[derive(Clone, Copy, Drop, Serialize)]
-#[serde(untagged)]
-pub(crate) enum SlotValue {
-    Number(i32),
-    Word(Hex),
+/// Adds a slot of the object whose slots these names are of, and what it holds: a SmallInteger, or
+/// a word.
+pub(crate) fn add_slot<C: Sink>(names: &SlotNames, shown: ShownSlot, out: &mut Out<'_, C>) {
+    out.slot(names, shown.slot);
+    out.word("kind", kind_of(shown.facts.held));
+    add_value(shown.facts, out);
 }
 
-/// What the word of a slot is.
-#[derive(Clone, Copy)]
-pub(crate) enum SlotKind {
-    Integer,
-    Pointer,
-    Weak,
-    Untraced,
-    Bad,
-}
-
-impl SlotKind {
-    /// Returns the name of the kind in the JSON form.
-    fn name(self) -> &'static str {
-        match self {
-            SlotKind::Integer => "integer",
-            SlotKind::Pointer => "pointer",
-            SlotKind::Weak => "weak",
-            SlotKind::Untraced => "untraced",
-            SlotKind::Bad => "bad",
-        }
-    }
-}
-
-impl Described for SlotKind {}
-
-impl Serialize for SlotKind {
-    fn serialize<S: Serializer>(&self, out: &mut S) -> Result<(), S::Error> {
-        self.name().serialize(out)
-    }
-}
-
-/// A slot and what it holds.
-#[derive(Drop, Serialize)]
-pub(crate) struct SlotView {
-    slot: SlotName,
-    name: Option<String>,
-    kind: SlotKind,
-    value: SlotValue,
-    label: Option<ObjectLabel>,
-    /// The slot as text.
-    #[serde(skip)]
-    text: String,
-}
-
-impl SlotView {
-    /// Returns the row of a slot of the object whose slots these names are of.
-    pub(crate) fn of(
-        inspector: &Inspector<'_>,
-        names: &SlotNames,
-        shown: ShownSlot,
-    ) -> Result<Self, AllocError>
-        requires { PointsBelow (object_count inspector.now.live.graph.heap.now) shown.facts.held }
-    {
-        let ShownSlot { slot, facts } = shown;
-        Ok(SlotView {
-            slot: SlotName::from(slot),
-            name: names.name(slot)?,
-            kind: kind_of(facts.held),
-            value: value_of(facts),
-            label: label_of(inspector, facts.held)?,
-            text: names.text(slot)?,
-        })
-    }
-
-    /// Returns whether the slot is not traced. All slots after it are not, either.
-    pub(crate) fn is_untraced(&self) -> bool {
-        matches!(self.kind, SlotKind::Untraced)
-    }
-}
-
-impl fmt::Display for SlotView {
-    fn fmt<W: fmt::Write>(&self, f: &mut fmt::Formatter<W>) -> fmt::Result {
-        let text = self.text.as_str();
-        write!(f, "  {text:<26}  ")?;
-        match self.value {
-            SlotValue::Number(number) => write!(f, "{number}")?,
-            SlotValue::Word(word) => write!(f, "{word}")?,
-        }
-        if let Some(label) = &self.label {
-            write!(f, " {label}")?;
-        }
-        match self.kind {
-            SlotKind::Weak => f.write_str(" (weak)"),
-            SlotKind::Bad => f.write_str(" (no object)"),
-            SlotKind::Integer | SlotKind::Pointer | SlotKind::Untraced => Ok(()),
-        }
-    }
-}
-
-/// Returns what the word of a slot is.
-pub(crate) fn kind_of(held: Held) -> SlotKind {
-    match held {
-        Held::Integer(_) => SlotKind::Integer,
-        Held::Pointer(_) => SlotKind::Pointer,
-        Held::Weak(_) => SlotKind::Weak,
-        Held::Untraced => SlotKind::Untraced,
-        Held::Bad => SlotKind::Bad,
-    }
-}
-
-/// Returns what a slot holds.
-pub(crate) fn value_of(facts: SlotFacts) -> SlotValue {
-    match facts.held {
-        Held::Integer(number) => SlotValue::Number(number),
-        _ => SlotValue::Word(Hex(facts.word)),
-    }
-}
-
-/// Returns the label of the object that a slot points to, if it points to one.
-fn label_of(inspector: &Inspector<'_>, held: Held) -> Result<Option<ObjectLabel>, AllocError>
-    requires { PointsBelow (object_count inspector.now.live.graph.heap.now) held }
+/// Prints a slot of the object whose slots these names are of, and what it holds.
+pub(crate) fn print_slot<C: Sink>(
+    inspector: &Inspector<'_>,
+    names: &SlotNames,
+    shown: ShownSlot,
+    out: &mut Out<'_, C>,
+)
+    requires { PointsBelow (object_count inspector.now.live.graph.heap.now) shown.facts.held }
 {
+    add_slot(names, shown, out);
+    match shown.facts.held {
+        Held::Pointer(target) | Held::Weak(target) => out.label("label", inspector, target),
+        Held::Integer(_) | Held::Untraced | Held::Bad => out.null("label"),
+    }
+    out.line(match shown.facts.held {
+        Held::Weak(_) => "  {slot:<26}  {value}{label/ } (weak)",
+        Held::Bad => "  {slot:<26}  {value} (no object)",
+        Held::Integer(_) | Held::Pointer(_) | Held::Untraced => "  {slot:<26}  {value}{label/ }",
+    });
+}
+
+/// Returns what the word of a slot is, in a word.
+fn kind_of(held: Held) -> &'static str {
     match held {
-        Held::Pointer(target) | Held::Weak(target) => {
-            Ok(Some(ObjectLabel::of(inspector, target)?))
-        }
-        Held::Integer(_) | Held::Untraced | Held::Bad => Ok(None),
+        Held::Integer(_) => "integer",
+        Held::Pointer(_) => "pointer",
+        Held::Weak(_) => "weak",
+        Held::Untraced => "untraced",
+        Held::Bad => "bad",
+    }
+}
+
+/// Adds what a slot holds.
+fn add_value<C: Sink>(facts: SlotFacts, out: &mut Out<'_, C>) {
+    match facts.held {
+        Held::Integer(number) => out.integer("value", i64::from(number)),
+        _ => out.hex("value", facts.word),
     }
 }

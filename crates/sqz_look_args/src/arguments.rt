@@ -107,7 +107,7 @@ pub(crate) fn arg_of<'a>(alloc: Global, argument: Argument) -> Result<Arg<'a>, A
         Argument::GroupBy => Ok(by(
             alloc,
             "GROUP",
-            "Group the objects on each level by their class or its category: class or category",
+            "Print a row for each class, or the sums of each category of classes: class or category",
         )),
         Argument::Raw => Ok(flag(alloc, "raw", "Print each step of the path")),
         Argument::Depth => Ok(depth(alloc)),
@@ -191,7 +191,7 @@ fn min_bytes<'a>(alloc: Global) -> Arg<'a>
         .value_parser(ValueParser::unsigned(0, 4_294_967_295))
 }
 
-/// Returns the option with the order of a list, or with what objects are grouped by.
+/// Returns the option with the order of a list, or with what rows are about.
 fn by<'a>(alloc: Global, value: &'a str, help: &'a str) -> Arg<'a>
     ensures { HasRule (value_option (codes "by")) result }
 {
@@ -211,7 +211,8 @@ fn retained<'a>(alloc: Global) -> Result<Arg<'a>, AllocError>
         "retained",
         "Print what the instances of each class retain, the classes that retain most first",
     )
-    .conflicts_with("dead")
+    .conflicts_with("dead")?
+    .conflicts_with("by")
 }
 
 /// Returns the option that asks for folded stacks.

@@ -17,7 +17,7 @@ pub enum BadRequest<'a> {
     NoPercentage(&'a str),
     /// The value of `--by` is no order.
     NoOrder(&'a str),
-    /// The value of `--by` is nothing that objects are grouped by.
+    /// The value of `--by` is nothing that rows are about.
     NoGrouping(&'a str),
     /// The word is no regular expression.
     NoPattern(&'a str),

@@ -1,13 +1,13 @@
-//! What objects of a tree are grouped by.
+//! What the rows of a class histogram are about.
 
 use std::str::FromStr;
 
-/// What the objects on a level of a tree are grouped by.
+/// What the rows of a class histogram are about.
 #[derive(Clone, Copy)]
 pub enum Grouping {
-    /// Their class.
+    /// The objects of a class.
     Class,
-    /// The category of their class.
+    /// The objects of all classes of a category.
     Category,
 }
 

@@ -36,13 +36,7 @@ pub(crate) fn question_of<'a>(
         Name::Mend => mend(matches),
         Name::Diff => difference(matches),
         Name::Info => about_each(alloc, matches, EachQuestion::Info),
-        Name::Census => {
-            about_each(
-                alloc,
-                matches,
-                EachQuestion::Census(Counting::asked(matches)),
-            )
-        }
+        Name::Census => census(alloc, matches),
         Name::Digest => about_each(alloc, matches, EachQuestion::Digest),
         Name::List => about_image(matches, listing(alloc, matches)),
         Name::Top => about_image(matches, tree(alloc, matches)),
@@ -109,6 +103,12 @@ fn about_image<'a>(
     Ok(Question::About { image, question })
 }
 
+/// Returns the question how many objects each class has.
+fn census<'a>(alloc: Global, matches: &ArgMatches<'a>) -> Result<Question<'a>, BadRequest<'a>> {
+    let (counting, grouping) = (Counting::asked(matches), grouping_of(matches)?);
+    about_each(alloc, matches, EachQuestion::Census(counting, grouping))
+}
+
 /// Returns the question which instances a class has.
 fn listing<'a>(alloc: Global, matches: &ArgMatches<'a>) -> Result<NamedQuestion, BadRequest<'a>> {
     Ok(NamedQuestion::List {
@@ -133,8 +133,9 @@ fn why(matches: &ArgMatches<'_>) -> ObjectQuestion {
 
 /// Returns the request for a page. Without `--min`, all objects are on it.
 fn page(matches: &ArgMatches<'_>) -> NamedQuestion {
-    let min = matches.get_one("min").unwrap_or(0);
-    NamedQuestion::Explore { min }
+    NamedQuestion::Explore {
+        min: matches.get_one("min"),
+    }
 }
 
 /// Returns the question about code.
@@ -230,20 +231,19 @@ fn top_options<'a>(matches: &ArgMatches<'a>) -> Result<TopOptions, BadRequest<'a
     };
     Ok(TopOptions {
         form,
-        by: grouping_of(matches)?,
         depth: matches.get_one("depth"),
         min: min_of(matches)?,
     })
 }
 
-/// Returns what `--by` says that objects are grouped by.
-fn grouping_of<'a>(matches: &ArgMatches<'a>) -> Result<Option<Grouping>, BadRequest<'a>> {
+/// Returns what `--by` says that rows are about.
+fn grouping_of<'a>(matches: &ArgMatches<'a>) -> Result<Grouping, BadRequest<'a>> {
     match matches.get_str("by") {
         Some(text) => match text.parse() {
-            Ok(grouping) => Ok(Some(grouping)),
+            Ok(grouping) => Ok(grouping),
             Err(_) => Err(BadRequest::NoGrouping(text)),
         },
-        None => Ok(None),
+        None => Ok(Grouping::Class),
     }
 }
 

@@ -10,6 +10,7 @@ ghost use Rattle.sqz_look_args.specs.Requests.{looks_past};
 use crate::bad_request::BadRequest;
 use crate::code_question::CodeQuestion;
 use crate::counting::Counting;
+use crate::grouping::Grouping;
 use crate::list_order::ListOrder;
 use crate::questions::question_of;
 use crate::subcommands::Name;
@@ -69,7 +70,7 @@ pub enum Question<'a> {
 #[derive(Clone, Copy)]
 pub enum EachQuestion {
     Info,
-    Census(Counting),
+    Census(Counting, Grouping),
     Digest,
 }
 
@@ -98,8 +99,8 @@ pub enum NamedQuestion {
     Dump,
     /// A page that shows the image in a browser.
     Explore {
-        /// The least number of bytes that an object of the page retains.
-        min: u32,
+        /// The least number of bytes that an object of the page retains, if not all are on it.
+        min: Option<u32>,
     },
 }
 

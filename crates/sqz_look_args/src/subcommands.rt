@@ -85,6 +85,7 @@ const CENSUS: Subcommand = Subcommand {
         Argument::Images,
         Argument::Dead,
         Argument::Retained,
+        Argument::GroupBy,
         Argument::All,
     ],
     example: "Example:\n  sqzlook census --all Scratch.image",
@@ -148,7 +149,6 @@ const TOP: Subcommand = Subcommand {
     arguments: &[
         Argument::Image,
         Argument::Root,
-        Argument::GroupBy,
         Argument::Depth,
         Argument::Min,
         Argument::Folded,

@@ -1,6 +1,5 @@
 //! What is asked for of a dominator tree.
 
-use crate::grouping::Grouping;
 use crate::percent::Percent;
 
 /// The form in which a tree is printed.
@@ -16,8 +15,6 @@ pub enum TopForm {
 #[derive(Clone, Copy)]
 pub struct TopOptions {
     pub form: TopForm,
-    /// What the objects on each level are grouped by. None if each has a row of its own.
-    pub by: Option<Grouping>,
     /// The number of levels below the first row, at most 100.
     pub depth: Option<u32>,
     /// The least share of what the first row retains that has a row of its own.

@@ -1,158 +1,25 @@
 //! Whether an image is sound.
 
-ghost use Rattle.std.specs.Prelude.{IfOk, IsTrue, true, ◌≡◌, ◌↔◌};
+ghost use Rattle.std.specs.Prelude.{◌≡◌, ◌↔◌, ◌<◌, All, IfOk, IfSome, IsTrue, true};
+ghost use Rattle.sqz_image.specs.Objects.{object_count};
+ghost use Rattle.sqz_strict.specs.Warnings.{object_of};
 ghost use Rattle.sqz_trace.specs.Faults.{first_fault};
 ghost use Rattle.sqz_look_check.specs.Warned.{IsWarned};
 
 use crate::causes::Cause;
-use crate::faults::FaultView;
+use crate::faults::{FaultFacts, add_fault};
 use crate::read_failure::ReadFailure;
-use crate::repaired::SummaryView;
-use crate::shown::Shown;
+use crate::repaired::add_summary;
 use crate::unreadable::{Extent, Unreadable};
-use crate::warnings::{WarningView, warning_views};
-use serde::Serialize;
+use crate::warnings::print_warnings;
 use sqz_answers::{Findings, findings_of};
-use sqz_image::{Fault, Sink};
-use sqz_look_view::{Counted, Hex, Inspector, Out, PrintError, Subject, write_bytes};
+use sqz_image::{Fault, Image, Sink};
+use sqz_look_view::{Inspector, Out, PrintError, Subject};
 use sqz_repair::RepairSummary;
-use sqz_strict::findings_of as strict_findings_of;
+use sqz_strict::{Findings as StrictFindings, findings_of as strict_findings_of};
+use sqz_trace::ObjectGraph;
 use std::alloc::{AllocError, Global};
-use std::fmt;
 use std::thread::Threads;
-
-/// What was found about an image. What could not be read is `None`.
-#[derive(Drop, Serialize)]
-struct CheckView<'a> {
-    image: &'a str,
-    sound: bool,
-    objects: Option<u32>,
-    live_objects: Option<u32>,
-    live_bytes: Option<u64>,
-    faults: Vec<FaultView>,
-    /// The warnings, if they were asked for.
-    #[serde(skip_serializing_if = "Option::is_none")]
-    warnings: Option<Vec<WarningView>>,
-    /// How much can be read past what cannot be read.
-    readable: Option<Extent>,
-    /// What `mend --nil` keeps and clears.
-    repair: Option<SummaryView>,
-    /// The address of the last object before a chunk that cannot be read.
-    #[serde(skip)]
-    last_object: Option<Hex>,
-}
-
-impl<'a> CheckView<'a> {
-    /// Returns what was found about an image.
-    fn of(
-        subject: &Subject<'_>,
-        path: &'a str,
-        findings: &Findings,
-        sound: bool,
-    ) -> Result<Self, AllocError> {
-        let mut faults = Vec::new(subject.alloc);
-        for fault in &findings.faults {
-            faults.push(FaultView::in_image(subject, *fault)?)?;
-        }
-        Ok(CheckView {
-            image: path,
-            sound,
-            objects: Some(findings.objects),
-            live_objects: Some(findings.live_objects),
-            live_bytes: Some(findings.live_bytes),
-            faults,
-            warnings: None,
-            readable: None,
-            repair: None,
-            last_object: None,
-        })
-    }
-
-    /// Adds to each fault what has the object at fault. Only one fault alone gets a path: to find
-    /// one takes a search.
-    fn add_owners(&mut self, inspector: &Inspector<'_>) -> Result<(), AllocError> {
-        let finds_path = self.faults.len() == 1;
-        for fault in &mut self.faults {
-            fault.add_owner(inspector, finds_path)?;
-        }
-        Ok(())
-    }
-
-    /// Returns what was found about a file from which no image could be read.
-    fn unread(alloc: Global, path: &'a str, fault: FaultView) -> Result<Self, AllocError> {
-        let mut faults = Vec::new(alloc);
-        faults.push(fault)?;
-        Ok(CheckView {
-            image: path,
-            sound: false,
-            objects: None,
-            live_objects: None,
-            live_bytes: None,
-            faults,
-            warnings: None,
-            readable: None,
-            repair: None,
-            last_object: None,
-        })
-    }
-}
-
-impl fmt::Display for CheckView<'_> {
-    fn fmt<W: fmt::Write>(&self, f: &mut fmt::Formatter<W>) -> fmt::Result {
-        self.write_faults(f)?;
-        let path = Shown(self.image);
-        if let Some(repair) = self.repair {
-            write!(f, "\n{path}: mend --nil keeps {repair}")?;
-        }
-        if let Some(warnings) = &self.warnings {
-            for warning in warnings {
-                write!(f, "\n{path}: warning: {warning}")?;
-            }
-        }
-        Ok(())
-    }
-}
-
-impl CheckView<'_> {
-    /// Writes the faults, or that there are none.
-    fn write_faults<W: fmt::Write>(&self, f: &mut fmt::Formatter<W>) -> fmt::Result {
-        let path = Shown(self.image);
-        let numbers = (self.objects, self.live_objects, self.live_bytes);
-        if let ((Some(objects), Some(live), Some(bytes)), true) = (
-            numbers,
-            self.faults.is_empty(),
-        ) {
-            let verdict = if self.sound { "sound" } else { "damaged" };
-            return write_numbers(f, path, verdict, objects, live, bytes);
-        }
-        for (index, fault) in self.faults.iter().enumerate() {
-            if index > 0 {
-                f.write_str("\n")?;
-            }
-            write!(f, "{path}: {fault}")?;
-        }
-        match (self.readable, self.last_object) {
-            (Some(readable), _) => write!(f, ": {readable}"),
-            (None, Some(address)) => write!(f, ", after object {address}"),
-            (None, None) => Ok(()),
-        }
-    }
-}
-
-/// Writes what an image without a fault is, with its objects, its live objects and their bytes.
-fn write_numbers<W: fmt::Write>(
-    f: &mut fmt::Formatter<W>,
-    path: Shown<'_>,
-    verdict: &str,
-    objects: u32,
-    live: u32,
-    bytes: u64,
-) -> fmt::Result {
-    let objects = Counted(u64::from(objects), "object");
-    write!(f, "{path}: {verdict}, {objects}, {live} live, ")?;
-    write_bytes(f, bytes)?;
-    f.write_str(" live")
-}
 
 /// What is asked about the soundness of an image.
 #[derive(Clone, Copy)]
@@ -194,56 +61,111 @@ pub fn print_check<C: Sink>(
         subject.entry.live.graph.weak subject.entry.live.marks options.strict
         verdict.has_warnings) }
 {
-    let findings = findings_of(rt, subject.alloc, &subject.live, options.all)?;
+    let (alloc, image, graph) = (subject.alloc, subject.image, subject.live.graph);
+    let findings = findings_of(rt, alloc, &subject.live, options.all)?;
     let warned = warnings_in(&subject, options.strict)?;
     let verdict = Verdict {
         is_sound: is_whole && findings.is_sound(),
         has_warnings: warned.are_some,
     };
-    let mut view = view_of(subject, path, &findings, verdict.is_sound, warned.views)?;
-    view.repair = repair.map(SummaryView::of);
-    out.emit(&view)?;
+    add_numbers(path, verdict.is_sound, &findings, out);
+    print_faults(subject, &findings.faults, out)?;
+    if findings.faults.is_empty() {
+        out.part(if verdict.is_sound { SOUND } else { DAMAGED });
+    }
+    print_rest(alloc, image, graph, &warned, repair, out);
+    out.end_row();
+    out.end()?;
     Ok(verdict)
 }
 
-/// Returns what was found about an image, with the names of the objects at fault.
-fn view_of<'a>(
+/// The line of an image without a fault.
+const SOUND: &str = "{image}: sound, {objects#object}, {live_objects} live, {live_bytes#byte} live";
+
+/// The line of an image without a fault, some of whose file was skipped.
+const DAMAGED: &str =
+    "{image}: damaged, {objects#object}, {live_objects} live, {live_bytes#byte} live";
+
+/// Adds how many objects and live bytes an image has.
+fn add_numbers<C: Sink>(path: &str, is_sound: bool, findings: &Findings, out: &mut Out<'_, C>) {
+    out.path("image", path);
+    out.truth("sound", is_sound);
+    out.number("objects", u64::from(findings.objects));
+    out.number("live_objects", u64::from(findings.live_objects));
+    out.amount("live_bytes", findings.live_bytes);
+}
+
+/// Prints the faults of an image, each with what has the object at fault. Only one fault alone gets
+/// a path: to find one takes a search.
+fn print_faults<C: Sink>(
     subject: Subject<'_>,
-    path: &'a str,
-    findings: &Findings,
-    is_sound: bool,
-    warnings: Option<Vec<WarningView>>,
-) -> Result<CheckView<'a>, AllocError> {
-    let mut view = CheckView::of(&subject, path, findings, is_sound)?;
-    view.warnings = warnings;
-    if !view.faults.is_empty() {
-        view.add_owners(&Inspector::of(subject)?)?;
+    faults: &[Fault],
+    out: &mut Out<'_, C>,
+) -> Result<(), AllocError> {
+    out.begin_list("faults");
+    if !faults.is_empty() {
+        let inspector = Inspector::of(subject)?;
+        for fault in faults {
+            add_fault(&inspector, *fault, faults.len() == 1, out)?;
+            out.line("{image}: {fault}{owner/, in }{path/, at }");
+        }
     }
-    Ok(view)
+    out.end_list();
+    Ok(())
+}
+
+/// Prints the warnings about an image, if these are asked for, and what `mend --nil` keeps and
+/// clears, which the text form has first.
+fn print_rest<C: Sink>(
+    alloc: Global,
+    image: &Image,
+    graph: ObjectGraph<'_>,
+    warned: &Warned,
+    repair: Option<RepairSummary>,
+    out: &mut Out<'_, C>,
+)
+    requires { IfSome warned.now.findings (λ findings. All (λ warning.
+        object_of warning < object_count graph.heap.now) findings.warnings.items) }
+{
+    if !out.is_json() {
+        add_summary(repair, out);
+    }
+    if let Some(findings) = &warned.findings {
+        print_warnings(alloc, image, graph, findings, out);
+    }
+    if out.is_json() {
+        out.null("readable");
+        add_summary(repair, out);
+    }
 }
 
 /// The warnings about an image, if these are asked for, and whether there are some.
 #[derive(Drop)]
 struct Warned {
-    views: Option<Vec<WarningView>>,
+    findings: Option<StrictFindings>,
     are_some: bool,
 }
 
 /// Returns the warnings about an image, if these are asked for.
 fn warnings_in(subject: &Subject<'_>, strict: bool) -> Result<Warned, AllocError>
-    ensures { IfOk result (λ warned. IsWarned subject.now.live.graph.heap.now
+    ensures warned { IfOk result (λ warned. IsWarned subject.now.live.graph.heap.now
         subject.now.live.graph.weak subject.now.live.marks strict warned.are_some) }
+    ensures inside { IfOk result (λ warned. IfSome warned.findings (λ findings. All (λ warning.
+        object_of warning < object_count subject.now.live.graph.heap.now)
+        findings.warnings.items)) }
 {
     if !strict {
         return Ok(Warned {
-            views: None,
+            findings: None,
             are_some: false,
         });
     }
     let findings = strict_findings_of(subject.alloc, &subject.live)?;
-    let views = Some(warning_views(subject, &findings)?);
     let are_some = !findings.is_empty();
-    Ok(Warned { views, are_some })
+    Ok(Warned {
+        findings: Some(findings),
+        are_some,
+    })
 }
 
 /// Prints that no image could be read from a file, why, and how much can be read, if that was
@@ -254,11 +176,21 @@ pub fn print_check_unreadable<C: Sink>(
     path: &str,
     out: &mut Out<'_, C>,
 ) -> Result<(), PrintError> {
-    let mut view = CheckView::unread(alloc, path, unreadable.view(alloc)?)?;
-    view.last_object = unreadable.last_object.map(Hex);
-    view.readable = unreadable.extent;
-    view.repair = unreadable.repair.map(SummaryView::of);
-    out.emit(&view)
+    add_unread(alloc, path, &unreadable.facts(), out);
+    if !out.is_json() {
+        match unreadable.last_object {
+            Some(address) => out.hex("last_object", address),
+            None => out.null("last_object"),
+        }
+    }
+    Extent::add(unreadable.extent, out);
+    out.part(match &unreadable.extent {
+        Some(extent) => extent.template(),
+        None => "{image}: {fault}{last_object/, after object }",
+    });
+    add_summary(unreadable.repair, out);
+    out.end_row();
+    out.end()
 }
 
 /// Prints that a file could not be read, and why.
@@ -268,9 +200,8 @@ pub fn print_check_missing<C: Sink>(
     failure: ReadFailure,
     out: &mut Out<'_, C>,
 ) -> Result<(), PrintError> {
-    let cause = failure.reason().map(|reason| Cause::Read { reason });
-    let fault = FaultView::of(alloc, Fault::ReadFailed, cause)?;
-    out.emit(&CheckView::unread(alloc, path, fault)?)
+    let cause = failure.reason().map(Cause::Read);
+    print_check_unread(alloc, path, &FaultFacts::of(Fault::ReadFailed, cause), out)
 }
 
 /// Prints that memory is out for the image in a file.
@@ -279,6 +210,37 @@ pub fn print_check_too_large<C: Sink>(
     path: &str,
     out: &mut Out<'_, C>,
 ) -> Result<(), PrintError> {
-    let fault = FaultView::of(alloc, Fault::OutOfMemory, None)?;
-    out.emit(&CheckView::unread(alloc, path, fault)?)
+    out.drop_row();
+    print_check_unread(alloc, path, &FaultFacts::of(Fault::OutOfMemory, None), out)
+}
+
+/// Prints why a file was not read.
+fn print_check_unread<C: Sink>(
+    alloc: Global,
+    path: &str,
+    facts: &FaultFacts,
+    out: &mut Out<'_, C>,
+) -> Result<(), PrintError> {
+    add_unread(alloc, path, facts, out);
+    out.null("readable");
+    out.null("repair");
+    out.line("{image}: {fault}");
+    out.end()
+}
+
+/// Adds the fault of a file from which no image could be read.
+fn add_unread<C: Sink>(alloc: Global, path: &str, facts: &FaultFacts, out: &mut Out<'_, C>) {
+    out.path("image", path);
+    out.truth("sound", false);
+    out.null("objects");
+    out.null("live_objects");
+    out.null("live_bytes");
+    if out.is_json() {
+        out.begin_list("faults");
+        facts.add_without_owner(alloc, out);
+        out.end_row();
+        out.end_list();
+    } else {
+        facts.add(alloc, out);
+    }
 }

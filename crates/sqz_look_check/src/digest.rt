@@ -1,42 +1,54 @@
 //! The digest of an image.
 
-use crate::shown::Summed;
-use serde::Serialize;
 use sqz_digest::digest;
 use sqz_image::Sink;
 use sqz_look_view::{Out, PrintError, Subject};
-use std::fmt;
+use std::alloc::{AllocError, Global};
 use std::fmt::Write;
 
-/// The digest of an image, as `sha256sum` prints that of a file.
-#[derive(Drop, Serialize)]
-struct DigestView<'a> {
-    image: &'a str,
-    digest: String,
-}
-
-impl fmt::Display for DigestView<'_> {
-    fn fmt<W: fmt::Write>(&self, f: &mut fmt::Formatter<W>) -> fmt::Result {
-        let (digest, name) = (self.digest.as_str(), Summed(self.image));
-        if name.is_escaped() {
-            f.write_str("\\")?;
-        }
-        write!(f, "{digest}  {name}")
-    }
-}
-
-/// Prints the SHA-256 of the live objects of an image, which alike images have in common.
+/// Prints the SHA-256 of the live objects of an image, which alike images have in common, as
+/// `sha256sum` prints that of a file.
 pub fn print_digest<C: Sink>(
     subject: &Subject<'_>,
     path: &str,
     out: &mut Out<'_, C>,
 ) -> Result<(), PrintError> {
-    let mut text = String::new(subject.alloc);
-    for byte in digest(subject.alloc, &subject.live)? {
+    let alloc = subject.alloc;
+    let mut text = String::new(alloc);
+    for byte in digest(alloc, &subject.live)? {
         write!(text, "{byte:02x}")?;
     }
-    out.emit(&DigestView {
-        image: path,
-        digest: text,
-    })
+    if out.is_json() {
+        out.word("image", path);
+    } else {
+        out.text("image", summed(alloc, path));
+    }
+    out.word("digest", text.as_str());
+    out.line(if is_escaped(path) {
+        "\\{digest}  {image}"
+    } else {
+        "{digest}  {image}"
+    });
+    out.end()
+}
+
+/// Returns whether a character of a name is escaped after a checksum. A backslash before the line
+/// says so.
+fn is_escaped(name: &str) -> bool {
+    name.contains('\\') || name.contains('\n') || name.contains('\r')
+}
+
+/// Returns the name of a file after its checksum, as `sha256sum` writes it: a backslash, a newline
+/// and a carriage return are `\\`, `\n` and `\r`, and other control characters stay.
+fn summed(alloc: Global, name: &str) -> Result<String, AllocError> {
+    let mut text = String::new(alloc);
+    for letter in name.chars() {
+        match letter {
+            '\\' => text.push_str("\\\\")?,
+            '\n' => text.push_str("\\n")?,
+            '\r' => text.push_str("\\r")?,
+            _ => text.push(letter)?,
+        }
+    }
+    Ok(text)
 }

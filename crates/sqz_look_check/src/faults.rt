@@ -2,115 +2,146 @@
 
 ghost use Rattle.std.specs.Prelude.{◌<◌};
 ghost use Rattle.sqz_image.specs.Objects.{object_count};
+ghost use Rattle.sqz_look_view.specs.Inspectors.{IsObjectOf};
 
-use crate::causes::{BadWord, Cause, NearObject};
-use serde::Serialize;
-use sqz_facts::slot_facts;
-use sqz_image::{Fault, Slot};
-use sqz_look_path::PathLine;
-use sqz_look_view::{Hex, Inspector, SlotNames, Subject};
+use crate::causes::{BadWord, Cause};
+use sqz_image::{Fault, Sink, Slot};
+use sqz_look_path::add_path;
+use sqz_look_view::{Inspector, Out, SlotNames, Subject};
 use sqz_names::Label;
 use sqz_object::ObjectIndex;
-use sqz_places::fault_place;
+use sqz_places::{FaultPlace, fault_place};
+use sqz_trace::ObjectGraph;
 use std::alloc::{AllocError, Global};
-use std::fmt;
 
-/// A fault, and where it is.
-#[derive(Drop, Serialize)]
-pub(crate) struct FaultView {
-    #[serde(skip)]
+/// A fault, and where it is in its file.
+#[derive(Drop)]
+pub(crate) struct FaultFacts {
     fault: Fault,
-    number: u32,
-    /// The text of the fault and its cause.
-    text: String,
     /// The address of the object or the word that is at fault.
-    pub(crate) address: Option<Hex>,
+    pub(crate) address: Option<u32>,
     /// Where this is in the file, in bytes.
     pub(crate) byte: Option<u64>,
     cause: Option<Cause>,
-    /// The name of the object that is at fault, if it has one, and the slot.
-    owner: Option<String>,
-    /// A path to the object that is at fault, if it has no name.
-    path: Option<PathLine>,
 }
 
-impl FaultView {
+impl FaultFacts {
     /// Returns a fault that has no place.
-    pub(crate) fn of(
-        alloc: Global,
-        fault: Fault,
-        cause: Option<Cause>,
-    ) -> Result<Self, AllocError> {
-        let text = match &cause {
-            Some(cause) => format!(in alloc; "{fault}{cause}")?,
-            None => format!(in alloc; "{fault}")?,
-        };
-        Ok(FaultView {
+    pub(crate) fn of(fault: Fault, cause: Option<Cause>) -> Self {
+        FaultFacts {
             fault,
-            number: fault.number(),
-            text,
             address: None,
             byte: None,
             cause,
-            owner: None,
-            path: None,
-        })
+        }
     }
 
     /// Returns a fault of an object of an image.
-    pub(crate) fn in_image(subject: &Subject<'_>, fault: Fault) -> Result<Self, AllocError> {
-        let Some(place) = fault_place(subject.image, fault) else {
-            return FaultView::of(subject.alloc, fault, None);
-        };
+    fn at(
+        alloc: Global,
+        graph: ObjectGraph<'_>,
+        fault: Fault,
+        place: FaultPlace,
+    ) -> Result<Self, AllocError>
+        requires { place.object < object_count graph.heap.now }
+    {
         let cause = match place.slot {
-            Some(slot) => bad_word(subject, place.object, slot)?.map(Cause::Pointer),
+            Some(slot) => BadWord::of(alloc, graph, place.object, slot)?.map(Cause::Pointer),
             None => None,
         };
-        let mut view = FaultView::of(subject.alloc, fault, cause)?;
-        view.byte = Some(place.byte);
-        view.address = Some(subject.address(place.object));
-        Ok(view)
+        Ok(FaultFacts {
+            fault,
+            address: Some(graph.heap.address(place.object)),
+            byte: Some(place.byte),
+            cause,
+        })
     }
 
-    /// Adds what has the object that is at fault: its name if it has one, else a path to it if
-    /// `finds_path`.
-    pub(crate) fn add_owner(
-        &mut self,
-        inspector: &Inspector<'_>,
-        finds_path: bool,
-    ) -> Result<(), AllocError> {
-        let Some(place) = fault_place(inspector.image, self.fault) else {
-            return Ok(());
-        };
-        self.owner = owner_of(inspector, place.object, place.slot)?;
-        if self.owner.is_none() && finds_path {
-            self.path = PathLine::of(inspector, place.object)?;
+    /// Returns the fault as a message, with its number and its place in the file.
+    pub(crate) fn message(&self, alloc: Global) -> Result<String, AllocError> {
+        let (number, fault, cause) = (self.fault.number(), self.fault, self.cause_text(alloc)?);
+        match self.byte {
+            Some(byte) => format!(in alloc; "fault {number}: {fault} (byte {byte}){cause}"),
+            None => format!(in alloc; "fault {number}: {fault}{cause}"),
         }
-        Ok(())
+    }
+
+    /// Adds the fault with its place in the file and its cause: as text, the message.
+    pub(crate) fn add<C: Sink>(&self, alloc: Global, out: &mut Out<'_, C>) {
+        if !out.is_json() {
+            return out.text("fault", self.message(alloc));
+        }
+        out.number("number", u64::from(self.fault.number()));
+        out.text("text", self.text(alloc));
+        out.hex_or_null("address", self.address);
+        out.number_or_null("byte", self.byte);
+        match &self.cause {
+            Some(cause) => cause.add(out),
+            None => out.null("cause"),
+        }
+    }
+
+    /// Adds the fault of a file from which no image could be read.
+    pub(crate) fn add_without_owner<C: Sink>(&self, alloc: Global, out: &mut Out<'_, C>) {
+        self.add(alloc, out);
+        out.null("owner");
+        out.null("path");
+    }
+
+    /// Returns the text of the fault and its cause.
+    fn text(&self, alloc: Global) -> Result<String, AllocError> {
+        let (fault, cause) = (self.fault, self.cause_text(alloc)?);
+        format!(in alloc; "{fault}{cause}")
+    }
+
+    /// Returns the cause as text; nothing if it is not known.
+    fn cause_text(&self, alloc: Global) -> Result<String, AllocError> {
+        match &self.cause {
+            Some(cause) => cause.text(alloc),
+            None => Ok(String::new(alloc)),
+        }
     }
 }
 
 /// Returns the first fault of an image as a message, with its place in the file and its cause.
 pub fn fault_message(subject: &Subject<'_>, fault: Fault) -> Result<String, AllocError> {
-    FaultView::in_image(subject, fault)?.to_string(subject.alloc)
+    let (alloc, graph) = (subject.alloc, subject.live.graph);
+    let facts = match fault_place(subject.image, fault) {
+        Some(place) => FaultFacts::at(alloc, graph, fault, place)?,
+        None => FaultFacts::of(fault, None),
+    };
+    facts.message(alloc)
 }
 
-impl fmt::Display for FaultView {
-    fn fmt<W: fmt::Write>(&self, f: &mut fmt::Formatter<W>) -> fmt::Result {
-        let (number, fault) = (self.number, self.fault);
-        write!(f, "fault {number}: {fault}")?;
-        if let Some(byte) = self.byte {
-            write!(f, " (byte {byte})")?;
+/// Adds a fault of an image, and what has the object that is at fault: its name if it has one, else
+/// a path to it if `finds_path`.
+pub(crate) fn add_fault<C: Sink>(
+    inspector: &Inspector<'_>,
+    fault: Fault,
+    finds_path: bool,
+    out: &mut Out<'_, C>,
+) -> Result<(), AllocError> {
+    let (alloc, graph) = (inspector.alloc, inspector.live.graph);
+    let Some(place) = fault_place(inspector.image, fault) else {
+        FaultFacts::of(fault, None).add_without_owner(alloc, out);
+        return Ok(());
+    };
+    FaultFacts::at(alloc, graph, fault, place)?.add(alloc, out);
+    match owner_of(inspector, place.object, place.slot)? {
+        Some(owner) => {
+            out.word("owner", owner.as_str());
+            out.null("path");
         }
-        if let Some(cause) = &self.cause {
-            write!(f, "{cause}")?;
-        }
-        match (&self.owner, &self.path) {
-            (Some(owner), _) => write!(f, ", in {}", owner.as_str()),
-            (None, Some(path)) => write!(f, ", at {path}"),
-            (None, None) => Ok(()),
+        None => {
+            out.null("owner");
+            if finds_path {
+                add_path(inspector, "path", place.object, out)?;
+            } else {
+                out.null("path");
+            }
         }
     }
+    Ok(())
 }
 
 /// Returns the name of an object, if it has one, and the slot.
@@ -119,7 +150,7 @@ fn owner_of(
     object: ObjectIndex,
     slot: Option<Slot>,
 ) -> Result<Option<String>, AllocError>
-    requires { object < object_count inspector.now.live.graph.heap.now }
+    requires { IsObjectOf inspector.now object }
 {
     if inspector.names.label_of(object)? == Label::Other {
         return Ok(None);
@@ -128,35 +159,6 @@ fn owner_of(
     let Some(slot) = slot else {
         return Ok(Some(label));
     };
-    let slot = slot_text(inspector, object, slot)?;
+    let slot = SlotNames::of(inspector, object)?.text(slot)?;
     Ok(Some(format!(in inspector.alloc; "{label}, {slot}")?))
-}
-
-/// Returns the name of a slot of an object.
-fn slot_text(
-    inspector: &Inspector<'_>,
-    object: ObjectIndex,
-    slot: Slot,
-) -> Result<String, AllocError>
-    requires { object < object_count inspector.now.live.graph.heap.now }
-{
-    SlotNames::of(inspector, object)?.text(slot)
-}
-
-/// Returns what a bad slot holds, and the object whose address is one bit away. None if the object
-/// has no such slot.
-fn bad_word(
-    subject: &Subject<'_>,
-    object: ObjectIndex,
-    slot: Slot,
-) -> Result<Option<BadWord>, AllocError>
-    requires { object < object_count subject.now.live.graph.heap.now }
-{
-    let heap = subject.live.graph.heap;
-    let Some(held) = slot_facts(heap, object, slot) else {
-        return Ok(None);
-    };
-    let near = NearObject::of(subject, slot, held.word)?;
-    let word = Hex(held.word);
-    Ok(Some(BadWord { word, near }))
 }

@@ -15,10 +15,10 @@ const ZIP: &[u8] = b"PK\x03\x04";
 /// Returns what a file without the supported version is likely to be, if that is known.
 pub(crate) fn kind_of(file: &[u8]) -> Option<FileKind> {
     if file.starts_with(GZIP) {
-        return Some(FileKind::Archive { file: "gzip" });
+        return Some(FileKind::Archive("gzip"));
     }
     if file.starts_with(ZIP) {
-        return Some(FileKind::Archive { file: "zip" });
+        return Some(FileKind::Archive("zip"));
     }
     for offset in [0, PREFIX_SIZE] {
         for order in [Order::Little, Order::Big] {

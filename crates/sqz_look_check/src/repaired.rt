@@ -1,92 +1,74 @@
 //! What a repair of a file keeps and clears, and which words it writes anew.
 
-use serde::Serialize;
 use sqz_dangling::{Becomes, Patch};
-use sqz_image::Header;
-use sqz_look_view::{Counted, write_bytes};
+use sqz_image::{Header, Sink};
+use sqz_look_view::{Counted, Out};
 use sqz_places::byte_of_word;
 use sqz_repair::{RepairSummary, Repaired};
-use std::fmt;
+use std::alloc::{AllocError, Global};
 
 /// The maximum number of words that are listed.
 const MOST_WORDS: usize = 20;
 
-/// What a repair keeps of a file, and what it clears.
-#[derive(Clone, Copy, Drop, Serialize)]
-pub(crate) struct SummaryView {
-    /// The live objects before, and those that are left.
-    live_objects: u32,
-    kept_objects: u32,
-    /// Their bytes.
-    live_bytes: u64,
-    kept_bytes: u64,
-    /// The pointers that become nil.
-    cleared_pointers: usize,
-    /// The live objects that become free chunks.
-    freed_objects: usize,
+/// Adds what a repair keeps and clears: the live objects before, those that are left, their bytes,
+/// the pointers that become nil, and the live objects that become free chunks. Null if that was not
+/// found.
+pub(crate) fn add_summary<C: Sink>(summary: Option<RepairSummary>, out: &mut Out<'_, C>) {
+    let Some(summary) = summary else {
+        return out.null("repair");
+    };
+    out.begin_object("repair");
+    out.number("live_objects", u64::from(summary.before.objects));
+    out.number("kept_objects", u64::from(summary.after.objects));
+    out.amount("live_bytes", summary.before.bytes);
+    out.amount("kept_bytes", summary.after.bytes);
+    out.number("cleared_pointers", summary.pointers as u64);
+    out.number("freed_objects", summary.freed as u64);
+    out.end_object();
+    out.part(
+        "{image}: mend --nil keeps {kept_objects} of {live_objects} live objects, \
+         {kept_bytes#byte} of {live_bytes#byte}; {cleared_pointers#pointer} cleared, \
+         {freed_objects#object} freed",
+    );
 }
 
-impl SummaryView {
-    /// Returns what a repair keeps and clears.
-    pub(crate) fn of(summary: RepairSummary) -> Self {
-        SummaryView {
-            live_objects: summary.before.objects,
-            kept_objects: summary.after.objects,
-            live_bytes: summary.before.bytes,
-            kept_bytes: summary.after.bytes,
-            cleared_pointers: summary.pointers,
-            freed_objects: summary.freed,
-        }
+/// Returns what a repair of a file with this header keeps and clears, and the first words that it
+/// wrote anew, as lines of text.
+pub fn repaired_text(
+    alloc: Global,
+    header: &Header,
+    repaired: &Repaired,
+) -> Result<String, AllocError> {
+    let mut text = summary_text(alloc, repaired.summary())?;
+    for patch in repaired.patches.iter().take(MOST_WORDS) {
+        text.push_str(patch_text(alloc, header, *patch)?.as_str())?;
     }
-}
-
-impl fmt::Display for SummaryView {
-    fn fmt<W: fmt::Write>(&self, f: &mut fmt::Formatter<W>) -> fmt::Result {
-        let (kept, live) = (self.kept_objects, self.live_objects);
-        write!(f, "{kept} of {live} live objects, ")?;
-        write_bytes(f, self.kept_bytes)?;
-        f.write_str(" of ")?;
-        write_bytes(f, self.live_bytes)?;
-        let pointers = Counted(self.cleared_pointers as u64, "pointer");
-        let freed = Counted(self.freed_objects as u64, "object");
-        write!(f, "; {pointers} cleared, {freed} freed")
+    if repaired.patches.len() > MOST_WORDS {
+        let more = repaired.patches.len() - MOST_WORDS;
+        text.push_str(format!(in alloc; "\n... {more} more")?.as_str())?;
     }
+    Ok(text)
 }
 
-/// The words of a file that were written anew so that no pointer leads nowhere.
-#[derive(Clone, Copy)]
-pub struct RepairedView<'a> {
-    header: &'a Header,
-    summary: SummaryView,
-    patches: &'a [Patch],
+/// Returns what a repair keeps and clears, as text.
+fn summary_text(alloc: Global, summary: RepairSummary) -> Result<String, AllocError> {
+    let (before, after) = (summary.before, summary.after);
+    let pointers = Counted(summary.pointers as u64, "pointer");
+    let freed = Counted(summary.freed as u64, "object");
+    let kept = format!(in alloc;
+        "kept {} of {} live objects, {} bytes of {} bytes",
+        after.objects, before.objects, after.bytes, before.bytes
+    )?;
+    format!(in alloc; "{kept}; {pointers} cleared, {freed} freed")
 }
 
-impl<'a> RepairedView<'a> {
-    /// Returns the words of a file with this header that were written anew.
-    pub fn of(header: &'a Header, repaired: &'a Repaired) -> Self {
-        RepairedView {
-            header,
-            summary: SummaryView::of(repaired.summary()),
-            patches: &repaired.patches,
-        }
-    }
-}
-
-impl fmt::Display for RepairedView<'_> {
-    fn fmt<W: fmt::Write>(&self, f: &mut fmt::Formatter<W>) -> fmt::Result {
-        write!(f, "kept {}", self.summary)?;
-        for patch in self.patches.iter().take(MOST_WORDS) {
-            let word = patch.word;
-            let byte = byte_of_word(self.header.offset, u64::from(word));
-            let became = match patch.becomes {
-                Becomes::Nil => "nil",
-                Becomes::FreeChunk => "free",
-            };
-            write!(f, "\nword {word} (byte {byte}): {became}")?;
-        }
-        match self.patches.len().saturating_sub(MOST_WORDS) {
-            0 => Ok(()),
-            more => write!(f, "\n... {more} more"),
-        }
-    }
+/// Returns the line of a word that was written anew.
+fn patch_text(alloc: Global, header: &Header, patch: Patch) -> Result<String, AllocError> {
+    let word = patch.word;
+    let byte = byte_of_word(header.offset, u64::from(word));
+    let became = match patch.becomes {
+        Becomes::Nil => "nil",
+        Becomes::FreeChunk => "free",
+    };
+    format!(in alloc; "\nword {word} (byte {byte}): {became}")
 }

@@ -1,105 +1,96 @@
 //! What of a file was skipped.
 
-use serde::Serialize;
 use sqz_damage::Gap;
-use sqz_image::Header;
-use sqz_look_view::{Counted, write_bytes};
+use sqz_image::{Header, Sink};
+use sqz_look_view::{Out, PrintError};
 use sqz_mend::Damage;
-use sqz_object::WordIndex;
 use sqz_places::{GapPlace, bytes_in_gaps, gap_place};
 use std::alloc::{AllocError, Global};
-use std::fmt;
 
-/// A run of data words that was skipped or lost, and where it is in the mended file.
-#[derive(Clone, Copy, Drop, Serialize)]
-pub(crate) struct GapView {
-    word: WordIndex,
-    byte: u64,
-    bytes: u64,
-}
-
-impl GapView {
-    /// Returns a run in a file with this header.
-    fn of(header: &Header, gap: Gap) -> Self {
-        let GapPlace { word, byte, bytes } = gap_place(header.offset, gap);
-        GapView { word, byte, bytes }
-    }
-
-    /// Returns the words that a file with this header lacks, if it is clear where they were lost.
-    pub(crate) fn of_loss(header: &Header, damage: &Damage) -> Option<Self> {
-        match damage.place {
-            Some(first) => {
-                let words = damage.missing / 4;
-                Some(GapView::of(header, Gap { first, words }))
-            }
-            None => None,
+/// Returns the words that a file with this header lacks, if it is clear where they were lost.
+pub(crate) fn place_of_loss(header: &Header, damage: &Damage) -> Option<GapPlace> {
+    match damage.place {
+        Some(first) => {
+            let words = damage.missing / 4;
+            Some(gap_place(header.offset, Gap { first, words }))
         }
-    }
-
-    /// Writes where the run begins.
-    pub(crate) fn write_start<W: fmt::Write>(&self, f: &mut fmt::Formatter<W>) -> fmt::Result {
-        write!(f, " at word {} (byte {})", self.word, self.byte)
+        None => None,
     }
 }
 
-/// What of the data of an image was skipped.
-#[derive(Drop, Serialize)]
-pub struct SkippedView<'a> {
-    image: &'a str,
-    skipped: Vec<GapView>,
-    /// The number of bytes of the data that the file does not have.
-    missing_bytes: u32,
-    /// Where they were, if that is clear and not the end.
-    missing_at: Option<GapView>,
-    /// The length of all runs in bytes.
-    #[serde(skip)]
-    bytes: u64,
+/// Adds a run of data words that was skipped or lost, and where it is in the mended file.
+pub(crate) fn add_gap<C: Sink>(place: GapPlace, out: &mut Out<'_, C>) {
+    out.number("word", u64::from(place.word));
+    out.number("byte", place.byte);
+    out.number("bytes", place.bytes);
 }
 
-impl<'a> SkippedView<'a> {
-    /// Returns what was skipped of a file with this path and header.
-    pub fn of(
-        alloc: Global,
-        image: &'a str,
-        header: &Header,
-        damage: &Damage,
-    ) -> Result<Self, AllocError> {
-        let mut skipped = Vec::new(alloc);
-        for gap in &damage.gaps {
-            skipped.push(GapView::of(header, *gap))?;
+/// Adds where data words were lost, if that is clear and not the end.
+pub(crate) fn add_loss<C: Sink>(lost: Option<GapPlace>, out: &mut Out<'_, C>) {
+    match lost {
+        Some(place) => {
+            out.begin_object("missing_at");
+            add_gap(place, out);
+            out.end_object();
         }
-        Ok(SkippedView {
-            image,
-            skipped,
-            missing_bytes: damage.missing,
-            missing_at: GapView::of_loss(header, damage),
-            bytes: bytes_in_gaps(&damage.gaps),
-        })
+        None => out.null("missing_at"),
     }
 }
 
-impl fmt::Display for SkippedView<'_> {
-    fn fmt<W: fmt::Write>(&self, f: &mut fmt::Formatter<W>) -> fmt::Result {
-        if let Some(first) = self.skipped.first() {
-            f.write_str("skipped ")?;
-            write_bytes(f, self.bytes)?;
-            if self.skipped.len() > 1 {
-                let gaps = Counted(self.skipped.len() as u64, "gap");
-                write!(f, " in {gaps}, the first")?;
-            }
-            first.write_start(f)?;
-        }
-        if self.missing_bytes > 0 {
-            if !self.skipped.is_empty() {
-                f.write_str("; ")?;
-            }
-            write_bytes(f, u64::from(self.missing_bytes))?;
-            f.write_str(" of the data are missing")?;
-            match &self.missing_at {
-                Some(lost) => lost.write_start(f)?,
-                None => f.write_str(" at the end")?,
-            }
-        }
-        Ok(())
+/// Returns where a run of data words begins, as text that follows a number of bytes.
+pub(crate) fn start_text(alloc: Global, place: GapPlace) -> Result<String, AllocError> {
+    let (word, byte) = (place.word, place.byte);
+    format!(in alloc; " at word {word} (byte {byte})")
+}
+
+/// Prints what was skipped of the data of an image as a line of JSON.
+pub fn print_skipped<C: Sink>(
+    path: &str,
+    header: &Header,
+    damage: &Damage,
+    out: &mut Out<'_, C>,
+) -> Result<(), PrintError> {
+    if !out.is_json() {
+        return Ok(());
+    }
+    out.word("image", path);
+    out.begin_list("skipped");
+    for gap in &damage.gaps {
+        add_gap(gap_place(header.offset, *gap), out);
+        out.end_row();
+    }
+    out.end_list();
+    out.number("missing_bytes", u64::from(damage.missing));
+    add_loss(place_of_loss(header, damage), out);
+    out.end_row();
+    out.end()
+}
+
+/// Returns what was skipped of the data of an image, as text.
+pub fn skipped_text(alloc: Global, header: &Header, damage: &Damage) -> Result<String, AllocError> {
+    let skipped = gaps_text(alloc, header, &damage.gaps)?;
+    if damage.missing == 0 {
+        return Ok(skipped);
+    }
+    let between = if damage.gaps.is_empty() { "" } else { "; " };
+    let missing = damage.missing;
+    let place = match place_of_loss(header, damage) {
+        Some(place) => start_text(alloc, place)?,
+        None => String::from_str(alloc, " at the end")?,
+    };
+    format!(in alloc; "{skipped}{between}{missing} bytes of the data are missing{place}")
+}
+
+/// Returns how many bytes were skipped, and where, as text; nothing if none were.
+fn gaps_text(alloc: Global, header: &Header, gaps: &[Gap]) -> Result<String, AllocError> {
+    let Some(first) = gaps.first() else {
+        return Ok(String::new(alloc));
+    };
+    let (bytes, count) = (bytes_in_gaps(gaps), gaps.len());
+    let start = start_text(alloc, gap_place(header.offset, *first))?;
+    if count > 1 {
+        format!(in alloc; "skipped {bytes} bytes in {count} gaps, the first{start}")
+    } else {
+        format!(in alloc; "skipped {bytes} bytes{start}")
     }
 }

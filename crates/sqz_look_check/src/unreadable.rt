@@ -3,19 +3,17 @@
 ghost use Rattle.sqz_image.specs.Unread.{IsUnread};
 
 use crate::causes::{Cause, FileKind};
-use crate::faults::FaultView;
+use crate::faults::FaultFacts;
 use crate::file_kinds::kind_of;
-use crate::skipped::GapView;
-use serde::Serialize;
-use sqz_image::{Fault, Header, UnreadFile};
-use sqz_look_view::{Counted, Hex, write_bytes};
+use crate::skipped::{add_loss, place_of_loss};
+use sqz_image::{Fault, Header, Sink, UnreadFile};
+use sqz_look_view::Out;
 use sqz_mend::{RecoverError, image_in, mend_file};
 use sqz_object::Address;
-use sqz_places::{bytes_in_gaps, unread_place};
+use sqz_places::{GapPlace, bytes_in_gaps, unread_place};
 use sqz_repair::{RepairSummary, repair_summary};
 use sqz_trace::Weak;
 use std::alloc::{AllocError, Global};
-use std::fmt;
 use std::thread::Threads;
 
 /// A file from which no image could be read: its fault, and what could be read of it.
@@ -33,30 +31,47 @@ pub struct Unreadable {
 }
 
 /// How much of a file can be read past what cannot be read.
-#[derive(Clone, Copy, Drop, Serialize)]
+#[derive(Clone, Copy)]
 pub(crate) struct Extent {
     /// The bytes of the data that cannot be read, and those that the file does not have.
-    pub(crate) unreadable_bytes: u64,
-    pub(crate) missing_bytes: u32,
+    unreadable_bytes: u64,
+    missing_bytes: u32,
     /// Where the bytes are missing, if that is clear and not the end.
-    pub(crate) missing_at: Option<GapView>,
+    missing_at: Option<GapPlace>,
     /// The objects that can be read.
-    pub(crate) objects: u32,
+    objects: u32,
 }
 
-impl fmt::Display for Extent {
-    fn fmt<W: fmt::Write>(&self, f: &mut fmt::Formatter<W>) -> fmt::Result {
-        if self.missing_bytes > 0 {
-            write_bytes(f, u64::from(self.missing_bytes))?;
-            f.write_str(" are missing")?;
-            if let Some(lost) = &self.missing_at {
-                lost.write_start(f)?;
+impl Extent {
+    /// Adds how much can be read; null if that is not known.
+    pub(crate) fn add<C: Sink>(extent: Option<Self>, out: &mut Out<'_, C>) {
+        let Some(extent) = extent else {
+            return out.null("readable");
+        };
+        out.begin_object("readable");
+        out.amount("unreadable_bytes", extent.unreadable_bytes);
+        out.amount("missing_bytes", u64::from(extent.missing_bytes));
+        add_loss(extent.missing_at, out);
+        out.number("objects", u64::from(extent.objects));
+        out.end_object();
+    }
+
+    /// Returns the template of the line of a fault with how much can be read past it.
+    pub(crate) fn template(&self) -> &'static str {
+        match (self.missing_bytes, self.missing_at) {
+            (0, _) => {
+                "{image}: {fault}: {unreadable_bytes#byte} cannot be read; {objects#object} before \
+                 and after"
             }
-            f.write_str(", ")?;
+            (_, None) => {
+                "{image}: {fault}: {missing_bytes#byte} are missing, {unreadable_bytes#byte} cannot \
+                 be read; {objects#object} before and after"
+            }
+            (_, Some(_)) => {
+                "{image}: {fault}: {missing_bytes#byte} are missing at word {word} (byte {byte}), \
+                 {unreadable_bytes#byte} cannot be read; {objects#object} before and after"
+            }
         }
-        write_bytes(f, self.unreadable_bytes)?;
-        let objects = Counted(u64::from(self.objects), "object");
-        write!(f, " cannot be read; {objects} before and after")
     }
 }
 
@@ -98,7 +113,7 @@ impl Unreadable {
         self.extent = Some(Extent {
             unreadable_bytes: bytes_in_gaps(&mended.damage.gaps),
             missing_bytes: mended.damage.missing,
-            missing_at: GapView::of_loss(&mended.header, &mended.damage),
+            missing_at: place_of_loss(&mended.header, &mended.damage),
             objects: image.heap().len(),
         });
         drop(image);
@@ -129,24 +144,24 @@ impl Unreadable {
     }
 
     /// Returns the fault with its place in the file.
-    pub(crate) fn view(&self, alloc: Global) -> Result<FaultView, AllocError> {
-        let mut view = FaultView::of(alloc, self.fault, self.kind.map(Cause::File))?;
+    pub(crate) fn facts(&self) -> FaultFacts {
+        let mut facts = FaultFacts::of(self.fault, self.kind.map(Cause::File));
         let Some(header) = self.header else {
-            return Ok(view);
+            return facts;
         };
         if let Some(place) = unread_place(&header, self.fault) {
-            view.address = Some(Hex(place.address));
-            view.byte = Some(place.byte);
+            facts.address = Some(place.address);
+            facts.byte = Some(place.byte);
         }
         if self.fault == Fault::BadSpecialObjects {
-            view.address = Some(Hex(header.special()));
+            facts.address = Some(header.special());
         }
-        Ok(view)
+        facts
     }
 
     /// Returns the fault as a message, with its place in the file.
     pub fn message(&self, alloc: Global) -> Result<String, AllocError> {
-        self.view(alloc)?.to_string(alloc)
+        self.facts().message(alloc)
     }
 }
 

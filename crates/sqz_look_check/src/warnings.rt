@@ -4,239 +4,166 @@ ghost use Rattle.std.specs.Prelude.{◌<◌, All};
 ghost use Rattle.sqz_image.specs.Objects.{object_count};
 ghost use Rattle.sqz_strict.specs.Warnings.{object_of};
 
-use crate::causes::NearObject;
-use serde::Serialize;
+use crate::causes::{NearObject, add_near, near_text};
+use crate::skipped::add_gap;
 use sqz_damage::Gap;
-use sqz_image::{Object, Slot};
-use sqz_look_view::{Counted, Hex, Subject, write_bytes};
-use sqz_object::{ObjectIndex, WordIndex, base_of};
-use sqz_places::{GapPlace, gap_place};
+use sqz_image::{Image, Object, Sink, Slot};
+use sqz_look_view::{Counted, Out};
+use sqz_names::{name_of_class, name_of_class_of};
+use sqz_object::{ObjectIndex, base_of};
+use sqz_places::gap_place;
 use sqz_strict::{ClassShape, Findings, Warning};
-use sqz_trace::class_address;
-use std::alloc::AllocError;
-use std::fmt;
+use sqz_trace::{ObjectGraph, class_address};
+use std::alloc::{AllocError, Global};
 
-/// A warning about an image.
-#[derive(Drop, Serialize)]
-#[serde(tag = "kind", rename_all = "snake_case")]
-pub(crate) enum WarningView {
-    /// An object is not as its class states.
-    Shape {
-        address: Hex,
-        class: String,
-        has: ShapeView,
-        stated: ShapeView,
-    },
-    /// The class of an object is no class.
-    NoClass {
-        address: Hex,
-        class: Option<Hex>,
-        near: Option<NearObject>,
-    },
-    /// A class has no method dictionary.
-    NoMethodDictionary {
-        address: Hex,
-        class: String,
-    },
-    /// A method dictionary has fewer methods than selectors.
-    MethodDictionary {
-        address: Hex,
-    },
-    /// An association of a variable has no key.
-    NoKey {
-        address: Hex,
-    },
-    /// No chunk is here in the reading of the data that contradicts the fewest pointers.
-    Gap {
-        word: WordIndex,
-        byte: u64,
-        bytes: u64,
-    },
-}
-
-/// What an object has, or what its class states: the format, the number of fields or of fixed ones,
-/// and the compact class index.
-#[derive(Clone, Copy, Drop, Serialize)]
-pub(crate) struct ShapeView {
-    format: u32,
-    fields: u32,
-    compact: u32,
-}
-
-impl ShapeView {
-    /// Returns what an object has.
-    fn of_object(object: &Object<'_>) -> Self {
-        let base = base_of(object.header().base);
-        ShapeView {
-            format: base.format,
-            fields: object.fields().len() as u32,
-            compact: base.compact,
-        }
-    }
-
-    /// Returns what a class states.
-    fn of_class(stated: ClassShape) -> Self {
-        ShapeView {
-            format: stated.format,
-            fields: stated.fixed,
-            compact: stated.compact,
-        }
-    }
-}
-
-impl WarningView {
-    /// Returns a warning about an object.
-    fn of(subject: &Subject<'_>, warning: Warning) -> Result<Self, AllocError>
-        requires { object_of warning < object_count subject.now.live.graph.heap.now }
-    {
-        let object = warning.object();
-        let address = subject.address(object);
-        Ok(match warning {
-            Warning::Shape { stated, .. } => WarningView::Shape {
-                address,
-                class: subject.name_of_class_of(object)?,
-                has: ShapeView::of_object(&subject.live.graph.heap.object(object)),
-                stated: ShapeView::of_class(stated),
-            },
-            Warning::NoClass { .. } => no_class(subject, object)?,
-            Warning::NoMethodDictionary { .. } => WarningView::NoMethodDictionary {
-                address,
-                class: subject.name_of_class(object)?,
-            },
-            Warning::MethodDictionary { .. } => WarningView::MethodDictionary { address },
-            Warning::NoKey { .. } => WarningView::NoKey { address },
-        })
-    }
-
-    /// Returns a gap of the best reading of the data.
-    fn of_gap(subject: &Subject<'_>, gap: Gap) -> Self {
-        let GapPlace { word, byte, bytes } = gap_place(subject.image.prefix().len(), gap);
-        WarningView::Gap { word, byte, bytes }
-    }
-}
-
-/// Returns the warning that the class of an object is no class, with the class that is near.
-fn no_class(subject: &Subject<'_>, object: ObjectIndex) -> Result<WarningView, AllocError>
-    requires { object < object_count subject.now.live.graph.heap.now }
-{
-    let heap = subject.live.graph.heap;
-    let class = match subject.live.graph.class_of(object) {
-        Some(class) => Some(subject.address(class)),
-        None => None,
-    };
-    let near = match class_address(&heap.object(object)) {
-        Some(word) => NearObject::of(subject, Slot::ClassWord, word)?,
-        None => None,
-    };
-    Ok(WarningView::NoClass {
-        address: subject.address(object),
-        class,
-        near,
-    })
-}
-
-/// Returns all that a strict check found of an image.
-pub(crate) fn warning_views(
-    subject: &Subject<'_>,
+/// Prints what a strict check found of an image.
+pub(crate) fn print_warnings<C: Sink>(
+    alloc: Global,
+    image: &Image,
+    graph: ObjectGraph<'_>,
     findings: &Findings,
-) -> Result<Vec<WarningView>, AllocError>
-    requires { All (λ warning. object_of warning < object_count subject.now.live.graph.heap.now)
+    out: &mut Out<'_, C>,
+)
+    requires { All (λ warning. object_of warning < object_count graph.heap.now)
         findings.now.warnings.items }
 {
-    let mut views = Vec::new(subject.alloc);
+    out.begin_list("warnings");
     for warning in &findings.warnings {
-        views.push(WarningView::of(subject, *warning)?)?;
+        print_warning(alloc, graph, *warning, out);
     }
     for gap in &findings.gaps {
-        views.push(WarningView::of_gap(subject, *gap))?;
+        print_gap(image, *gap, out);
     }
-    Ok(views)
+    out.end_list();
 }
 
-impl fmt::Display for ShapeView {
-    fn fmt<W: fmt::Write>(&self, f: &mut fmt::Formatter<W>) -> fmt::Result {
-        let (format, fields) = (self.format, Counted(u64::from(self.fields), "field"));
-        write!(f, "format {format}, {fields}, compact {}", self.compact)
-    }
-}
-
-impl fmt::Display for WarningView {
-    fn fmt<W: fmt::Write>(&self, f: &mut fmt::Formatter<W>) -> fmt::Result {
-        match self {
-            WarningView::Shape {
-                address,
-                class,
-                has,
-                stated,
-            } => write_shape(f, class.as_str(), *address, *has, *stated),
-            WarningView::NoClass {
-                address,
-                class,
-                near,
-            } => write_no_class(f, *address, *class, near.as_ref()),
-            WarningView::NoMethodDictionary { address, class } => {
-                let class = class.as_str();
-                write!(f, "class {class} {address} has no method dictionary")
-            }
-            WarningView::MethodDictionary { address } => write_dictionary(f, *address),
-            WarningView::NoKey { address } => write_association(f, *address),
-            WarningView::Gap { word, byte, bytes } => write_gap(f, *word, *byte, *bytes),
+/// Prints a warning about an object.
+fn print_warning<C: Sink>(
+    alloc: Global,
+    graph: ObjectGraph<'_>,
+    warning: Warning,
+    out: &mut Out<'_, C>,
+)
+    requires { object_of warning < object_count graph.heap.now }
+{
+    let object = warning.object();
+    match warning {
+        Warning::Shape { stated, .. } => print_shape(alloc, graph, object, stated, out),
+        Warning::NoClass { .. } => {
+            let done = print_no_class(alloc, graph, object, out);
+            out.need(done);
+        }
+        Warning::NoMethodDictionary { .. } => {
+            add_kind("no_method_dictionary", graph, object, out);
+            out.text("class", name_of_class(alloc, graph, object));
+            out.line("{image}: warning: class {class} {address} has no method dictionary");
+        }
+        Warning::MethodDictionary { .. } => {
+            add_kind("method_dictionary", graph, object, out);
+            out.line(
+                "{image}: warning: method dictionary {address} has fewer methods than selectors",
+            );
+        }
+        Warning::NoKey { .. } => {
+            add_kind("no_key", graph, object, out);
+            out.line("{image}: warning: association {address} has no key");
         }
     }
 }
 
-/// Writes what an object has, and what its class states.
-fn write_shape<W: fmt::Write>(
-    f: &mut fmt::Formatter<W>,
-    class: &str,
-    address: Hex,
-    has: ShapeView,
-    stated: ShapeView,
-) -> fmt::Result {
-    write!(f, "{class} {address} has {has}; its class states {stated}")
+/// Adds the kind of a warning, and the object that it is about.
+fn add_kind<C: Sink>(kind: &str, graph: ObjectGraph<'_>, object: ObjectIndex, out: &mut Out<'_, C>)
+    requires { object < object_count graph.heap.now }
+{
+    out.word("kind", kind);
+    out.hex("address", graph.heap.address(object));
 }
 
-/// Writes that the class of an object is no class.
-fn write_no_class<W: fmt::Write>(
-    f: &mut fmt::Formatter<W>,
-    address: Hex,
-    class: Option<Hex>,
-    near: Option<&NearObject>,
-) -> fmt::Result {
-    write!(f, "the class of object {address}")?;
-    if let Some(class) = class {
-        write!(f, ", {class},")?;
+/// Prints that an object is not as its class states.
+fn print_shape<C: Sink>(
+    alloc: Global,
+    graph: ObjectGraph<'_>,
+    object: ObjectIndex,
+    stated: ClassShape,
+    out: &mut Out<'_, C>,
+)
+    requires { object < object_count graph.heap.now }
+{
+    let has = shape_of(&graph.heap.object(object));
+    add_kind("shape", graph, object, out);
+    out.text("class", name_of_class_of(alloc, graph, object));
+    add_shape("has", has, out);
+    add_shape("stated", stated, out);
+    if !out.is_json() {
+        out.text("has", shape_text(alloc, has));
+        out.text("stated", shape_text(alloc, stated));
     }
-    f.write_str(" is no class")?;
-    match near {
-        Some(near) => write!(f, "{near}"),
-        None => Ok(()),
+    out.line("{image}: warning: {class} {address} has {has}; its class states {stated}");
+}
+
+/// Returns what an object has: its format, the number of its fields, and the compact class index.
+fn shape_of(object: &Object<'_>) -> ClassShape {
+    let base = base_of(object.header().base);
+    ClassShape {
+        format: base.format,
+        fixed: object.fields().len() as u32,
+        compact: base.compact,
     }
 }
 
-/// Writes what a method dictionary is short of.
-fn write_dictionary<W: fmt::Write>(f: &mut fmt::Formatter<W>, address: Hex) -> fmt::Result {
-    write!(
-        f,
-        "method dictionary {address} has fewer methods than selectors"
-    )
+/// Adds what an object has, or what its class states.
+fn add_shape<C: Sink>(name: &'static str, shape: ClassShape, out: &mut Out<'_, C>) {
+    out.begin_object(name);
+    out.number("format", u64::from(shape.format));
+    out.number("fields", u64::from(shape.fixed));
+    out.number("compact", u64::from(shape.compact));
+    out.end_object();
 }
 
-/// Writes what an association is short of.
-fn write_association<W: fmt::Write>(f: &mut fmt::Formatter<W>, address: Hex) -> fmt::Result {
-    write!(f, "association {address} has no key")
+/// Returns what an object has, or what its class states, as text.
+fn shape_text(alloc: Global, shape: ClassShape) -> Result<String, AllocError> {
+    let (format, fields) = (shape.format, Counted(u64::from(shape.fixed), "field"));
+    let compact = shape.compact;
+    format!(in alloc; "format {format}, {fields}, compact {compact}")
 }
 
-/// Writes where a gap is.
-fn write_gap<W: fmt::Write>(
-    f: &mut fmt::Formatter<W>,
-    word: WordIndex,
-    byte: u64,
-    bytes: u64,
-) -> fmt::Result {
-    write_bytes(f, bytes)?;
-    write!(
-        f,
-        " at word {word} (byte {byte}) are no chunk that pointers agree with"
-    )
+/// Prints that the class of an object is no class, with the class that is near.
+fn print_no_class<C: Sink>(
+    alloc: Global,
+    graph: ObjectGraph<'_>,
+    object: ObjectIndex,
+    out: &mut Out<'_, C>,
+) -> Result<(), AllocError>
+    requires { object < object_count graph.heap.now }
+{
+    let near = match class_address(&graph.heap.object(object)) {
+        Some(word) => NearObject::of(alloc, graph, Slot::ClassWord, word)?,
+        None => None,
+    };
+    add_kind("no_class", graph, object, out);
+    match graph.class_of(object) {
+        Some(class) => out.hex("class", graph.heap.address(class)),
+        None => out.null("class"),
+    }
+    if out.is_json() {
+        add_near(near.as_ref(), out);
+    } else {
+        out.text("near", near_text(alloc, near.as_ref()));
+        out.truth("after", graph.class_of(object).is_some());
+    }
+    out.line(
+        "{image}: warning: the class of object {address}{class/, }{after/,} is no class{near}",
+    );
+    Ok(())
+}
+
+/// Prints a gap of the best reading of the data: no chunk is here in the reading that contradicts
+/// the fewest pointers.
+fn print_gap<C: Sink>(image: &Image, gap: Gap, out: &mut Out<'_, C>) {
+    out.word("kind", "gap");
+    add_gap(gap_place(image.prefix().len(), gap), out);
+    out.line(
+        "{image}: warning: {bytes#byte} at word {word} (byte {byte}) are no chunk that pointers \
+         agree with",
+    );
 }

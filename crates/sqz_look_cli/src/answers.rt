@@ -105,7 +105,9 @@ fn warn_of_page<E: Sink>(
         ⊎ (most_objects < object_count subject.now.live.graph.heap.now) }
 {
     match question {
-        NamedQuestion::Explore { min: 0 } => warn_if_large(subject, path, err),
+        NamedQuestion::Explore {
+            min: None | Some(0),
+        } => warn_if_large(subject, path, err),
         _ => Ok(()),
     }
 }
@@ -163,7 +165,7 @@ fn answer_by_names<T: Threads + Sync, C: Sink, E: Sink>(
         NamedQuestion::Find(pattern) => print_matches(inspector, pattern, out)?,
         NamedQuestion::Dump => print_dump(inspector, out)?,
         NamedQuestion::Explore { min } => {
-            print_explore(rt, inspector, notes, u64::from(*min), out)?;
+            print_explore(rt, inspector, notes, *min, out)?;
         }
     }
     Ok(DONE)

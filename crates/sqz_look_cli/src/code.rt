@@ -3,12 +3,11 @@
 use crate::meant::the_object;
 use sqz_image::Sink;
 use sqz_look_args::CodeQuestion;
-use sqz_look_check::Shown;
 use sqz_look_code::{
     print_class_code, print_class_tree, print_method_code, print_unimplemented, print_unsent,
 };
 use sqz_look_files::Failure;
-use sqz_look_view::{Inspector, Out};
+use sqz_look_view::{Inspector, Out, Shown};
 use sqz_object::Layout;
 
 /// Prints the answer to a question about the code of an image.

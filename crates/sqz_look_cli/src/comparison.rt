@@ -10,10 +10,9 @@ ghost use Rattle.sqz_look_cli.specs.Comparison.{IsSeenAs, ReadsNone};
 
 use sqz_cli::{BAD_IMAGE, DONE};
 use sqz_image::{Image, Sink};
-use sqz_look_check::Shown;
 use sqz_look_diff::print_diff;
 use sqz_look_files::{Failure, ReadFile, ReadImage, Session, warn};
-use sqz_look_view::{Inspector, Out, PrintError};
+use sqz_look_view::{Inspector, Out, PrintError, Shown};
 use std::alloc::AllocError;
 use std::rt::Files;
 use std::thread::Threads;

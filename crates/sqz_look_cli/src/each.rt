@@ -7,11 +7,10 @@ ghost use Rattle.sqz_look_files.specs.Warnings.{IsSilent};
 use sqz_cli::{BAD_IMAGE, DONE};
 use sqz_image::Sink;
 use sqz_look::{print_census, print_dead_census, print_retained_census};
-use sqz_look_args::{Counting, EachQuestion};
-use sqz_look_check::{Shown, print_digest, print_info, print_info_unreadable};
+use sqz_look_args::{Counting, EachQuestion, Grouping};
+use sqz_look_check::{print_digest, print_info, print_info_unreadable};
 use sqz_look_files::{Failure, ReadFile, Session, explain_failure, warn};
-use sqz_look_view::{Out, PrintError, Subject};
-use std::fmt;
+use sqz_look_view::{Inspector, Out, PrintError};
 use std::io::Read;
 use std::rt::Files;
 use std::thread::Threads;
@@ -25,21 +24,11 @@ struct ImageFile<'a> {
 
 impl ImageFile<'_> {
     /// Prints the line of the text form before the answer, if there are several files.
-    fn print_heading<C: Sink>(&self, out: &mut Out<'_, C>) -> Result<(), PrintError> {
-        if self.is_one_of_several {
-            out.text(&Heading(self.path))?;
+    fn print_heading<C: Sink>(&self, out: &mut Out<'_, C>) {
+        if self.is_one_of_several && !out.is_json() {
+            out.path("path", self.path);
+            out.heading("{path}:");
         }
-        Ok(())
-    }
-}
-
-/// The line of the text form before the answer about one of several images.
-#[derive(Clone, Copy)]
-struct Heading<'a>(&'a str);
-
-impl fmt::Display for Heading<'_> {
-    fn fmt<W: fmt::Write>(&self, f: &mut fmt::Formatter<W>) -> fmt::Result {
-        write!(f, "{}:", Shown(self.0))
     }
 }
 
@@ -111,28 +100,29 @@ fn answer_about<T: Files + Threads + Sync, C: Sink, E: Sink>(
             let subject = session.subject(&read.image)?;
             match question {
                 EachQuestion::Info => {
-                    file.print_heading(out)?;
+                    file.print_heading(out);
                     print_info(session.rt, subject, path, out)?;
                 }
                 EachQuestion::Digest => {
                     warn(session.rt, &subject, path, err)?;
                     print_digest(&subject, path, out)?;
                 }
-                EachQuestion::Census(counting) => {
+                EachQuestion::Census(counting, by) => {
                     warn(session.rt, &subject, path, err)?;
-                    file.print_heading(out)?;
-                    print_census_of(session.rt, &subject, path, counting, out)?;
+                    file.print_heading(out);
+                    let inspector = Inspector::of(subject)?;
+                    print_census_of(session.rt, &inspector, path, counting, by, out)?;
                 }
             }
             Ok(DONE)
         }
         ReadFile::Unreadable(unreadable) => match question {
             EachQuestion::Info => {
-                file.print_heading(out)?;
+                file.print_heading(out);
                 print_info_unreadable(session.alloc, &unreadable, path, out)?;
                 Ok(BAD_IMAGE)
             }
-            EachQuestion::Census(_) | EachQuestion::Digest => {
+            EachQuestion::Census(..) | EachQuestion::Digest => {
                 Err(Failure::NotThere(unreadable.message(session.alloc)?))
             }
         },
@@ -142,14 +132,15 @@ fn answer_about<T: Files + Threads + Sync, C: Sink, E: Sink>(
 /// Prints a class histogram of an image.
 fn print_census_of<T: Threads + Sync, C: Sink>(
     rt: &T,
-    subject: &Subject<'_>,
+    inspector: &Inspector<'_>,
     path: &str,
     counting: Counting,
+    by: Grouping,
     out: &mut Out<'_, C>,
 ) -> Result<(), PrintError> {
     match counting {
-        Counting::Live => print_census(rt, subject, path, out),
-        Counting::Retained => print_retained_census(rt, subject, path, out),
-        Counting::Dead => print_dead_census(rt, subject, path, out),
+        Counting::Live => print_census(rt, inspector, path, by, out),
+        Counting::Retained => print_retained_census(rt, inspector, path, out),
+        Counting::Dead => print_dead_census(rt, inspector, path, by, out),
     }
 }

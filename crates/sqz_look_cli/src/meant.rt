@@ -1,16 +1,15 @@
 //! Objects and classes that words stand for.
 
-ghost use Rattle.std.specs.Prelude.{◌≡◌, ◌<◌, IfOk};
-ghost use Rattle.sqz_image.specs.Objects.{object_count};
+ghost use Rattle.std.specs.Prelude.{◌≡◌, IfOk};
 ghost use Rattle.sqz_words.specs.declared.found.Found.TheVariants.{One};
 ghost use Rattle.sqz_words.specs.Found.{IsMissing};
 ghost use Rattle.sqz_words.specs.Words.{IsGroup, IsObject};
+ghost use Rattle.sqz_look_view.specs.Inspectors.{IsObjectOf};
 
 use sqz_histogram::Group;
 use sqz_look::missing_message;
-use sqz_look_check::Shown;
 use sqz_look_files::Failure;
-use sqz_look_view::Inspector;
+use sqz_look_view::{Inspector, Shown};
 use sqz_object::ObjectIndex;
 use sqz_words::{Found, Missing, find_class, find_object};
 use std::alloc::AllocError;
@@ -19,7 +18,7 @@ use std::alloc::AllocError;
 pub(crate) fn the_object(inspector: &Inspector<'_>, words: &str) -> Result<ObjectIndex, Failure>
     ensures found { IfOk result (λ object. IsObject inspector.now.live.graph.heap.now
         inspector.now.live.graph.weak inspector.now.live.marks words.now (One object)) }
-    ensures inside { IfOk result (λ object. object < object_count inspector.now.live.graph.heap.now) }
+    ensures inside { IfOk result (λ object. IsObjectOf inspector.now object) }
 {
     let (names, marks) = (&inspector.names, &inspector.live.marks);
     match find_object(inspector.alloc, names, marks, words)? {

@@ -1,7 +1,7 @@
 //! Questions about objects.
 
-ghost use Rattle.std.specs.Prelude.{◌≡◌, ◌≤◌, ◌<◌, IfOk};
-ghost use Rattle.sqz_image.specs.Objects.{object_count};
+ghost use Rattle.std.specs.Prelude.{◌≡◌, ◌≤◌, IfOk};
+ghost use Rattle.sqz_look_view.specs.Inspectors.{IsObjectOf};
 
 use crate::meant::the_object;
 use sqz_cli::{BAD_IMAGE, DONE};
@@ -31,7 +31,7 @@ pub(crate) fn answer_about_objects<C: Sink, E: Sink>(
         match the_object(inspector, words.as_str()) {
             Ok(object) => {
                 if !is_first {
-                    out.text(&"")?;
+                    out.heading("");
                 }
                 is_first = false;
                 print_about(inspector, object, asked.question, out)?;
@@ -54,7 +54,7 @@ fn print_about<C: Sink>(
     question: ObjectQuestion,
     out: &mut Out<'_, C>,
 ) -> Result<(), PrintError>
-    requires { object < object_count inspector.now.live.graph.heap.now }
+    requires { IsObjectOf inspector.now object }
 {
     match question {
         ObjectQuestion::Show => print_show(inspector, object, out),

@@ -1,18 +1,15 @@
 //! The tree of all classes.
 
-ghost use Rattle.std.specs.Prelude.{◌<◌};
-ghost use Rattle.sqz_image.specs.Objects.{object_count};
+ghost use Rattle.sqz_look_view.specs.Inspectors.{IsObjectOf};
 
 use crate::live_methods::live_methods;
-use serde::Serialize;
 use sqz_image::Sink;
-use sqz_look_view::{Hex, Inspector, Out, PrintError, field_of};
+use sqz_look_view::{Inspector, Out, PrintError, field_of};
 use sqz_names::Label;
 use sqz_names::fields::SUPERCLASS;
 use sqz_object::ObjectIndex;
 use std::alloc::{AllocError, Global};
 use std::collections::BTreeMap;
-use std::fmt;
 
 /// The maximum number of levels by which a class is indented.
 const MOST_INDENTED: usize = 30;
@@ -21,7 +18,7 @@ const MOST_INDENTED: usize = 30;
 #[derive(Drop)]
 struct ClassRow {
     class: String,
-    address: Hex,
+    address: u32,
     /// The number of its live methods.
     methods: u32,
     /// The number of its live instances.
@@ -32,28 +29,6 @@ struct ClassRow {
 
 /// The classes by name, and on a tie by address.
 type Classes = BTreeMap<(String, u32), ClassRow>;
-
-/// A class in the tree.
-#[derive(Clone, Copy, Drop, Serialize)]
-struct TreeRow<'a> {
-    class: &'a str,
-    address: Hex,
-    /// The number of its superclasses.
-    depth: usize,
-    methods: u32,
-    instances: u32,
-}
-
-impl fmt::Display for TreeRow<'_> {
-    fn fmt<W: fmt::Write>(&self, f: &mut fmt::Formatter<W>) -> fmt::Result {
-        let (methods, instances) = (self.methods, self.instances);
-        write!(f, "{methods:>9}  {instances:>9}  {}  ", self.address)?;
-        for _ in 0..self.depth.min(MOST_INDENTED) {
-            f.write_str("  ")?;
-        }
-        f.write_str(self.class)
-    }
-}
 
 /// How often each object was counted.
 #[derive(Drop)]
@@ -129,20 +104,20 @@ fn add_class(
     instances: u32,
     classes: &mut Classes,
 ) -> Result<(), AllocError>
-    requires { object < object_count inspector.now.live.graph.heap.now }
+    requires { IsObjectOf inspector.now object }
 {
     if inspector.names.label_of(object)? != Label::Class {
         return Ok(());
     }
     let row = ClassRow {
         class: inspector.names.name_of_class(object)?,
-        address: inspector.address(object),
+        address: inspector.address(object).0,
         methods,
         instances,
         object,
         superclass: field_of(inspector, object, SUPERCLASS),
     };
-    classes.insert((row.class.clone()?, row.address.0), row)?;
+    classes.insert((row.class.clone()?, row.address), row)?;
     Ok(())
 }
 
@@ -319,17 +294,23 @@ fn print_rows<C: Sink>(
     order: &[Listed],
     out: &mut Out<'_, C>,
 ) -> Result<(), PrintError> {
-    out.text(&"  methods  instances  address   class")?;
+    out.heading("  methods  instances  address   class");
     for listed in order.iter().take(out.shown(classes.len())) {
         if let Some(class) = classes.get(listed.place) {
-            out.emit(&TreeRow {
-                class: class.class.as_str(),
-                address: class.address,
-                depth: listed.depth,
-                methods: class.methods,
-                instances: class.instances,
-            })?;
+            print_row(class, listed.depth, out);
         }
     }
-    out.rest(classes.len(), "row")
+    out.rest(classes.len(), "row");
+    out.end()
+}
+
+/// Prints a class with this number of superclasses.
+fn print_row<C: Sink>(class: &ClassRow, depth: usize, out: &mut Out<'_, C>) {
+    out.word("class", class.class.as_str());
+    out.hex("address", class.address);
+    out.number("depth", depth as u64);
+    out.number("methods", u64::from(class.methods));
+    out.number("instances", u64::from(class.instances));
+    out.indent("indent", depth.min(MOST_INDENTED));
+    out.line("{methods:>9}  {instances:>9}  {address}  {indent}{class}");
 }

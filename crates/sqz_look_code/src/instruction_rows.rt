@@ -1,35 +1,16 @@
-//! An instruction as a row.
+//! The row of an instruction.
 
 use crate::blocks::{after, end_of};
 use crate::operands::Operands;
-use serde::Serialize;
 use sqz_code::{Distance, Instruction, Operation, Returned};
+use sqz_image::Sink;
+use sqz_look_view::Out;
 use sqz_methods::MethodParts;
 use std::alloc::{AllocError, Global};
-use std::fmt;
 use std::fmt::Write;
 
 /// The maximum number of blocks by which an instruction is indented.
 const MOST_INDENTED: usize = 20;
-
-/// An instruction.
-#[derive(Drop, Serialize)]
-pub(crate) struct InstructionView {
-    /// The program counter of a context that is about to run it: its first byte, counted from 1
-    /// among all bytes of the method.
-    pc: u64,
-    /// Its bytes, as hexadecimal digits.
-    bytes: String,
-    operation: &'static str,
-    /// What it works on, as text.
-    operand: Option<String>,
-    /// The number of arguments, if it sends.
-    arguments: Option<u8>,
-    /// The program counter where it jumps.
-    jumps_to: Option<i64>,
-    /// In how many blocks it is.
-    blocks: usize,
-}
 
 /// What is said of an operation.
 #[derive(Drop)]
@@ -74,29 +55,32 @@ impl Said {
     }
 }
 
-impl InstructionView {
-    /// Returns the row of an instruction of a method, which is in this number of blocks.
-    pub(crate) fn of(
-        alloc: Global,
-        parts: &MethodParts,
-        operands: &Operands,
-        instruction: &Instruction,
-        blocks: usize,
-    ) -> Result<Self, AllocError> {
-        let said = said_of(operands, instruction)?;
-        let start = i64::from(parts.code_start).saturating_add(1);
-        Ok(InstructionView {
-            pc: u64::from(parts.code_start)
-                .saturating_add(instruction.start as u64)
-                .saturating_add(1),
-            bytes: hexadecimal(alloc, &parts.bytecodes, instruction)?,
-            operation: said.operation,
-            operand: said.operand,
-            arguments: said.arguments,
-            jumps_to: said.jumps_to.map(|place: i64| place.saturating_add(start)),
-            blocks,
-        })
+/// Prints an instruction of a method, which is in this number of blocks: the program counter of a
+/// context that is about to run it, which is its first byte, counted from 1 among all bytes of the
+/// method; its bytes; what it does, and with what; and the program counter where it jumps.
+pub(crate) fn print_instruction<C: Sink>(
+    alloc: Global,
+    parts: &MethodParts,
+    operands: &Operands,
+    instruction: &Instruction,
+    blocks: usize,
+    out: &mut Out<'_, C>,
+) -> Result<(), AllocError> {
+    let said = said_of(operands, instruction)?;
+    let first = u64::from(parts.code_start).saturating_add(1);
+    out.number("pc", first.saturating_add(instruction.start as u64));
+    out.text("bytes", hexadecimal(alloc, &parts.bytecodes, instruction));
+    out.word("operation", said.operation);
+    out.text_or_null("operand", Ok(said.operand));
+    out.number_or_null("arguments", said.arguments.map(u64::from));
+    match said.jumps_to {
+        Some(place) => out.integer("jumps_to", place.saturating_add(first as i64)),
+        None => out.null("jumps_to"),
     }
+    out.number("blocks", blocks as u64);
+    out.indent("indent", blocks.min(MOST_INDENTED));
+    out.line("{pc:>6}  {bytes:<9}  {indent}{operation}{operand/ }{jumps_to/ to }");
+    Ok(())
 }
 
 /// Returns what is said of an instruction.
@@ -168,22 +152,4 @@ fn hexadecimal(
         write!(text, "{byte:02x}")?;
     }
     Ok(text)
-}
-
-impl fmt::Display for InstructionView {
-    fn fmt<W: fmt::Write>(&self, f: &mut fmt::Formatter<W>) -> fmt::Result {
-        let (pc, bytes) = (self.pc, self.bytes.as_str());
-        write!(f, "{pc:>6}  {bytes:<9}  ")?;
-        for _ in 0..self.blocks.min(MOST_INDENTED) {
-            f.write_str("  ")?;
-        }
-        f.write_str(self.operation)?;
-        if let Some(operand) = &self.operand {
-            write!(f, " {}", operand.as_str())?;
-        }
-        match self.jumps_to {
-            Some(place) => write!(f, " to {place}"),
-            None => Ok(()),
-        }
-    }
 }

@@ -7,7 +7,7 @@ mod class_code;
 mod class_tree;
 mod contexts;
 mod implementors;
-mod instruction_view;
+mod instruction_rows;
 mod live_methods;
 mod method_code;
 mod method_row;

@@ -1,118 +1,15 @@
 //! The code of a method.
 
-ghost use Rattle.std.specs.Prelude.{◌<◌};
-ghost use Rattle.sqz_image.specs.Objects.{object_count};
+ghost use Rattle.sqz_look_view.specs.Inspectors.{IsObjectOf};
 
 use crate::blocks::block_depths;
-use crate::instruction_view::InstructionView;
+use crate::instruction_rows::print_instruction;
 use crate::operands::Operands;
-use serde::Serialize;
 use sqz_image::Sink;
-use sqz_look_view::{Counted, Hex, Inspector, Out, PrintError, write_bytes};
+use sqz_look_view::{Inspector, Out, PrintError, add_method_header};
 use sqz_methods::{MethodCode, code_of};
 use sqz_object::ObjectIndex;
 use std::alloc::{AllocError, Global};
-use std::fmt;
-
-/// What the header of a method says.
-#[derive(Clone, Copy, Drop, Serialize)]
-struct HeaderView {
-    arguments: u32,
-    temporaries: u32,
-    primitive: u32,
-    large_frame: bool,
-}
-
-/// The code of a method.
-#[derive(Drop, Serialize)]
-struct MethodCodeView {
-    address: Hex,
-    label: String,
-    bytes: u64,
-    header: Option<HeaderView>,
-    literals: Vec<String>,
-    instructions: Vec<InstructionView>,
-}
-
-impl MethodCodeView {
-    /// Returns the code of a method.
-    fn of(inspector: &Inspector<'_>, method: ObjectIndex) -> Result<Self, AllocError>
-        requires { method < object_count inspector.now.live.graph.heap.now }
-    {
-        let alloc = inspector.alloc;
-        let code = code_of(alloc, inspector.live.graph.heap, method)?;
-        let operands = Operands::of(inspector, method)?;
-        let instructions = instruction_views(alloc, &code, &operands)?;
-        Ok(MethodCodeView {
-            address: inspector.address(method),
-            label: inspector.names.label(method)?,
-            bytes: inspector.bytes(method),
-            header: header_of(&code),
-            literals: operands.literals,
-            instructions,
-        })
-    }
-}
-
-/// Returns the instructions of a method.
-fn instruction_views(
-    alloc: Global,
-    code: &MethodCode,
-    operands: &Operands,
-) -> Result<Vec<InstructionView>, AllocError> {
-    let depths = block_depths(alloc, &code.instructions)?;
-    let mut views = Vec::new(alloc);
-    for (instruction, depth) in code.instructions.iter().zip(&depths) {
-        let view = InstructionView::of(alloc, &code.parts, operands, instruction, *depth)?;
-        views.push(view)?;
-    }
-    Ok(views)
-}
-
-/// Returns what the header of a method says.
-fn header_of(code: &MethodCode) -> Option<HeaderView> {
-    let header = code.parts.header?;
-    Some(HeaderView {
-        arguments: header.arguments,
-        temporaries: header.temporaries,
-        primitive: header.primitive,
-        large_frame: header.has_large_frame,
-    })
-}
-
-impl fmt::Display for HeaderView {
-    fn fmt<W: fmt::Write>(&self, f: &mut fmt::Formatter<W>) -> fmt::Result {
-        let arguments = Counted(u64::from(self.arguments), "argument");
-        let (temporaries, primitive) = (self.temporaries, self.primitive);
-        write!(f, "{arguments}, {temporaries} temporaries with them")?;
-        if primitive > 0 {
-            write!(f, ", primitive {primitive}")?;
-        }
-        if self.large_frame {
-            f.write_str(", large frame")?;
-        }
-        Ok(())
-    }
-}
-
-impl fmt::Display for MethodCodeView {
-    fn fmt<W: fmt::Write>(&self, f: &mut fmt::Formatter<W>) -> fmt::Result {
-        let (label, address) = (self.label.as_str(), self.address);
-        write!(f, "{label} {address}, ")?;
-        write_bytes(f, self.bytes)?;
-        if let Some(header) = &self.header {
-            write!(f, "\n{header}")?;
-        }
-        for (index, literal) in self.literals.iter().enumerate() {
-            let number = index.saturating_add(1);
-            write!(f, "\nliteral {number:<4} {}", literal.as_str())?;
-        }
-        for instruction in &self.instructions {
-            write!(f, "\n{instruction}")?;
-        }
-        Ok(())
-    }
-}
 
 /// Prints the code of a method: what its header says, its literals, and its instructions with the
 /// program counter of each. An object that is no method is read as one.
@@ -121,7 +18,47 @@ pub fn print_method_code<C: Sink>(
     method: ObjectIndex,
     out: &mut Out<'_, C>,
 ) -> Result<(), PrintError>
-    requires { method < object_count inspector.now.live.graph.heap.now }
+    requires { IsObjectOf inspector.now method }
 {
-    out.emit(&MethodCodeView::of(inspector, method)?)
+    let alloc = inspector.alloc;
+    let code = code_of(alloc, inspector.live.graph.heap, method)?;
+    let operands = Operands::of(inspector, method)?;
+    out.hex("address", inspector.address(method).0);
+    out.label("label", inspector, method);
+    out.amount("bytes", inspector.bytes(method));
+    out.part("{label} {address}, {bytes#byte}");
+    add_method_header("header", code.parts.header, "", out);
+    out.texts("literals", &operands.literals);
+    print_literals(&operands, out);
+    print_instructions(alloc, &code, &operands, out)?;
+    out.end_row();
+    out.end()
+}
+
+/// Prints the literals of a method, in the text form.
+fn print_literals<C: Sink>(operands: &Operands, out: &mut Out<'_, C>) {
+    if out.is_json() {
+        return;
+    }
+    for (index, literal) in operands.literals.iter().enumerate() {
+        out.count("number", index.saturating_add(1));
+        out.word("literal", literal.as_str());
+        out.part("literal {number:<4} {literal}");
+    }
+}
+
+/// Prints the instructions of a method.
+fn print_instructions<C: Sink>(
+    alloc: Global,
+    code: &MethodCode,
+    operands: &Operands,
+    out: &mut Out<'_, C>,
+) -> Result<(), AllocError> {
+    let depths = block_depths(alloc, &code.instructions)?;
+    out.begin_list("instructions");
+    for (instruction, depth) in code.instructions.iter().zip(&depths) {
+        print_instruction(alloc, &code.parts, operands, instruction, *depth, out)?;
+    }
+    out.end_list();
+    Ok(())
 }

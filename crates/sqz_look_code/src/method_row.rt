@@ -1,47 +1,44 @@
 //! A method as a row.
 
-ghost use Rattle.std.specs.Prelude.{◌<◌, All};
-ghost use Rattle.sqz_image.specs.Objects.{object_count};
+ghost use Rattle.std.specs.Prelude.{All};
 ghost use Rattle.sqz_names.specs.Names.{IsMethodName};
+ghost use Rattle.sqz_look_view.specs.Inspectors.{IsObjectOf};
 
-use serde::Serialize;
 use sqz_image::Sink;
-use sqz_look_view::{Hex, Inspector, Out, PrintError, write_amount};
+use sqz_look_view::{Inspector, Out, PrintError};
 use sqz_names::MethodName;
 use std::alloc::AllocError;
 use std::collections::BTreeMap;
-use std::fmt;
 
 /// A method of a class.
-#[derive(Drop, Serialize)]
+#[derive(Drop)]
 pub(crate) struct MethodRow {
     pub(crate) method: String,
-    pub(crate) address: Hex,
+    pub(crate) address: u32,
     pub(crate) bytes: u64,
 }
 
 impl MethodRow {
     /// Returns the row of a method.
     pub(crate) fn of(inspector: &Inspector<'_>, name: MethodName) -> Result<Self, AllocError>
-        requires method { name.method < object_count inspector.now.live.graph.heap.now }
-        requires class { name.class < object_count inspector.now.live.graph.heap.now }
-        requires selector { name.selector < object_count inspector.now.live.graph.heap.now }
+        requires method { IsObjectOf inspector.now name.method }
+        requires class { IsObjectOf inspector.now name.class }
+        requires selector { IsObjectOf inspector.now name.selector }
     {
         let class = inspector.names.name_of_class(name.class)?;
         let selector = inspector.names.text(name.selector)?;
         Ok(MethodRow {
             method: format!(in inspector.alloc; "{class}>>{selector}")?,
-            address: inspector.address(name.method),
+            address: inspector.address(name.method).0,
             bytes: inspector.bytes(name.method),
         })
     }
-}
 
-impl fmt::Display for MethodRow {
-    fn fmt<W: fmt::Write>(&self, f: &mut fmt::Formatter<W>) -> fmt::Result {
-        let (method, address) = (self.method.as_str(), self.address);
-        write_amount(f, self.bytes, 12)?;
-        write!(f, "  {address}  {method}")
+    /// Adds the method to a row.
+    pub(crate) fn add<C: Sink>(&self, out: &mut Out<'_, C>) {
+        out.word("method", self.method.as_str());
+        out.hex("address", self.address);
+        out.amount("bytes", self.bytes);
     }
 }
 
@@ -62,7 +59,7 @@ fn rows_of(inspector: &Inspector<'_>, methods: &[MethodName]) -> Result<Rows, Al
 
 /// Adds a method to others.
 fn add_row(rows: &mut Rows, row: MethodRow) -> Result<(), AllocError> {
-    rows.insert((row.method.clone()?, row.address.0), row)?;
+    rows.insert((row.method.clone()?, row.address), row)?;
     Ok(())
 }
 
@@ -77,9 +74,11 @@ pub(crate) fn print_methods<C: Sink>(
 {
     let rows = rows_of(inspector, methods)?;
     let shown = out.shown(rows.len());
-    out.text(&"       bytes  address   method")?;
+    out.heading("       bytes  address   method");
     for row in rows.values().take(shown) {
-        out.emit(row)?;
+        row.add(out);
+        out.line("{bytes:>12}  {address}  {method}");
     }
-    out.rest(rows.len(), "method")
+    out.rest(rows.len(), "method");
+    out.end()
 }

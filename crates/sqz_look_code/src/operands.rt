@@ -1,7 +1,6 @@
 //! The names of what instructions work on.
 
-ghost use Rattle.std.specs.Prelude.{◌<◌};
-ghost use Rattle.sqz_image.specs.Objects.{object_count};
+ghost use Rattle.sqz_look_view.specs.Inspectors.{IsObjectOf};
 
 use crate::special_selectors::special_name;
 use sqz_code::{Source, Target};
@@ -24,7 +23,7 @@ pub(crate) struct Operands {
 impl Operands {
     /// Returns those of a method.
     pub(crate) fn of(inspector: &Inspector<'_>, method: ObjectIndex) -> Result<Self, AllocError>
-        requires { method < object_count inspector.now.live.graph.heap.now }
+        requires { IsObjectOf inspector.now method }
     {
         Ok(Operands {
             alloc: inspector.alloc,
@@ -89,7 +88,7 @@ impl Operands {
 /// Returns the names of the instance variables of the class of a method; none if the class is not
 /// known.
 fn variables_of(inspector: &Inspector<'_>, method: ObjectIndex) -> Result<Vec<String>, AllocError>
-    requires { method < object_count inspector.now.live.graph.heap.now }
+    requires { IsObjectOf inspector.now method }
 {
     let mut names = Vec::new(inspector.alloc);
     let Label::Method { class, .. } = inspector.names.label_of(method)? else {
@@ -107,7 +106,7 @@ fn variables_of(inspector: &Inspector<'_>, method: ObjectIndex) -> Result<Vec<St
 /// Returns the literals of a method as text: the value of a number or a character, the label of
 /// another object.
 fn literals_of(inspector: &Inspector<'_>, method: ObjectIndex) -> Result<Vec<String>, AllocError>
-    requires { method < object_count inspector.now.live.graph.heap.now }
+    requires { IsObjectOf inspector.now method }
 {
     let heap = inspector.live.graph.heap;
     let mut literals = Vec::new(inspector.alloc);

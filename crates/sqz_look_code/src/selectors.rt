@@ -1,7 +1,6 @@
 //! The selectors that a word stands for.
 
-ghost use Rattle.std.specs.Prelude.{◌<◌};
-ghost use Rattle.sqz_image.specs.Objects.{object_count};
+ghost use Rattle.sqz_look_view.specs.Inspectors.{IsObjectOf};
 
 use sqz_look_view::Inspector;
 use sqz_names::MethodName;
@@ -30,7 +29,7 @@ pub(crate) fn selectors_with(
 
 /// Returns whether the class of an object is that of symbols.
 fn is_symbol(inspector: &Inspector<'_>, object: ObjectIndex) -> Result<bool, AllocError>
-    requires { object < object_count inspector.now.live.graph.heap.now }
+    requires { IsObjectOf inspector.now object }
 {
     let class = inspector.names.name_of_class_of(object)?;
     Ok(matches!(class.as_str(), "Symbol" | "ByteSymbol"))

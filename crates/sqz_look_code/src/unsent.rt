@@ -1,19 +1,17 @@
 //! Selectors that are implemented and not sent, or sent and not implemented.
 
-ghost use Rattle.std.specs.Prelude.{◌<◌, All, IfOk};
-ghost use Rattle.sqz_image.specs.Objects.{object_count};
+ghost use Rattle.std.specs.Prelude.{All, IfOk};
 ghost use Rattle.sqz_names.specs.Names.{IsMethodName};
+ghost use Rattle.sqz_look_view.specs.Inspectors.{IsObjectOf};
 
 use crate::live_methods::{distinct_methods, live_methods};
 use crate::method_row::{MethodRow, print_methods};
-use serde::Serialize;
 use sqz_image::Sink;
 use sqz_look_view::{Counted, Inspector, Out, PrintError};
 use sqz_object::{Layout, ObjectIndex};
 use sqz_selectors::{Unimplemented, mark_mentioned, marked_selectors, unimplemented_of, unsent_of};
-use std::alloc::AllocError;
+use std::alloc::{AllocError, Global};
 use std::collections::BTreeMap;
-use std::fmt;
 
 /// The maximum number of senders of a selector in the text form.
 const MOST_SENDERS: usize = 3;
@@ -30,59 +28,76 @@ pub fn print_unsent<C: Sink>(
 }
 
 /// A selector that is sent and not implemented.
-#[derive(Drop, Serialize)]
-struct UnimplementedView {
+#[derive(Drop)]
+struct UnimplementedSelector {
     selector: String,
     senders: Vec<MethodRow>,
 }
 
-impl fmt::Display for UnimplementedView {
-    fn fmt<W: fmt::Write>(&self, f: &mut fmt::Formatter<W>) -> fmt::Result {
-        write!(f, "#{}  sent by ", self.selector.as_str())?;
-        for (index, sender) in self.senders.iter().take(MOST_SENDERS).enumerate() {
-            if index > 0 {
-                f.write_str(", ")?;
-            }
-            f.write_str(sender.method.as_str())?;
-        }
-        match self.senders.len().saturating_sub(MOST_SENDERS) {
-            0 => Ok(()),
-            more => write!(f, " and {} more", Counted(more as u64, "method")),
-        }
-    }
-}
-
 /// Selectors by their characters, and on a tie by index.
-type Views = BTreeMap<(String, ObjectIndex), UnimplementedView>;
+type Selectors = BTreeMap<(String, ObjectIndex), UnimplementedSelector>;
 
 /// Prints the selectors that live methods send and no live method has, by name, with their senders.
 pub fn print_unimplemented<C: Sink>(
     inspector: &Inspector<'_>,
     out: &mut Out<'_, C>,
 ) -> Result<(), PrintError> {
-    let views = views_of(inspector)?;
-    let shown = out.shown(views.len());
-    for view in views.values().take(shown) {
-        out.emit(view)?;
+    let selectors = selectors_of(inspector)?;
+    let shown = out.shown(selectors.len());
+    for selector in selectors.values().take(shown) {
+        print_selector(inspector.alloc, selector, out);
     }
-    out.rest(views.len(), "selector")
+    out.rest(selectors.len(), "selector");
+    out.end()
+}
+
+/// Prints a selector with its senders; the text form has the first three.
+fn print_selector<C: Sink>(alloc: Global, selector: &UnimplementedSelector, out: &mut Out<'_, C>) {
+    out.word("selector", selector.selector.as_str());
+    if out.is_json() {
+        out.begin_list("senders");
+        for sender in &selector.senders {
+            sender.add(out);
+            out.end_row();
+        }
+        out.end_list();
+    } else {
+        out.text("senders", senders_text(alloc, &selector.senders));
+    }
+    out.line("#{selector}  sent by {senders}");
+}
+
+/// Returns the first senders of a selector as text, and how many more there are.
+fn senders_text(alloc: Global, senders: &[MethodRow]) -> Result<String, AllocError> {
+    let mut text = String::new(alloc);
+    for sender in senders.iter().take(MOST_SENDERS) {
+        if !text.is_empty() {
+            text.push_str(", ")?;
+        }
+        text.push_str(sender.method.as_str())?;
+    }
+    if senders.len() > MOST_SENDERS {
+        let more = Counted((senders.len() - MOST_SENDERS) as u64, "method");
+        return format!(in alloc; "{text} and {more} more");
+    }
+    Ok(text)
 }
 
 /// Returns the selectors that live methods send and no live method has, by name, with their senders.
-fn views_of(inspector: &Inspector<'_>) -> Result<Views, AllocError> {
+fn selectors_of(inspector: &Inspector<'_>) -> Result<Selectors, AllocError> {
     let found = unimplemented(inspector)?;
-    let mut views: Views = BTreeMap::new(inspector.alloc);
+    let mut selectors: Selectors = BTreeMap::new(inspector.alloc);
     for one in &found {
-        add_sender(inspector, *one, &mut views)?;
+        add_sender(inspector, *one, &mut selectors)?;
     }
-    Ok(views)
+    Ok(selectors)
 }
 
 /// Returns the selectors that live methods send and no live method has, in the order of the
 /// methods.
 fn unimplemented(inspector: &Inspector<'_>) -> Result<Vec<Unimplemented>, AllocError>
     ensures inside { IfOk result (λ found.
-        All (λ it. it.selector < object_count inspector.now.live.graph.heap.now) found.items) }
+        All (λ it. IsObjectOf inspector.now it.selector) found.items) }
     ensures senders { IfOk result (λ found.
         All (λ it. IsMethodName inspector.now.live.graph.heap.now
         inspector.now.live.graph.weak it.sender) found.items) }
@@ -97,9 +112,9 @@ fn unimplemented(inspector: &Inspector<'_>) -> Result<Vec<Unimplemented>, AllocE
 fn add_sender(
     inspector: &Inspector<'_>,
     one: Unimplemented,
-    views: &mut Views,
+    selectors: &mut Selectors,
 ) -> Result<(), AllocError>
-    requires inside { one.selector < object_count inspector.now.live.graph.heap.now }
+    requires inside { IsObjectOf inspector.now one.selector }
     requires sender { IsMethodName inspector.now.live.graph.heap.now
         inspector.now.live.graph.weak one.sender }
 {
@@ -110,26 +125,26 @@ fn add_sender(
     let row = MethodRow::of(inspector, one.sender)?;
     let text = inspector.names.text(one.selector)?;
     let key = (text.clone()?, one.selector);
-    if let Some(view) = views.get_mut(&key) {
-        if !is_last(&view.senders, &row) {
-            view.senders.push(row)?;
+    if let Some(known) = selectors.get_mut(&key) {
+        if !is_last(&known.senders, &row) {
+            known.senders.push(row)?;
         }
         return Ok(());
     }
     let mut senders = Vec::new(inspector.alloc);
     senders.push(row)?;
-    let view = UnimplementedView {
+    let unimplemented = UnimplementedSelector {
         selector: text,
         senders,
     };
-    views.insert(key, view)?;
+    selectors.insert(key, unimplemented)?;
     Ok(())
 }
 
 /// Returns whether a method is the last of these.
 fn is_last(senders: &[MethodRow], sender: &MethodRow) -> bool {
     match senders.last() {
-        Some(last) => last.address.0 == sender.address.0,
+        Some(last) => last.address == sender.address,
         None => false,
     }
 }

@@ -1,7 +1,6 @@
 //! What methods are made of, as numbers.
 
-ghost use Rattle.std.specs.Prelude.{◌<◌};
-ghost use Rattle.sqz_image.specs.Objects.{object_count};
+ghost use Rattle.sqz_look_view.specs.Inspectors.{IsObjectOf};
 
 use crate::literal_numbers::{LiteralNumbers, object_in};
 use crate::numbers::Numbers;
@@ -37,7 +36,7 @@ impl<'a> Contents<'a> {
         numbers: &mut Numbers,
         method: ObjectIndex,
     ) -> Result<usize, AllocError>
-        requires { method < object_count inspector.now.live.graph.heap.now }
+        requires { IsObjectOf inspector.now method }
     {
         if let Some(number) = self.methods.get(&method) {
             return Ok(*number);

@@ -1,118 +1,79 @@
 //! The rows about the definitions of classes.
 
 use crate::name_list::NameList;
-use serde::Serialize;
 use sqz_answers::Change;
-use std::fmt;
+use sqz_image::Sink;
+use sqz_look_view::Out;
+use std::alloc::{AllocError, Global};
 
-/// A part of the definition of a class.
-#[derive(Clone, Copy, Drop, Serialize)]
-#[serde(rename_all = "snake_case")]
-enum Part {
-    Superclass,
-    InstanceVariables,
-    Category,
+/// Prints a class that came or went, or has another superclass.
+pub(crate) fn print_superclass<C: Sink>(change: &Change<String>, out: &mut Out<'_, C>) {
+    add_part(change.name.as_str(), "superclass", out);
+    out.word_or_null("old", change.old.as_ref().map(|text| text.as_str()));
+    out.word_or_null("new", change.new.as_ref().map(|text| text.as_str()));
+    out.line(match (&change.old, &change.new) {
+        (None, _) => "  added    {name}: superclass {new}",
+        (_, None) => "  removed  {name}: superclass {old}",
+        _ => "  changed  {name}: superclass {old} -> {new}",
+    });
 }
 
-/// What a part of a definition is.
-#[derive(Clone, Copy, Drop, Serialize)]
-#[serde(untagged)]
-enum PartText<'a> {
-    /// The name of a class.
-    Class(&'a str),
-    /// The names of instance variables.
-    Names(&'a NameList),
-    /// A category, which is printed in quotes.
-    Category(&'a str),
+/// Prints a class with other instance variables.
+pub(crate) fn print_variables<C: Sink>(change: &Change<NameList>, out: &mut Out<'_, C>) {
+    add_part(change.name.as_str(), "instance_variables", out);
+    add_names("old", change.old.as_ref(), out);
+    add_names("new", change.new.as_ref(), out);
+    out.line(match (&change.old, &change.new) {
+        (None, _) => "  added    {name}: instance variables {new}",
+        (_, None) => "  removed  {name}: instance variables {old}",
+        _ => "  changed  {name}: instance variables {old} -> {new}",
+    });
 }
 
-impl fmt::Display for PartText<'_> {
-    fn fmt<W: fmt::Write>(&self, f: &mut fmt::Formatter<W>) -> fmt::Result {
-        match self {
-            PartText::Class(name) => f.write_str(name),
-            PartText::Names(names) => write!(f, "{names}"),
-            PartText::Category(category) => write!(f, "'{category}'"),
-        }
+/// Prints a class with another category.
+pub(crate) fn print_category<C: Sink>(
+    alloc: Global,
+    change: &Change<String>,
+    out: &mut Out<'_, C>,
+) {
+    add_part(change.name.as_str(), "category", out);
+    add_category(alloc, "old", change.old.as_ref(), out);
+    add_category(alloc, "new", change.new.as_ref(), out);
+    out.line("  changed  {name}: category {old} -> {new}");
+}
+
+/// Adds the name of a class, and which part of its definition differs.
+fn add_part<C: Sink>(name: &str, part: &str, out: &mut Out<'_, C>) {
+    out.word("kind", "definition");
+    out.word("name", name);
+    out.word("part", part);
+}
+
+/// Adds the names of instance variables; null if an image does not have the class.
+fn add_names<C: Sink>(name: &'static str, names: Option<&NameList>, out: &mut Out<'_, C>) {
+    match names {
+        Some(names) if out.is_json() => out.words_or_null(name, names.names()),
+        Some(names) => out.word(name, names.text()),
+        None => out.null(name),
     }
 }
 
-/// A class that came or went, or has another definition.
-#[derive(Drop, Serialize)]
-pub(crate) struct DefinitionView<'a> {
-    kind: &'static str,
-    name: &'a str,
-    part: Part,
-    old: Option<PartText<'a>>,
-    new: Option<PartText<'a>>,
-}
-
-impl<'a> DefinitionView<'a> {
-    /// Returns the row of a class that came or went, or has another superclass.
-    pub(crate) fn of_superclass(change: &'a Change<String>) -> Self {
-        DefinitionView {
-            kind: "definition",
-            name: change.name.as_str(),
-            part: Part::Superclass,
-            old: change
-                .old
-                .as_ref()
-                .map(|text| PartText::Class(text.as_str())),
-            new: change
-                .new
-                .as_ref()
-                .map(|text| PartText::Class(text.as_str())),
-        }
-    }
-
-    /// Returns the row of a class with other instance variables.
-    pub(crate) fn of_variables(change: &'a Change<NameList>) -> Self {
-        DefinitionView {
-            kind: "definition",
-            name: change.name.as_str(),
-            part: Part::InstanceVariables,
-            old: change.old.as_ref().map(|names| PartText::Names(names)),
-            new: change.new.as_ref().map(|names| PartText::Names(names)),
-        }
-    }
-
-    /// Returns the row of a class with another category.
-    pub(crate) fn of_category(change: &'a Change<String>) -> Self {
-        DefinitionView {
-            kind: "definition",
-            name: change.name.as_str(),
-            part: Part::Category,
-            old: change
-                .old
-                .as_ref()
-                .map(|text| PartText::Category(text.as_str())),
-            new: change
-                .new
-                .as_ref()
-                .map(|text| PartText::Category(text.as_str())),
-        }
+/// Adds a category: as text in quotes, or `none`.
+fn add_category<C: Sink>(
+    alloc: Global,
+    name: &'static str,
+    category: Option<&String>,
+    out: &mut Out<'_, C>,
+) {
+    match category {
+        Some(category) if out.is_json() => out.word(name, category.as_str()),
+        Some(category) => out.text(name, quoted(alloc, category.as_str())),
+        None if out.is_json() => out.null(name),
+        None => out.word(name, "none"),
     }
 }
 
-impl fmt::Display for DefinitionView<'_> {
-    fn fmt<W: fmt::Write>(&self, f: &mut fmt::Formatter<W>) -> fmt::Result {
-        let name = self.name;
-        let part = match self.part {
-            Part::Superclass => "superclass",
-            Part::InstanceVariables => "instance variables",
-            Part::Category => "category",
-        };
-        match (&self.old, &self.new) {
-            (Some(old), Some(new)) => write!(f, "  changed  {name}: {part} {old} -> {new}"),
-            // the class came or went, or has no category in one of the images
-            (Some(old), None) => match self.part {
-                Part::Category => write!(f, "  changed  {name}: {part} {old} -> none"),
-                _ => write!(f, "  removed  {name}: {part} {old}"),
-            },
-            (None, Some(new)) => match self.part {
-                Part::Category => write!(f, "  changed  {name}: {part} none -> {new}"),
-                _ => write!(f, "  added    {name}: {part} {new}"),
-            },
-            (None, None) => Ok(()),
-        }
-    }
+/// Returns a text in quotes.
+fn quoted(alloc: Global, text: &str) -> Result<String, AllocError> {
+    format!(in alloc; "'{text}'")
 }

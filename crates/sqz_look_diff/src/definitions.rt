@@ -1,15 +1,15 @@
 //! The definitions of classes.
 
-ghost use Rattle.std.specs.Prelude.{◌<◌, IfSome};
-ghost use Rattle.sqz_image.specs.Objects.{object_count};
+ghost use Rattle.std.specs.Prelude.{IfSome};
+ghost use Rattle.sqz_look_view.specs.Inspectors.{IsObjectOf};
 
 use crate::name_list::NameList;
 use crate::numbers::Numbers;
 use crate::read_names::ReadNames;
 use crate::whole_names::WholeNames;
 use sqz_answers::Change;
-use sqz_look_view::{Categories, Inspector, field_of, organizer_of};
-use sqz_names::fields::{INSTANCE_VARIABLES, SUPERCLASS};
+use sqz_look_view::{Categories, Inspector, field_of};
+use sqz_names::fields::{INSTANCE_VARIABLES, NAME, SUPERCLASS};
 use sqz_object::ObjectIndex;
 use std::alloc::{AllocError, Global};
 use std::collections::BTreeMap;
@@ -146,15 +146,17 @@ fn definitions_in(
     names: &mut WholeNames,
 ) -> Result<Definitions, AllocError> {
     let alloc = inspector.alloc;
-    let organizer = organizer_of(inspector)?;
-    let categories = Categories::of(inspector, organizer)?;
+    let categories = Categories::of_classes(alloc, &inspector.names)?;
     let mut found = BTreeMap::new(alloc);
     for class in 0..inspector.live.graph.heap.len() {
         if !inspector.names.is_class(class) || !inspector.live.marks.has(class) {
             continue;
         }
         let name = names.class(inspector, numbers, class)?;
-        let category = categories.of_class(inspector, organizer, class)?;
+        let category = match field_of(inspector, class, NAME) {
+            Some(listed) => categories.of_listed(listed)?,
+            None => None,
+        };
         let definition = definition_of(inspector, names, numbers, class, category)?;
         let same_name = found.entry(name)?.or_insert(Vec::new(alloc));
         same_name.push(definition)?;
@@ -170,9 +172,9 @@ fn definition_of(
     class: ObjectIndex,
     category: Option<ObjectIndex>,
 ) -> Result<Definition, AllocError>
-    requires class { class < object_count inspector.now.live.graph.heap.now }
+    requires class { IsObjectOf inspector.now class }
     requires category { IfSome category (λ category.
-        category < object_count inspector.now.live.graph.heap.now) }
+        IsObjectOf inspector.now category) }
 {
     let category = match category {
         Some(category) => names.text(inspector, numbers, category)?,
@@ -192,7 +194,7 @@ fn superclass_text(
     numbers: &mut Numbers,
     class: ObjectIndex,
 ) -> Result<String, AllocError>
-    requires { class < object_count inspector.now.live.graph.heap.now }
+    requires { IsObjectOf inspector.now class }
 {
     match field_of(inspector, class, SUPERCLASS) {
         Some(superclass) if inspector.names.is_class(superclass) => {
@@ -209,7 +211,7 @@ fn variables_of(
     numbers: &mut Numbers,
     class: ObjectIndex,
 ) -> Result<NameList, AllocError>
-    requires { class < object_count inspector.now.live.graph.heap.now }
+    requires { IsObjectOf inspector.now class }
 {
     match field_of(inspector, class, INSTANCE_VARIABLES) {
         Some(array) => names.list(inspector, numbers, array),

@@ -1,19 +1,20 @@
 //! What changed between two images.
 
-ghost use Rattle.std.specs.Prelude.{All, IfOk, IsTrue, ◌<◌, ◌↔◌};
+ghost use Rattle.std.specs.Prelude.{All, IfOk, IsTrue, ◌↔◌};
 ghost use Rattle.sqz_image.specs.Objects.{object_count};
 ghost use Rattle.sqz_alike.specs.Alike.{AreAlike, IsInside};
 ghost use Rattle.sqz_alike.specs.Seen.{seen};
+ghost use Rattle.sqz_look_view.specs.Inspectors.{IsObjectOf};
 
-use crate::definition_view::DefinitionView;
+use crate::definition_rows::{print_category, print_superclass, print_variables};
 use crate::definitions::DefinitionChanges;
 use crate::differences::Differences;
-use crate::first_difference::{DifferenceView, ObjectView};
-use crate::holder_view::HolderView;
+use crate::first_difference::print_first_difference;
+use crate::holder_rows::print_holder;
 use crate::methods::MethodChanges;
+use crate::rows::{print_class, print_method, print_total, print_value, print_variable};
 use crate::values::ValueChange;
 use crate::variables::VariableChanges;
-use crate::views::{ClassView, MethodView, TotalView, ValueView, VariableView};
 use sqz_alike::{Alikeness, compare};
 use sqz_answers::{Change, Size};
 use sqz_image::Sink;
@@ -45,6 +46,7 @@ pub fn print_diff<C: Sink>(
     };
     print_differences(new, &differences, out)?;
     print_alikeness(old, new, alikeness, differences.is_empty(), out)?;
+    out.end()?;
     Ok(matches!(alikeness, Alikeness::Alike))
 }
 
@@ -53,17 +55,16 @@ fn print_differences<C: Sink>(
     new: &Inspector<'_>,
     differences: &Differences,
     out: &mut Out<'_, C>,
-) -> Result<(), PrintError>
-    requires { All (λ holder. holder.object < object_count new.now.live.graph.heap.now)
-        differences.now.holders.items }
+) -> Result<(), AllocError>
+    requires { All (λ holder. IsObjectOf new.now holder.object) differences.now.holders.items }
 {
     let alloc = new.alloc;
-    out.emit(&TotalView::of(differences.old, differences.new))?;
-    print_classes(alloc, &differences.classes, out)?;
-    print_variables(alloc, &differences.variables, out)?;
-    print_values(alloc, &differences.variables.values, out)?;
-    print_definitions(alloc, &differences.definitions, out)?;
-    print_methods(alloc, &differences.methods, out)?;
+    print_total(differences.old, differences.new, out);
+    print_classes(alloc, &differences.classes, out);
+    print_retained(alloc, &differences.variables, out);
+    print_values(&differences.variables.values, out);
+    print_definitions(alloc, &differences.definitions, out);
+    print_methods(&differences.methods, out);
     print_holders(new, &differences.holders, out)
 }
 
@@ -74,101 +75,98 @@ fn print_alikeness<C: Sink>(
     alikeness: Alikeness,
     is_nameless: bool,
     out: &mut Out<'_, C>,
-) -> Result<(), PrintError>
+) -> Result<(), AllocError>
     requires { IsInside (object_count old.now.live.graph.heap.now)
         (object_count new.now.live.graph.heap.now) alikeness }
 {
     match alikeness {
-        Alikeness::Alike => out.text(&"the images are alike"),
+        Alikeness::Alike => {
+            out.heading("the images are alike");
+            Ok(())
+        }
         Alikeness::Differ(pair) if is_nameless => {
-            let (old, new) = (
-                ObjectView::of(old, pair.old)?,
-                ObjectView::of(new, pair.new)?,
-            );
-            out.emit(&DifferenceView::of(old, new))
+            print_first_difference(old, new, pair.old, pair.new, out)
         }
         Alikeness::Differ(_) => Ok(()),
     }
 }
 
+/// Prints the line above the rows of a kind: their number.
+fn print_heading<C: Sink>(count: usize, template: &str, out: &mut Out<'_, C>) {
+    out.count("count", count);
+    out.heading(template);
+}
+
 /// Prints the classes that differ.
-fn print_classes<C: Sink>(
-    alloc: Global,
-    changes: &[Change<Size>],
-    out: &mut Out<'_, C>,
-) -> Result<(), PrintError> {
-    let count = changes.len();
-    out.text(&format!(in alloc; "classes   {count} changed")?)?;
-    for change in &changes[..out.shown(count)] {
-        out.emit(&ClassView::of(alloc, change)?)?;
+fn print_classes<C: Sink>(alloc: Global, changes: &[Change<Size>], out: &mut Out<'_, C>) {
+    print_heading(changes.len(), "classes   {count} changed", out);
+    for change in &changes[..out.shown(changes.len())] {
+        print_class(alloc, change, out);
     }
-    out.rest(count, "row")
+    out.rest(changes.len(), "row");
 }
 
 /// Prints the variables that retain more or less.
-fn print_variables<C: Sink>(
-    alloc: Global,
-    variables: &VariableChanges,
-    out: &mut Out<'_, C>,
-) -> Result<(), PrintError> {
+fn print_retained<C: Sink>(alloc: Global, variables: &VariableChanges, out: &mut Out<'_, C>) {
     let changes = variables.changes.as_slice();
-    let count = changes.len();
-    out.text(&format!(in alloc; "retained  {count} changed")?)?;
-    for change in &changes[..out.shown(count)] {
-        out.emit(&VariableView::of(alloc, variables, change)?)?;
+    print_heading(changes.len(), "retained  {count} changed", out);
+    for change in &changes[..out.shown(changes.len())] {
+        print_variable(alloc, variables, change, out);
     }
-    out.rest(count, "row")
+    out.rest(changes.len(), "row");
 }
 
 /// Prints the variables that have other values.
-fn print_values<C: Sink>(
-    alloc: Global,
-    changes: &[ValueChange],
-    out: &mut Out<'_, C>,
-) -> Result<(), PrintError> {
-    let count = changes.len();
-    out.text(&format!(in alloc; "values    {count} changed")?)?;
-    for change in &changes[..out.shown(count)] {
-        out.emit(&ValueView::of(change))?;
+fn print_values<C: Sink>(changes: &[ValueChange], out: &mut Out<'_, C>) {
+    print_heading(changes.len(), "values    {count} changed", out);
+    for change in &changes[..out.shown(changes.len())] {
+        print_value(change, out);
     }
-    out.rest(count, "row")
+    out.rest(changes.len(), "row");
 }
 
 /// Prints the classes that came or went, or whose definitions differ.
-fn print_definitions<C: Sink>(
-    alloc: Global,
-    changes: &DefinitionChanges,
-    out: &mut Out<'_, C>,
-) -> Result<(), PrintError> {
+fn print_definitions<C: Sink>(alloc: Global, changes: &DefinitionChanges, out: &mut Out<'_, C>) {
     let count = changes.len();
-    out.text(&format!(in alloc; "definitions {count} changed")?)?;
+    print_heading(count, "definitions {count} changed", out);
     let most = out.shown(count);
     for change in changes.superclasses.iter().take(most) {
-        out.emit(&DefinitionView::of_superclass(change))?;
+        print_superclass(change, out);
     }
     let most = most.saturating_sub(changes.superclasses.len());
     for change in changes.variables.iter().take(most) {
-        out.emit(&DefinitionView::of_variables(change))?;
+        print_variables(change, out);
     }
     let most = most.saturating_sub(changes.variables.len());
     for change in changes.categories.iter().take(most) {
-        out.emit(&DefinitionView::of_category(change))?;
+        print_category(alloc, change, out);
     }
-    out.rest(count, "row")
+    out.rest(count, "row");
 }
 
 /// Prints the methods that were added, removed or changed.
-fn print_methods<C: Sink>(
-    alloc: Global,
-    methods: &MethodChanges,
-    out: &mut Out<'_, C>,
-) -> Result<(), PrintError> {
-    out.text(&methods_line(alloc, methods)?)?;
+fn print_methods<C: Sink>(methods: &MethodChanges, out: &mut Out<'_, C>) {
+    print_methods_heading(methods, out);
     let changes = methods.changes.as_slice();
     for change in &changes[..out.shown(changes.len())] {
-        out.emit(&MethodView::of(change))?;
+        print_method(change, out);
     }
-    out.rest(changes.len(), "row")
+    out.rest(changes.len(), "row");
+}
+
+/// Prints the line about all methods.
+fn print_methods_heading<C: Sink>(methods: &MethodChanges, out: &mut Out<'_, C>) {
+    let changes = methods.changes.as_slice();
+    let added = changes.iter().filter(|change| change.old.is_none()).count();
+    let removed = changes.iter().filter(|change| change.new.is_none()).count();
+    out.count("added", added);
+    out.count("removed", removed);
+    out.count(
+        "changed",
+        changes.len().saturating_sub(added.saturating_add(removed)),
+    );
+    out.count("count", methods.count as usize);
+    out.heading("methods   {added} added, {removed} removed, {changed} changed of {count}");
 }
 
 /// Prints the objects without names that retain more.
@@ -176,33 +174,18 @@ fn print_holders<C: Sink>(
     new: &Inspector<'_>,
     holders: &[Holder],
     out: &mut Out<'_, C>,
-) -> Result<(), PrintError>
-    requires { All (λ holder. holder.object < object_count new.now.live.graph.heap.now)
-        holders.now }
+) -> Result<(), AllocError>
+    requires { All (λ holder. IsObjectOf new.now holder.object) holders.now }
 {
     let alloc = new.alloc;
-    let count = holders.len();
-    out.text(&format!(in alloc; "holders   {count} changed")?)?;
-    let shown = &holders[..out.shown(count)];
+    print_heading(holders.len(), "holders   {count} changed", out);
+    let shown = &holders[..out.shown(holders.len())];
     let objects = objects_of(alloc, shown)?;
     let referrers = first_referrers_of(alloc, &new.live, &objects)?;
     let mut names = SlotNames::none(alloc);
     for (holder, first) in shown.iter().zip(&referrers) {
-        out.emit(&HolderView::of(new, &mut names, *holder, *first)?)?;
+        print_holder(new, &mut names, *holder, *first, out);
     }
-    out.rest(count, "row")
-}
-
-/// Returns the line about all methods.
-fn methods_line(alloc: Global, methods: &MethodChanges) -> Result<String, AllocError> {
-    let (mut added, mut removed, mut changed) = (0u64, 0u64, 0u64);
-    for change in &methods.changes {
-        match (change.old, change.new) {
-            (None, _) => added = added.saturating_add(1),
-            (_, None) => removed = removed.saturating_add(1),
-            _ => changed = changed.saturating_add(1),
-        }
-    }
-    let count = methods.count;
-    format!(in alloc; "methods   {added} added, {removed} removed, {changed} changed of {count}")
+    out.rest(holders.len(), "row");
+    Ok(())
 }

@@ -1,77 +1,66 @@
 //! The first objects that differ.
 
-ghost use Rattle.std.specs.Prelude.{◌<◌};
-ghost use Rattle.sqz_image.specs.Objects.{object_count};
+ghost use Rattle.sqz_look_view.specs.Inspectors.{IsObjectOf};
 
-use serde::Serialize;
-use sqz_look_path::PathLine;
-use sqz_look_view::{Hex, Inspector, ObjectLabel};
+use sqz_image::Sink;
+use sqz_look_path::add_path;
+use sqz_look_view::{Inspector, Out};
 use sqz_object::ObjectIndex;
 use std::alloc::AllocError;
-use std::fmt;
 
-/// An object of one of the images.
-#[derive(Drop, Serialize)]
-pub(crate) struct ObjectView {
-    address: Hex,
-    class: String,
-    label: ObjectLabel,
-    /// A shortest path to the object.
-    path: Option<PathLine>,
-}
-
-impl ObjectView {
-    /// Returns the row of an object.
-    pub(crate) fn of(inspector: &Inspector<'_>, object: ObjectIndex) -> Result<Self, AllocError>
-        requires { object < object_count inspector.now.live.graph.heap.now }
-    {
-        Ok(ObjectView {
-            address: inspector.address(object),
-            class: inspector.names.name_of_class_of(object)?,
-            label: ObjectLabel::of(inspector, object)?,
-            path: PathLine::of(inspector, object)?,
-        })
+/// Prints two objects that must correspond, and differ, with a shortest path to each.
+pub(crate) fn print_first_difference<C: Sink>(
+    old: &Inspector<'_>,
+    new: &Inspector<'_>,
+    old_object: ObjectIndex,
+    new_object: ObjectIndex,
+    out: &mut Out<'_, C>,
+) -> Result<(), AllocError>
+    requires old { IsObjectOf old.now old_object }
+    requires new { IsObjectOf new.now new_object }
+{
+    out.word("kind", "object");
+    out.null("name");
+    add_object(old, "old", old_object, out)?;
+    add_object(new, "new", new_object, out)?;
+    out.part("first difference: {old} -> {new}");
+    if !out.is_json() {
+        add_path(old, "old", old_object, out)?;
+        add_path(new, "new", new_object, out)?;
     }
+    out.part_if("old", "  old: {old}");
+    out.part_if("new", "  new: {new}");
+    out.end_row();
+    Ok(())
 }
 
-impl fmt::Display for ObjectView {
-    fn fmt<W: fmt::Write>(&self, f: &mut fmt::Formatter<W>) -> fmt::Result {
-        let (address, label) = (self.address, &self.label);
-        write!(f, "{address} {label}")
+/// Adds an object of one of the images: to JSON with a shortest path to it.
+fn add_object<C: Sink>(
+    inspector: &Inspector<'_>,
+    name: &'static str,
+    object: ObjectIndex,
+    out: &mut Out<'_, C>,
+) -> Result<(), AllocError>
+    requires { IsObjectOf inspector.now object }
+{
+    if !out.is_json() {
+        out.text(name, object_text(inspector, object));
+        return Ok(());
     }
+    out.begin_object(name);
+    out.object(inspector, object);
+    add_path(inspector, "path", object, out)?;
+    out.end_object();
+    Ok(())
 }
 
-/// Two objects that must correspond, and differ.
-#[derive(Drop, Serialize)]
-pub(crate) struct DifferenceView {
-    kind: &'static str,
-    name: Option<&'static str>,
-    old: ObjectView,
-    new: ObjectView,
-}
-
-impl DifferenceView {
-    /// Returns the row of two objects that differ.
-    pub(crate) fn of(old: ObjectView, new: ObjectView) -> Self {
-        DifferenceView {
-            kind: "object",
-            name: None,
-            old,
-            new,
-        }
-    }
-}
-
-impl fmt::Display for DifferenceView {
-    fn fmt<W: fmt::Write>(&self, f: &mut fmt::Formatter<W>) -> fmt::Result {
-        let (old, new) = (&self.old, &self.new);
-        write!(f, "first difference: {old} -> {new}")?;
-        if let Some(path) = &old.path {
-            write!(f, "\n  old: {path}")?;
-        }
-        if let Some(path) = &new.path {
-            write!(f, "\n  new: {path}")?;
-        }
-        Ok(())
-    }
+/// Returns an object as text: its address and its label.
+fn object_text(inspector: &Inspector<'_>, object: ObjectIndex) -> Result<String, AllocError>
+    requires { IsObjectOf inspector.now object }
+{
+    let (address, label) = (
+        inspector.address(object),
+        inspector.names.short_label(object)?,
+    );
+    format!(in inspector.alloc; "{address} {label}")
 }

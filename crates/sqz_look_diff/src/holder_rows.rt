@@ -1,116 +1,80 @@
 //! The rows about objects without names that retain more.
 
-ghost use Rattle.std.specs.Prelude.{◌<◌, IfSome};
+ghost use Rattle.std.specs.Prelude.{IfSome};
 ghost use Rattle.sqz_image.specs.Objects.{object_count};
 ghost use Rattle.sqz_referrers.specs.FirstReferrers.{AreInside};
+ghost use Rattle.sqz_look_view.specs.Inspectors.{IsObjectOf};
 
-use serde::Serialize;
 use sqz_answers::bytes_or_none;
 use sqz_facts::Referrer;
-use sqz_look_view::{
-    Hex, Inspector, ObjectLabel, SlotName, SlotNames, write_difference, write_unit,
-};
+use sqz_image::Sink;
+use sqz_look_view::{Inspector, Out, SlotNames};
 use sqz_match::Holder;
 use sqz_referrers::FirstReferrers;
 use std::alloc::AllocError;
-use std::fmt;
 
-/// A slot that holds an object that retains more.
-#[derive(Drop, Serialize)]
-struct ReferrerView {
-    address: Hex,
-    class: String,
-    label: ObjectLabel,
-    slot: SlotName,
-    name: Option<String>,
-    /// The slot as text.
-    #[serde(skip)]
-    text: String,
+/// Prints an object without a name that retains more, or is new, with the first references to it.
+/// `names` are the names of the slots of any object.
+pub(crate) fn print_holder<C: Sink>(
+    inspector: &Inspector<'_>,
+    names: &mut SlotNames,
+    holder: Holder,
+    first: FirstReferrers,
+    out: &mut Out<'_, C>,
+)
+    requires holder { IsObjectOf inspector.now holder.object }
+    requires first { AreInside (object_count inspector.now.live.graph.heap.now) first }
+{
+    out.word("kind", "holder");
+    out.hex("address", inspector.address(holder.object).0);
+    out.text("class", inspector.names.name_of_class_of(holder.object));
+    out.amount_or_null("old", holder.old);
+    out.amount("new", holder.new);
+    if out.is_json() {
+        out.begin_list("referrers");
+        print_referrer(inspector, names, first.first, out);
+        print_referrer(inspector, names, first.second, out);
+        out.end_list();
+    } else {
+        out.difference("difference", bytes_or_none(holder.old), holder.new);
+        out.truth("is_new", holder.old.is_none());
+        out.text_or_null("first", referrer_text(inspector, names, first.first));
+        out.text_or_null("second", referrer_text(inspector, names, first.second));
+    }
+    out.line("{difference:>11#byte}  {address} {class}{is_new/ (new)}{first/, in }{second/ and }");
 }
 
-impl ReferrerView {
-    /// Returns the row of a reference. `names` are the names of the slots of any object.
-    fn of(
-        inspector: &Inspector<'_>,
-        names: &mut SlotNames,
-        referrer: Referrer,
-    ) -> Result<Self, AllocError>
-        requires { referrer.object < object_count inspector.now.live.graph.heap.now }
-    {
-        let object = referrer.object;
-        names.set_object(inspector, object)?;
-        Ok(ReferrerView {
-            address: inspector.address(object),
-            class: inspector.names.name_of_class_of(object)?,
-            label: ObjectLabel::of(inspector, object)?,
-            slot: SlotName::from(referrer.slot),
-            name: names.name(referrer.slot)?,
-            text: names.text(referrer.slot)?,
-        })
+/// Prints a slot that holds an object, if there is one.
+fn print_referrer<C: Sink>(
+    inspector: &Inspector<'_>,
+    names: &mut SlotNames,
+    referrer: Option<Referrer>,
+    out: &mut Out<'_, C>,
+)
+    requires { IfSome referrer (λ referrer. IsObjectOf inspector.now referrer.object) }
+{
+    if let Some(referrer) = referrer {
+        out.need(names.set_object(inspector, referrer.object));
+        out.object(inspector, referrer.object);
+        out.slot(names, referrer.slot);
+        out.end_row();
     }
 }
 
-impl fmt::Display for ReferrerView {
-    fn fmt<W: fmt::Write>(&self, f: &mut fmt::Formatter<W>) -> fmt::Result {
-        let (address, label, text) = (self.address, &self.label, self.text.as_str());
-        write!(f, "{text} of {address} {label}")
-    }
-}
-
-/// An object without a name that retains more, or is new.
-#[derive(Drop, Serialize)]
-pub(crate) struct HolderView {
-    kind: &'static str,
-    address: Hex,
-    class: String,
-    old: Option<u64>,
-    new: u64,
-    referrers: Vec<ReferrerView>,
-}
-
-impl HolderView {
-    /// Returns the row of a holder with the first references to it.
-    pub(crate) fn of(
-        inspector: &Inspector<'_>,
-        names: &mut SlotNames,
-        holder: Holder,
-        first: FirstReferrers,
-    ) -> Result<Self, AllocError>
-        requires holder { holder.object < object_count inspector.now.live.graph.heap.now }
-        requires first { AreInside (object_count inspector.now.live.graph.heap.now) first }
-    {
-        let alloc = inspector.alloc;
-        let mut referrers = Vec::new(alloc);
-        if let Some(referrer) = first.first {
-            referrers.push(ReferrerView::of(inspector, names, referrer)?)?;
-        }
-        if let Some(referrer) = first.second {
-            referrers.push(ReferrerView::of(inspector, names, referrer)?)?;
-        }
-        Ok(HolderView {
-            kind: "holder",
-            address: inspector.address(holder.object),
-            class: inspector.names.name_of_class_of(holder.object)?,
-            old: holder.old,
-            new: holder.new,
-            referrers,
-        })
-    }
-}
-
-impl fmt::Display for HolderView {
-    fn fmt<W: fmt::Write>(&self, f: &mut fmt::Formatter<W>) -> fmt::Result {
-        let (address, class) = (self.address, self.class.as_str());
-        write_difference(f, bytes_or_none(self.old), self.new, 11)?;
-        write_unit(f)?;
-        write!(f, "  {address} {class}")?;
-        if self.old.is_none() {
-            f.write_str(" (new)")?;
-        }
-        for (place, referrer) in self.referrers.iter().enumerate() {
-            f.write_str(if place == 0 { ", in " } else { " and " })?;
-            write!(f, "{referrer}")?;
-        }
-        Ok(())
-    }
+/// Returns a slot that holds an object as text, if there is one.
+fn referrer_text(
+    inspector: &Inspector<'_>,
+    names: &mut SlotNames,
+    referrer: Option<Referrer>,
+) -> Result<Option<String>, AllocError>
+    requires { IfSome referrer (λ referrer. IsObjectOf inspector.now referrer.object) }
+{
+    let Some(referrer) = referrer else {
+        return Ok(None);
+    };
+    let object = referrer.object;
+    names.set_object(inspector, object)?;
+    let (slot, address) = (names.text(referrer.slot)?, inspector.address(object));
+    let label = inspector.names.short_label(object)?;
+    Ok(Some(format!(in inspector.alloc; "{slot} of {address} {label}")?))
 }

@@ -1,7 +1,8 @@
 //! What the objects of two images are matched by: the names of their classes, and their layouts.
 
-ghost use Rattle.std.specs.Prelude.{◌≡◌, ◌<◌, IfOk, length};
+ghost use Rattle.std.specs.Prelude.{◌≡◌, IfOk, length};
 ghost use Rattle.sqz_image.specs.Objects.{object_count};
+ghost use Rattle.sqz_look_view.specs.Inspectors.{IsObjectOf};
 
 use crate::numbers::Numbers;
 use crate::whole_names::WholeNames;
@@ -43,7 +44,7 @@ pub(crate) fn kinds_of(
 /// Returns what objects of one kind in an image have in common: the class or the compact index, and
 /// the layout.
 fn key_of(inspector: &Inspector<'_>, object: ObjectIndex) -> (bool, u32, u8)
-    requires { object < object_count inspector.now.live.graph.heap.now }
+    requires { IsObjectOf inspector.now object }
 {
     let graph = inspector.live.graph;
     let chunk = graph.heap.object(object);
@@ -61,7 +62,7 @@ fn kind_of(
     names: &mut WholeNames,
     object: ObjectIndex,
 ) -> Result<usize, AllocError>
-    requires { object < object_count inspector.now.live.graph.heap.now }
+    requires { IsObjectOf inspector.now object }
 {
     let graph = inspector.live.graph;
     let mut text = match graph.class_of(object) {

@@ -4,12 +4,12 @@
 
 mod classes;
 mod contents;
-mod definition_view;
+mod definition_rows;
 mod definitions;
 mod diff;
 mod differences;
 mod first_difference;
-mod holder_view;
+mod holder_rows;
 mod holders;
 mod kinds;
 mod literal_numbers;
@@ -23,10 +23,10 @@ mod named_objects;
 mod numbers;
 mod object_numbers;
 mod read_names;
+mod rows;
 mod signed;
 mod values;
 mod variables;
-mod views;
 mod whole_names;
 
 pub use diff::print_diff;

@@ -2,6 +2,7 @@
 
 ghost use Rattle.std.specs.Prelude.{◌<◌, IfSome};
 ghost use Rattle.sqz_image.specs.Objects.{object_count};
+ghost use Rattle.sqz_look_view.specs.Inspectors.{IsObjectOf};
 
 use crate::literals::Literal;
 use crate::numbers::{Numbers, push_number};
@@ -80,7 +81,7 @@ impl<'a> LiteralNumbers<'a> {
         numbers: &mut Numbers,
         object: ObjectIndex,
     ) -> Result<(), AllocError>
-        requires { object < object_count inspector.now.live.graph.heap.now }
+        requires { IsObjectOf inspector.now object }
     {
         let mut steps = Vec::new(inspector.alloc);
         self.see(inspector, numbers, object, &mut steps)?;
@@ -123,7 +124,7 @@ impl<'a> LiteralNumbers<'a> {
         object: ObjectIndex,
         steps: &mut Vec<Step>,
     ) -> Result<(), AllocError>
-        requires { object < object_count inspector.now.live.graph.heap.now }
+        requires { IsObjectOf inspector.now object }
     {
         if self.known.get(object).is_some() || self.places.contains_key(&object) {
             return Ok(());

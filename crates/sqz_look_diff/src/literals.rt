@@ -1,7 +1,6 @@
 //! What the literals of methods are compared by.
 
-ghost use Rattle.std.specs.Prelude.{◌<◌};
-ghost use Rattle.sqz_image.specs.Objects.{object_count};
+ghost use Rattle.sqz_look_view.specs.Inspectors.{IsObjectOf};
 
 use sqz_histogram::first_bytes;
 use sqz_look_view::Inspector;
@@ -26,7 +25,7 @@ pub(crate) enum Literal<'a> {
 impl<'a> Literal<'a> {
     /// Returns what an object is compared by.
     pub(crate) fn of(inspector: &Inspector<'a>, object: ObjectIndex) -> Result<Self, AllocError>
-        requires { object < object_count inspector.now.live.graph.heap.now }
+        requires { IsObjectOf inspector.now object }
     {
         match inspector.names.label_of(object)? {
             Label::String | Label::Symbol | Label::Other => Literal::of_object(inspector, object),
@@ -36,7 +35,7 @@ impl<'a> Literal<'a> {
 
     /// Returns what an object without a name is compared by.
     fn of_object(inspector: &Inspector<'a>, object: ObjectIndex) -> Result<Self, AllocError>
-        requires { object < object_count inspector.now.live.graph.heap.now }
+        requires { IsObjectOf inspector.now object }
     {
         let class = inspector.names.name_of_class_of(object)?;
         let heap = inspector.live.graph.heap;

@@ -1,7 +1,6 @@
 //! The names of methods.
 
-ghost use Rattle.std.specs.Prelude.{◌<◌};
-ghost use Rattle.sqz_image.specs.Objects.{object_count};
+ghost use Rattle.sqz_look_view.specs.Inspectors.{IsObjectOf};
 
 use crate::numbers::Numbers;
 use crate::read_names::Texts;
@@ -82,9 +81,8 @@ impl ImageNames {
         texts: &mut Texts,
         name: &MethodName,
     ) -> Result<MethodKey, AllocError>
-        requires class { name.now.class < object_count inspector.now.live.graph.heap.now }
-        requires selector { name.now.selector
-            < object_count inspector.now.live.graph.heap.now }
+        requires class { IsObjectOf inspector.now name.now.class }
+        requires selector { IsObjectOf inspector.now name.now.selector }
     {
         Ok(MethodKey {
             class: self.class(inspector, texts, name.class)?,
@@ -99,7 +97,7 @@ impl ImageNames {
         texts: &mut Texts,
         class: ObjectIndex,
     ) -> Result<usize, AllocError>
-        requires { class < object_count inspector.now.live.graph.heap.now }
+        requires { IsObjectOf inspector.now class }
     {
         if let Some(number) = self.classes.get(&class) {
             return Ok(*number);
@@ -118,7 +116,7 @@ impl ImageNames {
         parts: &mut NameParts,
         selector: ObjectIndex,
     ) -> Result<usize, AllocError>
-        requires { selector < object_count inspector.now.live.graph.heap.now }
+        requires { IsObjectOf inspector.now selector }
     {
         if let Some(number) = self.selectors.get(&selector) {
             return Ok(*number);

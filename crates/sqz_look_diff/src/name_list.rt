@@ -2,9 +2,7 @@
 
 use crate::numbers::Numbers;
 use crate::whole_names::{MOST_BYTES, numbered};
-use serde::{Described, Serialize, Serializer};
 use std::alloc::{AllocError, Global};
-use std::fmt;
 
 /// The names that an array has, in order. A long list is cut, and ends with the number of the whole
 /// list: lists with equal texts have equal names.
@@ -39,27 +37,23 @@ impl NameList {
         Ok(NameList { names, text })
     }
 
-    /// Returns whether two lists have the same names.
-    pub(crate) fn is_same(&self, other: &NameList) -> bool {
-        self.text.as_str() == other.text.as_str()
+    /// Returns the names. None stands for an element that is no byte object.
+    pub(crate) fn names(&self) -> &[Option<String>] {
+        self.names.as_slice()
     }
-}
 
-impl Described for NameList {}
-
-impl Serialize for NameList {
-    fn serialize<S: Serializer>(&self, out: &mut S) -> Result<(), S::Error> {
-        self.names.serialize(out)
-    }
-}
-
-impl fmt::Display for NameList {
-    fn fmt<W: fmt::Write>(&self, f: &mut fmt::Formatter<W>) -> fmt::Result {
-        f.write_str(if self.text.is_empty() {
+    /// Returns the names as text: `none` for a list of no names.
+    pub(crate) fn text(&self) -> &str {
+        if self.text.is_empty() {
             "none"
         } else {
             self.text.as_str()
-        })
+        }
+    }
+
+    /// Returns whether two lists have the same names.
+    pub(crate) fn is_same(&self, other: &NameList) -> bool {
+        self.text.as_str() == other.text.as_str()
     }
 }
 

@@ -4,224 +4,109 @@ use crate::methods::MethodChange;
 use crate::signed::signed_difference;
 use crate::values::ValueChange;
 use crate::variables::VariableChanges;
-use serde::Serialize;
 use sqz_answers::{Change, Size, bytes_or_none, size_or_nothing};
-use sqz_look_view::{write_amount, write_difference, write_unit};
+use sqz_image::Sink;
+use sqz_look_view::Out;
 use std::alloc::{AllocError, Global};
-use std::fmt;
 
-/// A number of objects, and their bytes.
-#[derive(Clone, Copy, Drop, Serialize)]
-struct SizeView {
-    objects: u64,
-    bytes: u64,
+/// Adds a number of objects, and their bytes; null if an image has none.
+fn add_size<C: Sink>(name: &'static str, size: Option<Size>, out: &mut Out<'_, C>) {
+    let Some(size) = size else {
+        return out.null(name);
+    };
+    out.begin_object(name);
+    out.number("objects", size.objects);
+    out.amount("bytes", size.bytes);
+    out.end_object();
 }
 
-impl SizeView {
-    /// Returns a size.
-    fn of(size: Size) -> Self {
-        let Size { objects, bytes } = size;
-        SizeView { objects, bytes }
+/// Prints the size of all live objects in two images.
+pub(crate) fn print_total<C: Sink>(old: Size, new: Size, out: &mut Out<'_, C>) {
+    out.word("kind", "total");
+    out.null("name");
+    if out.is_json() {
+        add_size("old", Some(old), out);
+        add_size("new", Some(new), out);
+    } else {
+        out.number("old_objects", old.objects);
+        out.number("new_objects", new.objects);
+        out.amount("old_bytes", old.bytes);
+        out.amount("new_bytes", new.bytes);
+        out.difference("difference", old.bytes, new.bytes);
     }
+    out.line(
+        "objects   {old_objects} -> {new_objects}, bytes {old_bytes} -> {new_bytes} ({difference})",
+    );
 }
 
-/// The size of all live objects in two images.
-#[derive(Drop, Serialize)]
-pub(crate) struct TotalView {
-    kind: &'static str,
-    name: Option<&'static str>,
-    old: SizeView,
-    new: SizeView,
-}
-
-impl TotalView {
-    /// Returns the row of all live objects.
-    pub(crate) fn of(old: Size, new: Size) -> Self {
-        TotalView {
-            kind: "total",
-            name: None,
-            old: SizeView::of(old),
-            new: SizeView::of(new),
-        }
-    }
-}
-
-impl fmt::Display for TotalView {
-    fn fmt<W: fmt::Write>(&self, f: &mut fmt::Formatter<W>) -> fmt::Result {
-        let (old, new) = (self.old, self.new);
-        write!(f, "objects   {} -> {}, bytes ", old.objects, new.objects)?;
-        write_amount(f, old.bytes, 0)?;
-        f.write_str(" -> ")?;
-        write_amount(f, new.bytes, 0)?;
-        f.write_str(" (")?;
-        write_difference(f, old.bytes, new.bytes, 0)?;
-        f.write_str(")")
-    }
-}
-
-/// A class whose live instances differ in number or size.
-#[derive(Drop, Serialize)]
-pub(crate) struct ClassView<'a> {
-    kind: &'static str,
-    name: &'a str,
-    old: Option<SizeView>,
-    new: Option<SizeView>,
-    /// The bytes in both images, 0 if an image has no such class.
-    #[serde(skip)]
-    was: u64,
-    #[serde(skip)]
-    is: u64,
-    /// The difference of the objects, with its sign.
-    #[serde(skip)]
-    objects: String,
-}
-
-impl<'a> ClassView<'a> {
-    /// Returns the row of a class.
-    pub(crate) fn of(alloc: Global, change: &'a Change<Size>) -> Result<Self, AllocError> {
+/// Prints a class whose live instances differ in number or size.
+pub(crate) fn print_class<C: Sink>(alloc: Global, change: &Change<Size>, out: &mut Out<'_, C>) {
+    out.word("kind", "class");
+    out.word("name", change.name.as_str());
+    if out.is_json() {
+        add_size("old", change.old, out);
+        add_size("new", change.new, out);
+    } else {
         let (old, new) = (size_or_nothing(change.old), size_or_nothing(change.new));
-        Ok(ClassView {
-            kind: "class",
-            name: change.name.as_str(),
-            old: change.old.map(SizeView::of),
-            new: change.new.map(SizeView::of),
-            was: old.bytes,
-            is: new.bytes,
-            objects: signed_difference(alloc, old.objects, new.objects)?,
-        })
+        out.difference("difference", old.bytes, new.bytes);
+        out.text(
+            "objects",
+            signed_difference(alloc, old.objects, new.objects),
+        );
     }
+    out.line("{difference:>11#byte} {objects:>10} objects  {name}");
 }
 
-impl fmt::Display for ClassView<'_> {
-    fn fmt<W: fmt::Write>(&self, f: &mut fmt::Formatter<W>) -> fmt::Result {
-        let (objects, name) = (self.objects.as_str(), self.name);
-        write_difference(f, self.was, self.is, 11)?;
-        write_unit(f)?;
-        write!(f, " {objects:>10} objects  {name}")
+/// Prints a variable that retains more or less, with the bytes of new objects that it retains now.
+pub(crate) fn print_variable<C: Sink>(
+    alloc: Global,
+    variables: &VariableChanges,
+    change: &Change<u64>,
+    out: &mut Out<'_, C>,
+) {
+    let new_bytes = variables.new_bytes(change.name.as_str());
+    out.word("kind", "retained");
+    out.word("name", change.name.as_str());
+    out.amount_or_null("old", change.old);
+    out.amount_or_null("new", change.new);
+    out.amount_or_null("new_bytes", new_bytes);
+    out.difference(
+        "difference",
+        bytes_or_none(change.old),
+        bytes_or_none(change.new),
+    );
+    if !out.is_json() {
+        out.text("share", share_text(alloc, change, new_bytes));
+        out.word("note", note_of(variables, change));
     }
-}
-
-/// A variable that retains more or less.
-#[derive(Drop, Serialize)]
-pub(crate) struct VariableView<'a> {
-    kind: &'static str,
-    name: &'a str,
-    old: Option<u64>,
-    new: Option<u64>,
-    /// The bytes of new objects that it retains now. None if it is gone.
-    new_bytes: Option<u64>,
-    /// How many of them are new, as text.
-    #[serde(skip)]
-    share: String,
-    /// What became of the variable, as text.
-    #[serde(skip)]
-    note: &'static str,
-}
-
-impl<'a> VariableView<'a> {
-    /// Returns the row of a variable.
-    pub(crate) fn of(
-        alloc: Global,
-        variables: &VariableChanges,
-        change: &'a Change<u64>,
-    ) -> Result<Self, AllocError> {
-        let (old, new) = (change.old, change.new);
-        let new_bytes = variables.new_bytes(change.name.as_str());
-        Ok(VariableView {
-            kind: "retained",
-            name: change.name.as_str(),
-            old,
-            new,
-            new_bytes,
-            share: share_text(alloc, change, new_bytes)?,
-            note: note_of(variables, change),
-        })
-    }
-}
-
-impl fmt::Display for VariableView<'_> {
-    fn fmt<W: fmt::Write>(&self, f: &mut fmt::Formatter<W>) -> fmt::Result {
-        let (name, note) = (self.name, self.note);
-        write_difference(f, bytes_or_none(self.old), bytes_or_none(self.new), 11)?;
-        write_unit(f)?;
-        f.write_str(" ")?;
-        self.write_share(f)?;
-        write!(f, " {name}{note}")
-    }
-}
-
-impl VariableView<'_> {
-    /// Writes how many of the bytes are new.
-    fn write_share<W: fmt::Write>(&self, f: &mut fmt::Formatter<W>) -> fmt::Result {
-        match self.new_bytes {
-            Some(bytes) if bytes > 0 && f.alternate() => {
-                f.write_str("(")?;
-                write_amount(f, bytes, 0)?;
-                f.write_str(" new)")
-            }
-            _ => write!(f, "{:<16}", self.share.as_str()),
+    out.line(match new_bytes {
+        Some(bytes) if bytes > 0 && out.is_human() => {
+            "{difference:>11#byte} ({new_bytes} new) {name}{note}"
         }
-    }
+        _ => "{difference:>11#byte} {share:<16} {name}{note}",
+    });
 }
 
-/// A variable that has another value.
-#[derive(Drop, Serialize)]
-pub(crate) struct ValueView<'a> {
-    kind: &'static str,
-    name: &'a str,
-    old: &'a str,
-    new: &'a str,
+/// Prints a variable that has another value.
+pub(crate) fn print_value<C: Sink>(change: &ValueChange, out: &mut Out<'_, C>) {
+    out.word("kind", "value");
+    out.word("name", change.name.as_str());
+    out.word("old", change.old.as_str());
+    out.word("new", change.new.as_str());
+    out.line("  {name}: {old} -> {new}");
 }
 
-impl<'a> ValueView<'a> {
-    /// Returns the row of a variable.
-    pub(crate) fn of(change: &'a ValueChange) -> Self {
-        ValueView {
-            kind: "value",
-            name: change.name.as_str(),
-            old: change.old.as_str(),
-            new: change.new.as_str(),
-        }
-    }
-}
-
-impl fmt::Display for ValueView<'_> {
-    fn fmt<W: fmt::Write>(&self, f: &mut fmt::Formatter<W>) -> fmt::Result {
-        let (name, old, new) = (self.name, self.old, self.new);
-        write!(f, "  {name}: {old} -> {new}")
-    }
-}
-
-/// A method that was added, removed or changed.
-#[derive(Drop, Serialize)]
-pub(crate) struct MethodView<'a> {
-    kind: &'static str,
-    name: &'a str,
-    old: Option<u64>,
-    new: Option<u64>,
-}
-
-impl<'a> MethodView<'a> {
-    /// Returns the row of a method.
-    pub(crate) fn of(change: &'a MethodChange) -> Self {
-        MethodView {
-            kind: "method",
-            name: change.name.as_str(),
-            old: change.old.map(|method| method.bytes),
-            new: change.new.map(|method| method.bytes),
-        }
-    }
-}
-
-impl fmt::Display for MethodView<'_> {
-    fn fmt<W: fmt::Write>(&self, f: &mut fmt::Formatter<W>) -> fmt::Result {
-        let verb = match (self.old, self.new) {
-            (None, _) => "added",
-            (_, None) => "removed",
-            _ => "changed",
-        };
-        write!(f, "  {verb:<7}  {}", self.name)
-    }
+/// Prints a method that was added, removed or changed.
+pub(crate) fn print_method<C: Sink>(change: &MethodChange, out: &mut Out<'_, C>) {
+    out.word("kind", "method");
+    out.word("name", change.name.as_str());
+    out.amount_or_null("old", change.old.map(|method| method.bytes));
+    out.amount_or_null("new", change.new.map(|method| method.bytes));
+    out.line(match (change.old, change.new) {
+        (None, _) => "  added    {name}",
+        (_, None) => "  removed  {name}",
+        _ => "  changed  {name}",
+    });
 }
 
 /// Returns how many of the bytes that a variable retains now are new, as text. Empty if it does not

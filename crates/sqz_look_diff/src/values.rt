@@ -1,7 +1,7 @@
 //! The values of variables, as text.
 
-ghost use Rattle.std.specs.Prelude.{◌<◌, IfSome};
-ghost use Rattle.sqz_image.specs.Objects.{object_count};
+ghost use Rattle.std.specs.Prelude.{IfSome};
+ghost use Rattle.sqz_look_view.specs.Inspectors.{IsObjectOf};
 
 use sqz_look_view::{Hex, Inspector};
 use sqz_names::Label;
@@ -75,9 +75,8 @@ pub(crate) fn value_text(
     association: ObjectIndex,
     value: Option<ObjectIndex>,
 ) -> Result<String, AllocError>
-    requires association { association < object_count inspector.now.live.graph.heap.now }
-    requires value { IfSome value (λ value. value
-        < object_count inspector.now.live.graph.heap.now) }
+    requires association { IsObjectOf inspector.now association }
+    requires value { IfSome value (λ value. IsObjectOf inspector.now value) }
 {
     match value {
         Some(object) => object_text(inspector, object),
@@ -87,7 +86,7 @@ pub(crate) fn value_text(
 
 /// Returns the label of an object; if it has none, its class and its bytes.
 fn object_text(inspector: &Inspector<'_>, object: ObjectIndex) -> Result<String, AllocError>
-    requires { object < object_count inspector.now.live.graph.heap.now }
+    requires { IsObjectOf inspector.now object }
 {
     match inspector.names.label_of(object)? {
         Label::Other => {
@@ -101,7 +100,7 @@ fn object_text(inspector: &Inspector<'_>, object: ObjectIndex) -> Result<String,
 
 /// Returns the value of an association that holds no object: a number, or else its word.
 fn word_text(inspector: &Inspector<'_>, association: ObjectIndex) -> Result<String, AllocError>
-    requires { association < object_count inspector.now.live.graph.heap.now }
+    requires { IsObjectOf inspector.now association }
 {
     let alloc = inspector.alloc;
     let object = inspector.live.graph.heap.object(association);

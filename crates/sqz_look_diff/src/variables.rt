@@ -1,7 +1,7 @@
 //! The variables that retain more or less.
 
-ghost use Rattle.std.specs.Prelude.{◌<◌, IfSome};
-ghost use Rattle.sqz_image.specs.Objects.{object_count};
+ghost use Rattle.std.specs.Prelude.{IfSome};
+ghost use Rattle.sqz_look_view.specs.Inspectors.{IsObjectOf};
 
 use crate::matched::Matched;
 use crate::numbers::Numbers;
@@ -114,9 +114,9 @@ impl Holdings {
         association: ObjectIndex,
         value: Option<ObjectIndex>,
     ) -> Result<(), AllocError>
-        requires association { association < object_count inspector.now.live.graph.heap.now }
+        requires association { IsObjectOf inspector.now association }
         requires value { IfSome value (λ value.
-            value < object_count inspector.now.live.graph.heap.now) }
+            IsObjectOf inspector.now value) }
     {
         if !is_nil(inspector, value)? {
             self.set.insert(label.clone()?)?;
@@ -178,7 +178,7 @@ fn held_in(
 
 /// Returns whether the value of a variable is nil.
 fn is_nil(inspector: &Inspector<'_>, value: Option<ObjectIndex>) -> Result<bool, AllocError>
-    requires { IfSome value (λ value. value < object_count inspector.now.live.graph.heap.now) }
+    requires { IfSome value (λ value. IsObjectOf inspector.now value) }
 {
     match value {
         Some(value) => Ok(inspector.names.label_of(value)? == Label::Known(Known::Nil)),

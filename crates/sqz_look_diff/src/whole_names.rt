@@ -1,7 +1,7 @@
 //! The whole names of classes and variables.
 
-ghost use Rattle.std.specs.Prelude.{◌<◌, IfSome};
-ghost use Rattle.sqz_image.specs.Objects.{object_count};
+ghost use Rattle.std.specs.Prelude.{IfSome};
+ghost use Rattle.sqz_look_view.specs.Inspectors.{IsObjectOf};
 
 use crate::name_list::{NameList, Names};
 use crate::numbers::Numbers;
@@ -43,7 +43,7 @@ impl WholeNames {
         numbers: &mut Numbers,
         class: ObjectIndex,
     ) -> Result<String, AllocError>
-        requires { class < object_count inspector.now.live.graph.heap.now }
+        requires { IsObjectOf inspector.now class }
     {
         let label = inspector.names.label_of(class)?;
         let name = match label {
@@ -75,8 +75,8 @@ impl WholeNames {
         name: VariableName,
     ) -> Result<Option<String>, AllocError>
         requires class { IfSome name.class (λ class.
-            class < object_count inspector.now.live.graph.heap.now) }
-        requires key { name.key < object_count inspector.now.live.graph.heap.now }
+            IsObjectOf inspector.now class) }
+        requires key { IsObjectOf inspector.now name.key }
     {
         let Some(key) = self.text(inspector, numbers, name.key)? else {
             return Ok(None);
@@ -98,7 +98,7 @@ impl WholeNames {
         numbers: &mut Numbers,
         object: ObjectIndex,
     ) -> Result<Option<String>, AllocError>
-        requires { object < object_count inspector.now.live.graph.heap.now }
+        requires { IsObjectOf inspector.now object }
     {
         if let Some(text) = self.texts.get(&object) {
             return Ok(Some(text.clone()?));
@@ -126,7 +126,7 @@ impl WholeNames {
         numbers: &mut Numbers,
         array: ObjectIndex,
     ) -> Result<NameList, AllocError>
-        requires { array < object_count inspector.now.live.graph.heap.now }
+        requires { IsObjectOf inspector.now array }
     {
         if let Some(list) = self.lists.get(&array) {
             return list.copied(inspector.alloc);

@@ -1,15 +1,17 @@
 //! Lines of classes.
 
-ghost use Rattle.std.specs.Prelude.{◌<◌, All, IfSome};
+ghost use Rattle.std.specs.Prelude.{All};
 ghost use Rattle.sqz_image.specs.Objects.{object_count};
 ghost use Rattle.sqz_histogram.specs.Groups.{IsInside};
+ghost use Rattle.sqz_look_view.specs.Inspectors.{IsObjectOf};
 
 use crate::page_out::PageOut;
 use crate::places::place_of;
 use sqz_answers::RetainedTotal;
 use sqz_histogram::Group;
 use sqz_image::Sink;
-use sqz_look_view::{Categories, Inspector};
+use sqz_look_view::{Categories, Inspector, Out, field_of};
+use sqz_names::fields::NAME;
 use sqz_object::ObjectIndex;
 use std::alloc::AllocError;
 
@@ -17,14 +19,12 @@ use std::alloc::AllocError;
 /// class, in the order of these rows of a class histogram.
 pub(crate) fn add_classes<C: Sink>(
     inspector: &Inspector<'_>,
-    organizer: Option<ObjectIndex>,
-    categories: &Categories,
+    categories: &Categories<'_, '_>,
     rows: &[RetainedTotal],
-    page: &mut PageOut<'_, '_, C>,
+    page: &mut PageOut,
+    out: &mut Out<'_, C>,
 )
-    requires organizer { IfSome organizer (λ organizer.
-        organizer < object_count inspector.now.live.graph.heap.now) }
-    requires rows { All (λ row.
+    requires { All (λ row.
         IsInside (object_count inspector.now.live.graph.heap.now) row.total.group) rows.now }
 {
     page.begin("classes");
@@ -34,7 +34,7 @@ pub(crate) fn add_classes<C: Sink>(
             Group::Class(class) => {
                 page.number(place_of(inspector, class));
                 page.made(inspector.names.name_of_class(class));
-                page.made_if_any(category_of(inspector, organizer, categories, class));
+                page.made_if_any(category_of(inspector, categories, class));
                 add_totals(*row, page);
                 add_variables(inspector, class, page);
             }
@@ -46,13 +46,13 @@ pub(crate) fn add_classes<C: Sink>(
                 page.nothing();
             }
         }
-        page.end_line(']');
+        page.end_line(']', out);
     }
     page.end_block();
 }
 
 /// Adds the numbers of a class: its objects, their bytes, and the bytes that they retain.
-fn add_totals<C: Sink>(row: RetainedTotal, page: &mut PageOut<'_, '_, C>) {
+fn add_totals(row: RetainedTotal, page: &mut PageOut) {
     page.number(i64::from(row.total.count));
     page.size(row.total.bytes);
     page.size(row.retained);
@@ -61,27 +61,20 @@ fn add_totals<C: Sink>(row: RetainedTotal, page: &mut PageOut<'_, '_, C>) {
 /// Returns the category of a class.
 fn category_of(
     inspector: &Inspector<'_>,
-    organizer: Option<ObjectIndex>,
-    categories: &Categories,
+    categories: &Categories<'_, '_>,
     class: ObjectIndex,
 ) -> Result<Option<String>, AllocError>
-    requires organizer { IfSome organizer (λ organizer.
-        organizer < object_count inspector.now.live.graph.heap.now) }
-    requires class { class < object_count inspector.now.live.graph.heap.now }
+    requires { IsObjectOf inspector.now class }
 {
-    match categories.of_class(inspector, organizer, class)? {
-        Some(category) => Ok(Some(inspector.names.text(category)?)),
+    match field_of(inspector, class, NAME) {
+        Some(name) => categories.text_of(name),
         None => Ok(None),
     }
 }
 
 /// Adds the names of the instance variables of a class, if they are known.
-fn add_variables<C: Sink>(
-    inspector: &Inspector<'_>,
-    class: ObjectIndex,
-    page: &mut PageOut<'_, '_, C>,
-)
-    requires { class < object_count inspector.now.live.graph.heap.now }
+fn add_variables(inspector: &Inspector<'_>, class: ObjectIndex, page: &mut PageOut)
+    requires { IsObjectOf inspector.now class }
 {
     match inspector.names.instance_variables(class) {
         Ok(Some(names)) => {

@@ -1,15 +1,16 @@
 //! An image as a page.
 
 use crate::classes::add_classes;
+use crate::counters::Counters;
 use crate::head::add_head;
-use crate::objects::add_objects;
+use crate::objects::{Measures, add_objects};
 use crate::page_out::PageOut;
 use crate::shown::shown_objects;
 use sqz_answers::retained_histogram;
 use sqz_dominators::dominators_of;
 use sqz_image::Sink;
 use sqz_look_page::PAGE;
-use sqz_look_view::{Categories, Inspector, Out, PrintError, organizer_of};
+use sqz_look_view::{Categories, Inspector, Out, PrintError};
 use std::thread::Threads;
 
 /// What a page says about the file of an image.
@@ -23,9 +24,9 @@ pub struct FileNotes<'a> {
     pub skipped: Option<&'a str>,
 }
 
-/// Prints a page that shows an image: its file, its classes, and each live object that retains at
-/// least `min` bytes, once, by address. What it retains and the classes are those of all live
-/// objects. Fails with `WriteFailed` if the sink does, and with `OutOfMemory`.
+/// Prints a page that shows an image: its file, its classes, and each live object, or each that
+/// retains at least `min` bytes, once, by address. What it retains and the classes are those of all
+/// live objects. Fails with `WriteFailed` if the sink does, and with `OutOfMemory`.
 ///
 /// After the page come blocks of data. Each is a script element of the type `application/json`, in
 /// which no text has a `<`, and its class says what its lines are. Each line is a JSON value:
@@ -33,16 +34,17 @@ pub struct FileNotes<'a> {
 /// - `image`: one line, an object. Texts that are not there are 0, as everywhere. Besides `min` it
 ///   has how many live objects are left out, and their bytes.
 /// - `classes`: an array for each class of a live object, those that retain most first: the place
-///   of the class, or -1 minus the compact class index if the class is unknown; its name and
-///   category; how many objects it has, their bytes, and the bytes that they retain; and the array
-///   of the names of its instance variables.
+///   of the class, or if the class is unknown, the compact class index subtracted from -1; its name
+///   and category; how many objects it has, their bytes, and the bytes that they retain; and the
+///   array of the names of its instance variables.
 /// - `objects`: an array for each object that is not left out, by address: its place; its bytes,
 ///   and the bytes that it retains; the place of its immediate dominator, or -1; its class, as
 ///   above; its identity hash times 2048, its header words times 512, its compact class index times
 ///   16 and its format, added up; its label, if it is more than the class and the address; the value
-///   of a number or a character; the bytes of a byte object as text; and then its traced fields. A
-///   method has in place of the text an array: its bytecodes in hexadecimal digits, and the place of
-///   its class, or -1 if its class is unknown.
+///   of a number or a character as text, or of a collection one more than the number of its
+///   elements; the bytes of a byte object as text; and then its traced fields. A method has in place
+///   of the text an array: its bytecodes in hexadecimal digits, and the place of its class, or -1 if
+///   its class is unknown.
 /// - `end`: one line, the array of the number of these objects. A page without it was cut.
 ///
 /// A place is the number of a data word, so the address is that of the first one and four times the
@@ -53,30 +55,31 @@ pub fn print_explore<C: Sink>(
     rt: &(impl Threads + Sync),
     inspector: &Inspector<'_>,
     notes: FileNotes<'_>,
-    min: u64,
+    min: Option<u32>,
     out: &mut Out<'_, C>,
 ) -> Result<(), PrintError> {
     let (alloc, live) = (inspector.alloc, &inspector.live);
     let dominators = dominators_of(alloc, live.graph)?;
-    let shown = shown_objects(alloc, live, &dominators, min)?;
+    let least = min.map_or(0, u64::from);
+    let shown = shown_objects(alloc, live, &dominators, least)?;
     let histogram = retained_histogram(rt, alloc, live)?;
-    let organizer = organizer_of(inspector)?;
-    let categories = Categories::of(inspector, organizer)?;
-    let mut page = PageOut::new(alloc, out);
+    let counters = Counters::of(inspector, &histogram.rows)?;
+    let measures = Measures {
+        dominators,
+        counters,
+    };
+    let categories = Categories::of_classes(alloc, &inspector.names)?;
+    let mut page = PageOut::new(alloc);
     page.plain(PAGE);
-    add_head(inspector, &notes, min, &shown, &mut page);
-    add_classes(
-        inspector,
-        organizer,
-        &categories,
-        &histogram.rows,
-        &mut page,
-    );
-    add_objects(inspector, &dominators, &shown, &mut page);
+    add_head(inspector, &notes, least, &shown, &mut page);
+    page.end_line('}', out);
+    page.end_block();
+    add_classes(inspector, &categories, &histogram.rows, &mut page, out);
+    add_objects(inspector, &measures, &shown, &mut page, out);
     page.begin("end");
     page.open('[');
     page.size(shown.len() as u64);
-    page.end_line(']');
+    page.end_line(']', out);
     page.end_block();
-    page.end()
+    page.end(out)
 }

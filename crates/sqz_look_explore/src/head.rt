@@ -1,27 +1,27 @@
 //! The line of the file.
 
-ghost use Rattle.std.specs.Prelude.{◌<◌, All};
-ghost use Rattle.sqz_image.specs.Objects.{object_count};
+ghost use Rattle.std.specs.Prelude.{All};
+ghost use Rattle.sqz_look_view.specs.Inspectors.{IsObjectOf};
 
 use crate::explore::FileNotes;
 use crate::page_out::PageOut;
 use crate::places::place_of;
 use sqz_facts::{FileFacts, file_facts};
-use sqz_image::{Sink, Slot};
+use sqz_image::Slot;
 use sqz_look_view::{Hex, Inspector, SlotNames};
 use sqz_object::{ObjectIndex, Order};
 use sqz_trace::Weak;
 
 /// Adds the line of the file of an image, whose page shows these objects: those that retain at
 /// least `least` bytes.
-pub(crate) fn add_head<C: Sink>(
+pub(crate) fn add_head(
     inspector: &Inspector<'_>,
     notes: &FileNotes<'_>,
     least: u64,
     shown: &[ObjectIndex],
-    page: &mut PageOut<'_, '_, C>,
+    page: &mut PageOut,
 )
-    requires { All (λ object. object < object_count inspector.now.live.graph.heap.now) shown.now }
+    requires { All (λ object. IsObjectOf inspector.now object) shown.now }
 {
     let facts = file_facts(inspector.image, &inspector.live.marks);
     page.begin("image");
@@ -52,12 +52,10 @@ pub(crate) fn add_head<C: Sink>(
     add_note(notes.skipped, page);
     page.name("special_names");
     add_special_names(inspector, page);
-    page.end_line('}');
-    page.end_block();
 }
 
 /// Adds how many objects and bytes a file has.
-fn add_sums<C: Sink>(facts: FileFacts, page: &mut PageOut<'_, '_, C>) {
+fn add_sums(facts: FileFacts, page: &mut PageOut) {
     page.name("data_bytes");
     page.size(facts.data_bytes);
     page.name("objects");
@@ -76,7 +74,7 @@ fn add_sums<C: Sink>(facts: FileFacts, page: &mut PageOut<'_, '_, C>) {
 
 /// Returns the bytes of objects.
 fn bytes_of(inspector: &Inspector<'_>, objects: &[ObjectIndex]) -> u64
-    requires { All (λ object. object < object_count inspector.now.live.graph.heap.now)
+    requires { All (λ object. IsObjectOf inspector.now object)
         objects.now }
 {
     let mut bytes = 0u64;
@@ -87,7 +85,7 @@ fn bytes_of(inspector: &Inspector<'_>, objects: &[ObjectIndex]) -> u64
 }
 
 /// Adds a text, if there is one.
-fn add_note<C: Sink>(note: Option<&str>, page: &mut PageOut<'_, '_, C>) {
+fn add_note(note: Option<&str>, page: &mut PageOut) {
     match note {
         Some(note) => page.text(note),
         None => page.nothing(),
@@ -95,7 +93,7 @@ fn add_note<C: Sink>(note: Option<&str>, page: &mut PageOut<'_, '_, C>) {
 }
 
 /// Adds the names of the fields of the special objects array.
-fn add_special_names<C: Sink>(inspector: &Inspector<'_>, page: &mut PageOut<'_, '_, C>) {
+fn add_special_names(inspector: &Inspector<'_>, page: &mut PageOut) {
     let heap = inspector.live.graph.heap;
     page.open('[');
     match SlotNames::of(inspector, heap.special()) {

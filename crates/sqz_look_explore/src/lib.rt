@@ -3,6 +3,7 @@
 #![tactic(auto)]
 
 mod classes;
+mod counters;
 mod explore;
 mod head;
 mod objects;

@@ -9,11 +9,10 @@ use std::fmt::Write;
 /// what it has after each block.
 const PIECE: usize = 65536;
 
-/// Prints the data of a page, in lines of JSON. It remembers its first error, so what prints has no
-/// error of its own.
+/// The data of a page, in lines of JSON. It remembers its first error, so what prints has no error
+/// of its own.
 #[derive(Drop)]
-pub(crate) struct PageOut<'a, 'b, C> {
-    out: &'a mut Out<'b, C>,
+pub(crate) struct PageOut {
     /// What was printed and is not yet written.
     text: String,
     /// The kind of the lines.
@@ -26,11 +25,10 @@ pub(crate) struct PageOut<'a, 'b, C> {
     failed: Option<PrintError>,
 }
 
-impl<'a, 'b, C: Sink> PageOut<'a, 'b, C> {
+impl PageOut {
     /// Returns an output of a page to which nothing was printed.
-    pub(crate) fn new(alloc: Global, out: &'a mut Out<'b, C>) -> Self {
+    pub(crate) fn new(alloc: Global) -> Self {
         PageOut {
-            out,
             text: String::new(alloc),
             kind: "",
             has_block: false,
@@ -69,13 +67,13 @@ impl<'a, 'b, C: Sink> PageOut<'a, 'b, C> {
     }
 
     /// Ends a line. If there is much text, its block ends, too, and the text is written.
-    pub(crate) fn end_line(&mut self, bracket: char) {
+    pub(crate) fn end_line<C: Sink>(&mut self, bracket: char, out: &mut Out<'_, C>) {
         self.letter(bracket);
         self.letter('\n');
         self.has_cell = false;
         if self.text.len() >= PIECE {
             self.end_block();
-            self.write();
+            self.write(out);
         }
     }
 
@@ -166,8 +164,8 @@ impl<'a, 'b, C: Sink> PageOut<'a, 'b, C> {
     }
 
     /// Writes the text, and returns the first error, if any.
-    pub(crate) fn end(&mut self) -> Result<(), PrintError> {
-        self.write();
+    pub(crate) fn end<C: Sink>(&mut self, out: &mut Out<'_, C>) -> Result<(), PrintError> {
+        self.write(out);
         match self.failed {
             Some(error) => Err(error),
             None => Ok(()),
@@ -225,9 +223,9 @@ impl<'a, 'b, C: Sink> PageOut<'a, 'b, C> {
     }
 
     /// Writes the text, unless there was an error.
-    fn write(&mut self) {
+    fn write<C: Sink>(&mut self, out: &mut Out<'_, C>) {
         if self.failed.is_none()
-            && let Err(error) = self.out.bytes(self.text.as_bytes())
+            && let Err(error) = out.bytes(self.text.as_bytes())
         {
             self.failed = Some(error);
         }

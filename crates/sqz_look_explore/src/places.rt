@@ -1,14 +1,13 @@
 //! Where objects lie in an image.
 
-ghost use Rattle.std.specs.Prelude.{◌<◌};
-ghost use Rattle.sqz_image.specs.Objects.{object_count};
+ghost use Rattle.sqz_look_view.specs.Inspectors.{IsObjectOf};
 
 use sqz_look_view::Inspector;
 use sqz_object::ObjectIndex;
 
 /// Returns the place of an object: the number of the data word that its address is that of.
 pub(crate) fn place_of(inspector: &Inspector<'_>, object: ObjectIndex) -> i64
-    requires { object < object_count inspector.now.live.graph.heap.now }
+    requires { IsObjectOf inspector.now object }
 {
     i64::from(offset_of(inspector, inspector.live.graph.heap.address(object)) / 4)
 }

@@ -10,7 +10,7 @@ use crate::loading::bytes_of;
 use crate::messages::print_message;
 use crate::session::Session;
 use sqz_image::{Sink, write_all};
-use sqz_look_check::{RepairedView, SkippedView, Unreadable};
+use sqz_look_check::{Unreadable, repaired_text, skipped_text};
 use sqz_mend::{MendedFile, RecoverError, mend_file};
 use sqz_repair::repair;
 use std::io::Read;
@@ -36,8 +36,8 @@ pub fn mend<T: Files + Threads + Sync, C: Sink, E: Sink>(
 {
     let mended = mended_at(session, path)?;
     if !mended.damage.is_none() {
-        let view = SkippedView::of(session.alloc, path, &mended.header, &mended.damage)?;
-        print_message(Some(path), view.to_string(session.alloc)?.as_str(), err);
+        let text = skipped_text(session.alloc, &mended.header, &mended.damage)?;
+        print_message(Some(path), text.as_str(), err);
     }
     let bytes = bytes_asked(session, path, mended, nil, err)?;
     match write_all(out, &bytes) {
@@ -85,8 +85,8 @@ fn bytes_asked<T: Threads + Sync, E: Sink>(
     match repair(session.rt, alloc, mended.bytes, session.weak) {
         Ok(repaired) => {
             if !repaired.patches.is_empty() {
-                let view = RepairedView::of(&mended.header, &repaired);
-                print_message(Some(path), view.to_string(alloc)?.as_str(), err);
+                let text = repaired_text(alloc, &mended.header, &repaired)?;
+                print_message(Some(path), text.as_str(), err);
             }
             Ok(repaired.bytes)
         }

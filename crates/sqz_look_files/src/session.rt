@@ -8,7 +8,7 @@ use crate::failure::Failure;
 use crate::loading::{Loaded, LoadedFile, LoadedPast, load, load_past_damage};
 use crate::messages::print_message;
 use sqz_image::{Image, Sink};
-use sqz_look_check::{SkippedView, Unreadable};
+use sqz_look_check::{Unreadable, print_skipped, skipped_text};
 use sqz_look_view::{Out, Subject};
 use sqz_mend::Recovered;
 use sqz_trace::Weak;
@@ -65,10 +65,10 @@ impl<T> Session<'_, T> {
     ) -> Result<String, Failure>
         ensures { IfErr result IsReadFailure }
     {
-        let view = SkippedView::of(self.alloc, path, &recovered.header, &recovered.damage)?;
-        let text = view.to_string(self.alloc)?;
+        let (header, damage) = (&recovered.header, &recovered.damage);
+        let text = skipped_text(self.alloc, header, damage)?;
         print_message(Some(path), text.as_str(), err);
-        out.data(&view)?;
+        print_skipped(path, header, damage, out)?;
         Ok(text)
     }
 }

@@ -23,18 +23,20 @@ pub const PAGE: &str = r##"<!doctype html>
      how many they are and how many bytes they have. Classes are those of all live objects.
 
      Nothing is 0. A place is the number of a data word: the address is that of the base and four
-     times the place. A class is its place, or -1 minus the compact class index if the class is
-     unknown; the dominator of the special objects array is -1. A header is hash * 2048 + header
-     words * 512 + compact class index * 16 + format. A field is an odd number, a SmallInteger times
-     two plus one; or an even one, a place times two; an array of that if it is weak; or the digits
-     of a word that leads to no object. Only traced fields are listed. A method has as its text an
-     array of the digits of its bytecodes and its class, which is -1 if it is unknown.
+     times the place. A class is its place, or if the class is unknown, the compact class index
+     subtracted from -1; the dominator of the special objects array is -1. A header is hash * 2048 +
+     header words * 512 + compact class index * 16 + format. A value is that of a number or a
+     character, or one more than the number of the elements of a collection. A field is an odd
+     number, twice a SmallInteger plus one; or an even one, twice a place; an array of such a number
+     if it is weak; or the digits of a word that leads to no object. Only traced fields are listed.
+     The text of a method is an array: the digits of its bytecodes and its class, or -1 if that is
+     unknown.
 
      Whatever an image holds goes into the page as text, never as markup. The policy below allows
      this script and this style alone; `bench/embed_page.py` writes their hashes. -->
 <html lang="en">
 <meta charset="utf-8">
-<meta http-equiv="Content-Security-Policy" content="default-src 'none'; script-src 'sha256-kOhl7VqJsGDnn7jkKTD1Yh/juFtT/tVKRBVzNnw3zjk='; style-src 'sha256-/6Bftxg8H9DUth6S6gj580ZHsEOAI+VOjPm9wApGmBI='; base-uri 'none'; form-action 'none'">
+<meta http-equiv="Content-Security-Policy" content="default-src 'none'; script-src 'sha256-s4g1OXjRL78dmY9gaQsz3WM7yI36YE3U58rydq+btY4='; style-src 'sha256-/6Bftxg8H9DUth6S6gj580ZHsEOAI+VOjPm9wApGmBI='; base-uri 'none'; form-action 'none'">
 <meta name="viewport" content="width=device-width, initial-scale=1">
 <meta name="color-scheme" content="light dark">
 <title>Squeak image</title>
@@ -181,7 +183,7 @@ const image = {
   place: new Numbers(Int32Array), bytes: new Numbers(Float64Array),
   retained: new Numbers(Float64Array), above: new Numbers(Int32Array),
   kind: new Numbers(Int32Array), header: new Numbers(Int32Array),
-  labels: [], values: [], texts: [],
+  labels: [], values: [], elements: [], texts: [],
   // The bytecodes and the class of a method, by its row.
   codes: new Map(),
   // The fields of object K begin at `first[K]`.
@@ -206,7 +208,8 @@ function addObject(cells) {
   image.kind.push(cells[4]);
   image.header.push(cells[5]);
   image.labels.push(cells[6] || null);
-  image.values.push(cells[7] === 0 ? null : cells[7]);
+  image.values.push(typeof cells[7] === "string" ? cells[7] : null);
+  image.elements.push(typeof cells[7] === "number" && cells[7] > 0 ? cells[7] - 1 : null);
   image.texts.push(typeof text === "string" ? text : null);
   if (Array.isArray(text)) image.codes.set(row, text);
   image.first.push(fields.length);
@@ -249,38 +252,11 @@ function rowAtAddress(address) {
   return Number.isInteger(place) && place >= 0 ? rowOf(place) : -1;
 }
 
-/** Returns the SmallInteger in a field of an object, or null. */
-function integerIn(row, field) {
-  const at = image.first.all[row] + field;
-  if (at >= fieldsEnd(row) || image.bad.has(at) || !isInteger(image.fields.all[at])) return null;
-  return (image.fields.all[at] - 1) / 2;
-}
-
-/** Returns how many elements a collection states that keeps them in `array`, or null. */
-function statedCount(row, names) {
-  if (!names?.includes("array")) return null;
-  const [tally, first, last] = ["tally", "firstIndex", "lastIndex"]
-    .map((it) => names.indexOf(it)).map((field) => (field < 0 ? null : integerIn(row, field)));
-  const number = names.includes("tally") ? tally
-    : first === null || last === null ? null : last - first + 1;
-  return number !== null && number >= 0 ? number : null;
-}
-
-/** Returns how many elements an object has, as `list` counts them, or null. */
-function elementsOf(row) {
-  const { format, words } = headerOf(row), names = classOf(row)?.variables;
-  if (format > 4) return null;
-  const stated = statedCount(row, names), fields = image.bytes.all[row] / 4 - words;
-  if (stated !== null || format < 2) return stated;
-  return format === 2 ? fields : names && fields >= names.length ? fields - names.length : null;
-}
-
 /** Returns what an object is in a few words, next to its class. */
 function previewOf(row) {
   if (image.values[row] !== null) return image.values[row];
   if (image.labels[row] !== null) return image.labels[row];
-  const elements = elementsOf(row);
-  if (elements !== null) return counted(elements, "element");
+  if (image.elements[row] !== null) return counted(image.elements[row], "element");
   const { format, words } = headerOf(row), size = image.bytes.all[row] / 4 - words;
   return format < 5 ? counted(size, "field") : counted(4 * size, "byte");
 }
@@ -1083,8 +1059,9 @@ function literalOf(row, index) {
 /** Returns what the header of a method says. */
 function headerText(header) {
   const primitive = ((header >>> 1) & 511) + 512 * ((header >>> 29) & 1);
-  return `${counted((header >>> 25) & 15, "argument")}, ${(header >>> 19) & 63} temporaries with `
-    + `them${primitive ? `, primitive ${primitive}` : ""}`
+  const temporaries = (header >>> 19) & 63, word = temporaries === 1 ? "temporary" : "temporaries";
+  return `${temporaries} ${word}, ${(header >>> 25) & 15} of them arguments, `
+    + `${counted((header >>> 10) & 255, "literal")}, primitive ${primitive}`
     + `${(header >>> 18) & 1 ? ", large frame" : ""}`;
 }
 

@@ -1,8 +1,8 @@
-//! Paths to objects: the row of a step, and a whole path as one line.
+//! Paths to objects: the row of a step, and a path in a row about something else.
 #![tactic(auto)]
 
-mod path_line;
-mod step_view;
+mod path_cells;
+mod step_rows;
 
-pub use path_line::PathLine;
-pub use step_view::StepView;
+pub use path_cells::add_path;
+pub use step_rows::{add_first, add_step};

@@ -3,44 +3,11 @@
 use crate::rows::Row;
 use sqz_image::Sink;
 use sqz_look_view::{Out, PrintError};
-use std::alloc::Global;
-use std::fmt;
-
-/// A line of folded stacks: labels joined by `;`, a space, and a number of bytes.
-#[derive(Clone, Copy)]
-struct Stack<'a> {
-    labels: &'a [&'a str],
-    bytes: u64,
-}
-
-impl fmt::Display for Stack<'_> {
-    fn fmt<W: fmt::Write>(&self, f: &mut fmt::Formatter<W>) -> fmt::Result {
-        for (index, label) in self.labels.iter().enumerate() {
-            if index > 0 {
-                f.write_str(";")?;
-            }
-            write_frame(f, label)?;
-        }
-        let bytes = self.bytes;
-        write!(f, " {bytes}")
-    }
-}
-
-/// Writes a label. What would end it becomes `,` or a space.
-fn write_frame<W: fmt::Write>(f: &mut fmt::Formatter<W>, label: &str) -> fmt::Result {
-    for character in label.chars() {
-        f.write_char(match character {
-            ';' => ',',
-            character if character.is_control() => ' ',
-            character => character,
-        })?;
-    }
-    Ok(())
-}
+use std::alloc::{AllocError, Global};
 
 /// Prints a line for each row with bytes that no row below it retains: the labels from the first
-/// row to it, and the number of these bytes. The numbers add up to what the first row
-/// retains.
+/// row to it, joined by `;`, and the number of these bytes. The numbers add up to what the first
+/// row retains.
 pub(crate) fn print_folded<C: Sink>(
     alloc: Global,
     rows: &[Row],
@@ -51,11 +18,34 @@ pub(crate) fn print_folded<C: Sink>(
         path.truncate(row.depth);
         path.push(row.label.as_str())?;
         if row.apart > 0 {
-            out.text(&Stack {
-                labels: &path,
-                bytes: row.apart,
-            })?;
+            out.text("stack", stack_of(alloc, &path));
+            out.number("bytes", row.apart);
+            out.line("{stack} {bytes}");
         }
+    }
+    out.end()
+}
+
+/// Returns labels joined by `;`.
+fn stack_of(alloc: Global, labels: &[&str]) -> Result<String, AllocError> {
+    let mut stack = String::new(alloc);
+    for label in labels {
+        if !stack.is_empty() {
+            stack.push(';')?;
+        }
+        push_frame(&mut stack, label)?;
+    }
+    Ok(stack)
+}
+
+/// Adds a label to a stack. What would end it becomes `,` or a space.
+fn push_frame(stack: &mut String, label: &str) -> Result<(), AllocError> {
+    for character in label.chars() {
+        stack.push(match character {
+            ';' => ',',
+            character if character.is_control() => ' ',
+            character => character,
+        })?;
     }
     Ok(())
 }

@@ -3,11 +3,7 @@
 #![tactic(auto)]
 
 mod folded;
-mod group_rows;
-mod grouped;
-mod grouping;
 mod options;
-mod row_view;
 mod rows;
 mod share;
 mod smaller;

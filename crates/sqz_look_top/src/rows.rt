@@ -1,13 +1,14 @@
 //! Rows with their labels.
 
-ghost use Rattle.std.specs.Prelude.{◌≡◌, ◌<◌, All, length};
+ghost use Rattle.std.specs.Prelude.{◌≡◌, All, length};
 ghost use Rattle.sqz_image.specs.Objects.{object_count};
 ghost use Rattle.sqz_answers.specs.GroupCounts.{AreCountsWithin};
 ghost use Rattle.sqz_answers.specs.TopRows.{IsRowInside};
+ghost use Rattle.sqz_look_view.specs.Inspectors.{IsObjectOf};
 
 use crate::smaller::smaller_label;
 use sqz_answers::{GroupCount, TopObjects, TopRow, TopRows};
-use sqz_look_view::{Hex, Inspector};
+use sqz_look_view::Inspector;
 use sqz_names::Label;
 use sqz_object::ObjectIndex;
 use std::alloc::{AllocError, Global};
@@ -18,13 +19,13 @@ use std::collections::BTreeSet;
 pub(crate) struct Row {
     pub(crate) label: String,
     /// The address of its object.
-    pub(crate) address: Option<Hex>,
+    pub(crate) address: Option<u32>,
     /// The name of its object's class.
     pub(crate) class: Option<String>,
     /// The number of rows above it.
     pub(crate) depth: usize,
     /// The address of the object of the row above it.
-    pub(crate) parent: Option<Hex>,
+    pub(crate) parent: Option<u32>,
     /// The bytes of the objects that the row itself stands for.
     pub(crate) own: u64,
     /// The bytes that no row below it retains.
@@ -65,12 +66,12 @@ impl Row {
         let (address, class) = match row.what {
             TopObjects::One { object, .. } => {
                 let class = inspector.names.name_of_class_of(object)?;
-                (Some(inspector.address(object)), Some(class))
+                (Some(inspector.address(object).0), Some(class))
             }
             TopObjects::Smaller { .. } => (None, None),
         };
         let parent = match row.parent {
-            Some(parent) => Some(inspector.address(parent)),
+            Some(parent) => Some(inspector.address(parent).0),
             None => None,
         };
         Ok(Row {
@@ -110,7 +111,7 @@ fn label_below(
     above: Option<TopRow>,
     object: ObjectIndex,
 ) -> Result<String, AllocError>
-    requires { object < object_count inspector.now.live.graph.heap.now }
+    requires { IsObjectOf inspector.now object }
 {
     if let Label::ClassVariable { class, key } = inspector.names.label_of(object)? {
         if stands_for(above, class) {
@@ -140,7 +141,7 @@ fn make_distinct(inspector: &Inspector<'_>, rows: &mut [Row]) -> Result<(), Allo
 
 /// What rows below one row that read the same have in common: the address of that row, and their
 /// label.
-type Keys = BTreeSet<(u32, String)>;
+type Keys = BTreeSet<(Option<u32>, String)>;
 
 /// Returns the keys that several rows have.
 fn repeated_keys(alloc: Global, rows: &[Row]) -> Result<Keys, AllocError> {
@@ -164,13 +165,12 @@ fn add_address(alloc: Global, repeated: &Keys, row: &mut Row) -> Result<(), Allo
     if let Some(address) = row.address
         && repeated.contains(&key_of(row)?)
     {
-        row.label = format!(in alloc; "{} {address}", row.label)?;
+        row.label = format!(in alloc; "{} {address:08x}", row.label)?;
     }
     Ok(())
 }
 
 /// Returns what rows below one row that read the same have in common.
-fn key_of(row: &Row) -> Result<(u32, String), AllocError> {
-    let parent = row.parent.map_or(0, |parent| parent.0);
-    Ok((parent, row.label.clone()?))
+fn key_of(row: &Row) -> Result<(Option<u32>, String), AllocError> {
+    Ok((row.parent, row.label.clone()?))
 }

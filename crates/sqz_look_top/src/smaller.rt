@@ -5,38 +5,31 @@ ghost use Rattle.sqz_image.specs.Objects.{object_count};
 ghost use Rattle.sqz_histogram.specs.Groups.{IsInside};
 ghost use Rattle.sqz_answers.specs.GroupCounts.{AreCountsWithin};
 
-use serde::Serialize;
 use sqz_answers::{GroupCount, objects_after};
 use sqz_histogram::Group;
-use sqz_look_view::{Counted, Inspector};
+use sqz_image::Sink;
+use sqz_look_view::{Counted, Inspector, Out};
 use std::alloc::AllocError;
 
 /// The maximum number of groups in a label.
 const MOST_NAMED: usize = 2;
 
-/// A class, and its number of objects among some.
-#[derive(Drop, Serialize)]
-pub(crate) struct GroupView {
-    class: String,
-    objects: u32,
-}
-
-/// Returns the classes of smaller objects, in the order of their groups.
-pub(crate) fn group_views(
+/// Adds the classes of smaller objects, in the order of their groups, each with its number of
+/// objects.
+pub(crate) fn add_groups<C: Sink>(
     inspector: &Inspector<'_>,
     groups: &[GroupCount],
-) -> Result<Vec<GroupView>, AllocError>
-    requires { All (λ count.
-        IsInside (object_count inspector.now.live.graph.heap.now) count.group) groups.now }
+    out: &mut Out<'_, C>,
+)
+    requires { AreCountsWithin (object_count inspector.now.live.graph.heap.now) groups.now }
 {
-    let mut views = Vec::with_capacity(inspector.alloc, groups.len())?;
+    out.begin_list("smaller");
     for count in groups {
-        views.push(GroupView {
-            class: name_of_group(inspector, count.group)?,
-            objects: count.objects,
-        })?;
+        out.text("class", name_of_group(inspector, count.group));
+        out.number("objects", u64::from(count.objects));
+        out.end_row();
     }
-    Ok(views)
+    out.end_list();
 }
 
 /// Returns the label of smaller objects: their number, the classes that have most of them, and the
@@ -52,8 +45,9 @@ pub(crate) fn smaller_label(
     let (named, _) = groups.split_at(groups.len().min(MOST_NAMED));
     let mut label = format!(in alloc; "{count} smaller")?;
     let mut mark = ": ";
-    for view in &group_views(inspector, named)? {
-        label = format!(in alloc; "{label}{mark}{} {}", view.objects, view.class)?;
+    for count in named {
+        let class = name_of_group(inspector, count.group)?;
+        label = format!(in alloc; "{label}{mark}{} {class}", count.objects)?;
         mark = ", ";
     }
     match objects_after(groups, MOST_NAMED) {

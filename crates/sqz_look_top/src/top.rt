@@ -6,11 +6,10 @@ ghost use Rattle.sqz_answers.specs.GroupCounts.{AreCountsWithin};
 ghost use Rattle.sqz_trace.specs.Graph.{is_marked};
 
 use crate::folded::print_folded;
-use crate::grouped::print_grouped;
 use crate::options::limits_of;
-use crate::row_view::RowView;
 use crate::rows::{Row, labelled};
-use crate::smaller::group_views;
+use crate::share::share_text;
+use crate::smaller::add_groups;
 use crate::variables::variables_of;
 use sqz_answers::{GroupCount, top_rows};
 use sqz_dominators::dominators_of;
@@ -18,7 +17,6 @@ use sqz_image::Sink;
 use sqz_look_args::{TopForm, TopOptions};
 use sqz_look_view::{Inspector, Out, PrintError};
 use sqz_object::ObjectIndex;
-use std::alloc::Global;
 
 /// Prints the dominator tree from a live object, the objects that retain most first. The
 /// association of a variable and its value are one row, and the dictionaries and arrays that only
@@ -31,9 +29,6 @@ pub fn print_top<C: Sink>(
 ) -> Result<(), PrintError>
     requires { is_marked inspector.now.live.marks root ≡ true }
 {
-    if let Some(by) = options.by {
-        return print_grouped(inspector, root, options, by, out);
-    }
     let (alloc, live) = (inspector.alloc, &inspector.live);
     let dominators = dominators_of(alloc, live.graph)?;
     let bytes = dominators.retained(root).bytes;
@@ -59,14 +54,46 @@ fn print_rows<C: Sink>(
         AreCountsWithin (object_count inspector.now.live.graph.heap.now) counts.items)
         groups.now }
 {
-    out.text(&"  retained      %   objects")?;
-    let alloc = inspector.alloc;
-    let mut path = Vec::new(alloc);
+    out.heading("  retained      %   objects");
+    let mut path = Vec::new(inspector.alloc);
     for (row, groups) in rows.iter().zip(groups) {
         path.truncate(row.depth);
         path.push(row.label.as_str())?;
-        let classes = group_views(inspector, groups)?;
-        out.emit(&RowView::of(alloc, row, classes, &path, whole)?)?;
+        print_row(inspector, row, groups, &path, whole, out);
     }
-    Ok(())
+    out.end()
+}
+
+/// Prints a row, with the classes of its smaller objects, the labels from the first row to it, and
+/// its share of the first row's bytes. Each label is two spaces further to the right than that of
+/// the row above it.
+fn print_row<C: Sink>(
+    inspector: &Inspector<'_>,
+    row: &Row,
+    groups: &[GroupCount],
+    path: &[&str],
+    whole: u64,
+    out: &mut Out<'_, C>,
+)
+    requires { AreCountsWithin (object_count inspector.now.live.graph.heap.now) groups.now }
+{
+    out.hex_or_null("address", row.address);
+    out.word("label", row.label.as_str());
+    out.word_or_null("class", row.class.as_ref().map(|class| class.as_str()));
+    out.number("depth", row.depth as u64);
+    out.amount("bytes", row.own);
+    out.amount("retained", row.retained);
+    out.number("objects", row.objects);
+    if out.is_json() {
+        match row.address {
+            Some(_) => out.null("smaller"),
+            None => add_groups(inspector, groups, out),
+        }
+        out.hex_or_null("parent", row.parent);
+        out.words("path", path);
+    } else {
+        out.text("share", share_text(inspector.alloc, row.retained, whole));
+        out.indent("indent", row.depth);
+    }
+    out.line("{retained:>10} {share:>6} {objects:>9}   {indent}{label}");
 }

@@ -1,1 +1,2 @@
 pub mod Out
+pub mod Inspectors

@@ -1,10 +1,10 @@
 //! How many elements objects have.
 
-ghost use Rattle.std.specs.Prelude.{◌<◌};
-ghost use Rattle.sqz_image.specs.Objects.{object_count};
+ghost use Rattle.std.specs.Prelude.{All};
+ghost use Rattle.sqz_look_view.specs.Inspectors.{IsObjectOf};
 
+use crate::inspector::Inspector;
 use sqz_facts::object_facts;
-use sqz_look_view::Inspector;
 use sqz_names::formats::{FIXED_AND_INDEXED, FIXED_AND_WEAK, INDEXED};
 use sqz_object::{Layout, ObjectIndex, Value, value_of};
 use sqz_trace::fixed_by;
@@ -12,7 +12,7 @@ use std::alloc::AllocError;
 
 /// What the elements of the instances of a class are counted by.
 #[derive(Clone, Copy)]
-pub(crate) enum Counter {
+pub enum Counter {
     /// The field of the instance variable `tally`, as those of sets and dictionaries.
     Tally(usize),
     /// The fields of `firstIndex` and `lastIndex`, as those of ordered collections.
@@ -24,19 +24,31 @@ pub(crate) enum Counter {
 impl Counter {
     /// Returns what the elements of an object are counted by, and those of the other instances of
     /// its class.
-    pub(crate) fn of(inspector: &Inspector<'_>, object: ObjectIndex) -> Result<Self, AllocError>
-        requires { object < object_count inspector.now.live.graph.heap.now }
+    pub fn of(inspector: &Inspector<'_>, object: ObjectIndex) -> Result<Self, AllocError>
+        requires { IsObjectOf inspector.now object }
     {
         match inspector.live.graph.class_of(object) {
-            Some(class) => counter_in(inspector, class),
+            Some(class) => Counter::in_class(inspector, class),
+            None => Ok(Counter::Fields),
+        }
+    }
+
+    /// Returns what the elements of the instances of a class are counted by. Only a collection,
+    /// which keeps its elements in the instance variable `array`, states their number: other
+    /// classes use the names of its numbers for something else.
+    pub fn in_class(inspector: &Inspector<'_>, class: ObjectIndex) -> Result<Self, AllocError>
+        requires { IsObjectOf inspector.now class }
+    {
+        match inspector.names.instance_variables(class)? {
+            Some(variables) => Ok(counter_by(&names_of(inspector, &variables)?)),
             None => Ok(Counter::Fields),
         }
     }
 
     /// Returns the number of elements of an object: what it states, or that of its indexed fields.
     /// None if it has no elements.
-    pub(crate) fn count(self, inspector: &Inspector<'_>, object: ObjectIndex) -> Option<u32>
-        requires { object < object_count inspector.now.live.graph.heap.now }
+    pub fn count(self, inspector: &Inspector<'_>, object: ObjectIndex) -> Option<u32>
+        requires { IsObjectOf inspector.now object }
     {
         match stated_count(inspector, object, self) {
             Some(count) => Some(count),
@@ -45,34 +57,30 @@ impl Counter {
     }
 }
 
-/// Returns what the elements of the instances of a class are counted by. Only a collection, which
-/// keeps its elements in the instance variable `array`, states their number: other classes use the
-/// names of its numbers for something else.
-fn counter_in(inspector: &Inspector<'_>, class: ObjectIndex) -> Result<Counter, AllocError>
-    requires { class < object_count inspector.now.live.graph.heap.now }
+/// Returns the names of instance variables.
+fn names_of(inspector: &Inspector<'_>, variables: &[ObjectIndex]) -> Result<Vec<String>, AllocError>
+    requires { All (λ variable. IsObjectOf inspector.now variable)
+        variables.now }
 {
-    let Some(variables) = inspector.names.instance_variables(class)? else {
-        return Ok(Counter::Fields);
-    };
     let mut names = Vec::new(inspector.alloc);
-    for variable in &variables {
+    for variable in variables {
         names.push(inspector.names.text(*variable)?)?;
     }
-    if place_of(&names, "array").is_none() {
-        return Ok(Counter::Fields);
+    Ok(names)
+}
+
+/// Returns what the elements of objects with these instance variables are counted by.
+fn counter_by(names: &[String]) -> Counter {
+    if place_of(names, "array").is_none() {
+        return Counter::Fields;
     }
-    if let Some(field) = place_of(&names, "tally") {
-        return Ok(Counter::Tally(field));
+    if let Some(field) = place_of(names, "tally") {
+        return Counter::Tally(field);
     }
-    Ok(
-        match (
-            place_of(&names, "firstIndex"),
-            place_of(&names, "lastIndex"),
-        ) {
-            (Some(first), Some(last)) => Counter::Ends { first, last },
-            _ => Counter::Fields,
-        },
-    )
+    match (place_of(names, "firstIndex"), place_of(names, "lastIndex")) {
+        (Some(first), Some(last)) => Counter::Ends { first, last },
+        _ => Counter::Fields,
+    }
 }
 
 /// Returns the place of the first name that reads so.
@@ -82,7 +90,7 @@ fn place_of(names: &[String], name: &str) -> Option<usize> {
 
 /// Returns the number of elements that an object states. None if it states none.
 fn stated_count(inspector: &Inspector<'_>, object: ObjectIndex, counter: Counter) -> Option<u32>
-    requires { object < object_count inspector.now.live.graph.heap.now }
+    requires { IsObjectOf inspector.now object }
 {
     match inspector.live.graph.heap.object(object).layout() {
         Layout::Fields | Layout::Weak | Layout::Context => {}
@@ -101,7 +109,7 @@ fn stated_count(inspector: &Inspector<'_>, object: ObjectIndex, counter: Counter
 
 /// Returns the SmallInteger in a field of an object. None if there is none.
 fn integer_in(inspector: &Inspector<'_>, object: ObjectIndex, field: usize) -> Option<i32>
-    requires { object < object_count inspector.now.live.graph.heap.now }
+    requires { IsObjectOf inspector.now object }
 {
     let object = inspector.live.graph.heap.object(object);
     match value_of(object.fields().get(field)?) {
@@ -112,7 +120,7 @@ fn integer_in(inspector: &Inspector<'_>, object: ObjectIndex, field: usize) -> O
 
 /// Returns the number of the indexed fields of an object. None if its format has none.
 fn indexed_fields(inspector: &Inspector<'_>, object: ObjectIndex) -> Option<u32>
-    requires { object < object_count inspector.now.live.graph.heap.now }
+    requires { IsObjectOf inspector.now object }
 {
     let graph = inspector.live.graph;
     let facts = object_facts(graph, object);

@@ -5,13 +5,11 @@ ghost use Rattle.sqz_image.specs.declared.fault.Fault.TheVariants as faults;
 ghost use Rattle.sqz_image.specs.Devices.{WritesWhole, WriteStops};
 ghost use Rattle.sqz_look_view.specs.Out.{format_of, is_cut, shown_rows, sink_of, unwritten};
 
-use crate::more::More;
+use crate::cell::Cell;
+use crate::json_row::JsonRow;
 use crate::print_error::PrintError;
-use serde::Serialize;
 use sqz_image::{Sink, write_all};
-use std::alloc::{AllocError, Global};
-use std::fmt;
-use std::fmt::{Display, Write};
+use std::alloc::Global;
 
 /// The maximum number of rows of a list in the text form, unless all are requested.
 const MOST_ROWS: u32 = 20;
@@ -32,10 +30,20 @@ pub enum Format {
 /// Prints answers to a sink, in one form.
 #[derive(Drop)]
 pub struct Out<'a, C> {
-    alloc: Global,
+    pub(crate) alloc: Global,
     sink: &'a mut C,
-    format: Format,
-    text: String,
+    pub(crate) format: Format,
+    pub(crate) text: String,
+    /// The row in the JSON form.
+    pub(crate) row: JsonRow,
+    /// The lines of the row in the text form.
+    pub(crate) lines: String,
+    /// The cells of the row in the text form.
+    pub(crate) cells: Vec<Cell>,
+    /// For each list that the row is in, the number of cells before it.
+    pub(crate) lists: Vec<usize>,
+    /// The first error.
+    pub(crate) failed: Option<PrintError>,
 }
 
 impl<'a, C: Sink> Out<'a, C> {
@@ -50,6 +58,11 @@ impl<'a, C: Sink> Out<'a, C> {
             sink,
             format,
             text,
+            row: JsonRow::new(alloc),
+            lines: String::new(alloc),
+            cells: Vec::new(alloc),
+            lists: Vec::new(alloc),
+            failed: None,
         }
     }
 
@@ -82,31 +95,6 @@ impl<'a, C: Sink> Out<'a, C> {
         matches!(self.format, Format::Text { all: false, .. })
     }
 
-    /// Prints a row: as text, or as a line of JSON. Fails with `WriteFailed` if the sink does, and
-    /// with `OutOfMemory`.
-    pub fn emit<V: Serialize + Display>(&mut self, view: &V) -> Result<(), PrintError> {
-        match self.format {
-            Format::Text { .. } => self.line(view),
-            Format::Json => self.json(view),
-        }
-    }
-
-    /// Prints what the text form alone has. Fails as `emit` does.
-    pub fn text<V: Display>(&mut self, view: &V) -> Result<(), PrintError> {
-        match self.format {
-            Format::Text { .. } => self.line(view),
-            Format::Json => Ok(()),
-        }
-    }
-
-    /// Prints what the JSON form alone has. Fails as `emit` does.
-    pub fn data<V: Serialize>(&mut self, view: &V) -> Result<(), PrintError> {
-        match self.format {
-            Format::Text { .. } => Ok(()),
-            Format::Json => self.json(view),
-        }
-    }
-
     /// Writes the buffered text to the sink, then these bytes, and then flushes the sink. Fails
     /// with `WriteFailed` if the sink does.
     pub fn bytes(&mut self, bytes: &[u8]) -> Result<(), PrintError>
@@ -118,14 +106,6 @@ impl<'a, C: Sink> Out<'a, C> {
             self.flush()?;
         }
         write_all(self.sink, bytes).map_err(|_| PrintError::WriteFailed)
-    }
-
-    /// Prints how many of `count` rows the text form leaves out, if any. Fails as `emit` does.
-    pub fn rest(&mut self, count: usize, what: &str) -> Result<(), PrintError> {
-        match count - self.shown(count) {
-            0 => Ok(()),
-            hidden => self.text(&More(hidden, what)),
-        }
     }
 
     /// Writes the buffered text to the sink, and then flushes the sink. Fails with `WriteFailed` if
@@ -153,25 +133,15 @@ impl<'a, C: Sink> Out<'a, C> {
         self.text
     }
 
-    /// Prints a row as text: in the alternate form, numbers of bytes are in KB and MB.
-    fn line<V: Display>(&mut self, view: &V) -> Result<(), PrintError> {
-        match self.format {
-            Format::Text { human: true, .. } => writeln!(self.text, "{view:#}")?,
-            Format::Text { human: false, .. } | Format::Json => writeln!(self.text, "{view}")?,
+    /// Writes the buffered text if there is much of it, and keeps the error if that fails.
+    pub(crate) fn end_line(&mut self) {
+        if let Err(error) = self.flush_piece() {
+            self.fail(error);
         }
-        self.end_line()
-    }
-
-    /// Prints a row as a line of JSON.
-    fn json<V: Serialize>(&mut self, view: &V) -> Result<(), PrintError> {
-        // JSON that is not made has no other reason than memory
-        let json = serde_json::to_string(self.alloc, view).map_err(|_| PrintError::OutOfMemory)?;
-        writeln!(self.text, "{json}")?;
-        self.end_line()
     }
 
     /// Writes the buffered text if there is much of it.
-    fn end_line(&mut self) -> Result<(), PrintError> {
+    fn flush_piece(&mut self) -> Result<(), PrintError> {
         if self.text.len() < PIECE {
             return Ok(());
         }

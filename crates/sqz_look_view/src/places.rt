@@ -2,6 +2,7 @@
 
 ghost use Rattle.std.specs.Prelude.{◌≡◌, ◌<◌, IfSome};
 ghost use Rattle.sqz_image.specs.Objects.{find, object_count};
+ghost use Rattle.sqz_look_view.specs.Inspectors.{IsObjectOf};
 
 use crate::inspector::Inspector;
 use sqz_image::{Heap, Slot};
@@ -19,8 +20,16 @@ pub fn object_at(heap: &Heap, address: Address) -> Option<ObjectIndex>
 /// Returns the object that a field of an object points to, given its number from 0. None if there
 /// is no such field, and if it points to no object.
 pub fn field_of(inspector: &Inspector<'_>, object: ObjectIndex, field: u32) -> Option<ObjectIndex>
-    requires { object < object_count inspector.now.live.graph.heap.now }
-    ensures { IfSome result (λ found. found < object_count inspector.now.live.graph.heap.now) }
+    requires { IsObjectOf inspector.now object }
+    ensures { IfSome result (λ found. IsObjectOf inspector.now found) }
 {
-    target(inspector.live.graph.heap, object, Slot::Field(field))
+    field_in(inspector.live.graph.heap, object, field)
+}
+
+/// Returns the object that a field of an object points to, as `field_of` does.
+pub(crate) fn field_in(heap: &Heap, object: ObjectIndex, field: u32) -> Option<ObjectIndex>
+    requires { object < object_count heap.now }
+    ensures { IfSome result (λ found. found < object_count heap.now) }
+{
+    target(heap, object, Slot::Field(field))
 }

@@ -1,11 +1,10 @@
 //! What the slots of an object are called.
 
-ghost use Rattle.std.specs.Prelude.{◌<◌, IfSome};
-ghost use Rattle.sqz_image.specs.Objects.{object_count};
+ghost use Rattle.std.specs.Prelude.{IfSome};
+ghost use Rattle.sqz_look_view.specs.Inspectors.{IsObjectOf};
 
 use crate::inspector::Inspector;
 use crate::special_names::special_name;
-use serde::Serialize;
 use sqz_code::MethodHeader;
 use sqz_facts::object_facts;
 use sqz_image::{Object, Slot};
@@ -13,23 +12,6 @@ use sqz_names::formats::{FIXED_AND_INDEXED, FIXED_AND_WEAK, INDEXED};
 use sqz_object::{Layout, ObjectIndex};
 use sqz_trace::fixed_by;
 use std::alloc::{AllocError, Global};
-
-/// A slot as JSON: `"class"`, or the number of a field.
-#[derive(Clone, Copy, Drop, Serialize)]
-#[serde(untagged)]
-pub enum SlotName {
-    Class(&'static str),
-    Field(u32),
-}
-
-impl From<Slot> for SlotName {
-    fn from(slot: Slot) -> SlotName {
-        match slot {
-            Slot::ClassWord => SlotName::Class("class"),
-            Slot::Field(index) => SlotName::Field(index),
-        }
-    }
-}
 
 /// The names of the slots of an object.
 #[derive(Drop)]
@@ -65,7 +47,7 @@ impl SlotNames {
 
     /// Returns the names of the slots of an object.
     pub fn of(inspector: &Inspector<'_>, object: ObjectIndex) -> Result<Self, AllocError>
-        requires { object < object_count inspector.now.live.graph.heap.now }
+        requires { IsObjectOf inspector.now object }
     {
         let mut names = SlotNames::none(inspector.alloc);
         names.set_object(inspector, object)?;
@@ -79,7 +61,7 @@ impl SlotNames {
         inspector: &Inspector<'_>,
         object: ObjectIndex,
     ) -> Result<(), AllocError>
-        requires { object < object_count inspector.now.live.graph.heap.now }
+        requires { IsObjectOf inspector.now object }
     {
         let graph = inspector.live.graph;
         let layout = graph.heap.object(object).layout();
@@ -179,7 +161,7 @@ fn variables_of(
     inspector: &Inspector<'_>,
     class: Option<ObjectIndex>,
 ) -> Result<Vec<String>, AllocError>
-    requires { IfSome class (λ class. class < object_count inspector.now.live.graph.heap.now) }
+    requires { IfSome class (λ class. IsObjectOf inspector.now class) }
 {
     let mut texts = Vec::new(inspector.alloc);
     let names = match class {

@@ -1,7 +1,6 @@
 //! The values of numbers and characters.
 
-ghost use Rattle.std.specs.Prelude.{◌<◌};
-ghost use Rattle.sqz_image.specs.Objects.{object_count};
+ghost use Rattle.sqz_look_view.specs.Inspectors.{IsObjectOf};
 
 use crate::inspector::Inspector;
 use sqz_histogram::first_bytes;
@@ -18,7 +17,7 @@ pub fn value_text(
     inspector: &Inspector<'_>,
     object: ObjectIndex,
 ) -> Result<Option<String>, AllocError>
-    requires { object < object_count inspector.now.live.graph.heap.now }
+    requires { IsObjectOf inspector.now object }
 {
     let class = inspector.names.name_of_class_of(object)?;
     let alloc = inspector.alloc;
@@ -42,7 +41,7 @@ pub fn value_text(
 
 /// Returns the number that the two words of a float are. The first word has the higher bits.
 fn float_of(inspector: &Inspector<'_>, object: ObjectIndex) -> Option<f64>
-    requires { object < object_count inspector.now.live.graph.heap.now }
+    requires { IsObjectOf inspector.now object }
 {
     let chunk = inspector.live.graph.heap.object(object);
     let fields = chunk.fields();
@@ -55,7 +54,7 @@ fn float_of(inspector: &Inspector<'_>, object: ObjectIndex) -> Option<f64>
 
 /// Returns the number that the bytes of a large integer are, lowest first. None if they are many.
 fn magnitude_of(inspector: &Inspector<'_>, object: ObjectIndex) -> Result<Option<u64>, AllocError>
-    requires { object < object_count inspector.now.live.graph.heap.now }
+    requires { IsObjectOf inspector.now object }
 {
     let heap = inspector.live.graph.heap;
     let chunk = heap.object(object);
@@ -77,7 +76,7 @@ fn character_text(
     inspector: &Inspector<'_>,
     object: ObjectIndex,
 ) -> Result<Option<String>, AllocError>
-    requires { object < object_count inspector.now.live.graph.heap.now }
+    requires { IsObjectOf inspector.now object }
 {
     let alloc = inspector.alloc;
     let chunk = inspector.live.graph.heap.object(object);

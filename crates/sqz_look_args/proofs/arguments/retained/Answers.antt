@@ -1,9 +1,12 @@
 use Rattle.std.proofs.Common.{codes}
 use Rattle.std.proofs.lemmas.Result.{IfOk-weaker}
-use Rattle.sqz_look_args.specs.CommandLine.{flag_option}
+use Rattle.sqz_look_args.specs.CommandLine.{exclusive_flag, flag_option}
 use Rattle.sqz_look_args.proofs.CommandLemmas.{HasRule-exclusive}
 use Rattle.sqz_look_args.proofs.arguments.retained.Goals as goal
 
 pub returns : goal.returns
-returns c = IfOk-weaker c.conflicts_with.result _ _
-    (λ made added. HasRule-exclusive c.flag.result made (flag_option (codes "retained")) _ added c.flag.ensures) c.conflicts_with.ensures
+returns c =
+    let first = c.in_ok-conflicts_with.field-0 in
+    let once = HasRule-exclusive c.flag.result first (flag_option (codes "retained")) _ c.in_ok-conflicts_with.ensures c.flag.ensures in
+    IfOk-weaker c.conflicts_with-2.result _ _ (λ made added. HasRule-exclusive first made (exclusive_flag (codes "retained")) _ added once)
+    c.conflicts_with-2.ensures

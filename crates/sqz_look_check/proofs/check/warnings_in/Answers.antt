@@ -5,8 +5,8 @@ true_unless : (b : Bool) → not b ≡ false → b ≡ true
 true_unless true is = refl
 true_unless false is = cc
 
-pub returns : goal.returns
-returns c =
+pub returns-clause-warned : goal.returns-clause-warned
+returns-clause-warned c =
     let empty = c.is_empty-are_some in
     record {
       unasked = λ no. let bad : false ≡ true = rw no at c.if-not-strict.false in cc;

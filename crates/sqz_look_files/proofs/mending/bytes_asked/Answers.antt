@@ -1,7 +1,7 @@
 use Rattle.std.proofs.Common.{◌≡◌, ◌∙◌, ◌==◌, ℕ, List, true, false, length, refl, ap, arith, inl, inr}
 use Rattle.sqz_dangling.specs.declared.patch.Patch.{Patch}
 use Rattle.sqz_look_files.proofs.mending.bytes_asked.Goals as goal
-use Rattle.sqz_look_files.proofs.mending.bytes_asked.Goals.{then-not-is_empty+in_ok-to_string-in-Ok, else-not-is_empty}
+use Rattle.sqz_look_files.proofs.mending.bytes_asked.Goals.{then-not-is_empty+in_ok-text-in-Ok, else-not-is_empty}
 
 pub returns-in-Ok-clause-asked : goal.returns-in-Ok-clause-asked
 returns-in-Ok-clause-asked g c =
@@ -13,7 +13,7 @@ returns-in-Ok-clause-asked g c =
 pub returns-in-Ok-clause-silent : goal.returns-in-Ok-clause-silent
 returns-in-Ok-clause-silent g c =
     elim c.if-not-is_empty.branch [
-      | then-not-is_empty+in_ok-to_string-in-Ok w ↦
+      | then-not-is_empty+in_ok-text-in-Ok w ↦
           inr (record {
             repaired = c.in-Ok.repaired;
             is_repaired = c.in-Ok.ensures.repaired;

@@ -3,14 +3,14 @@ use Rattle.sqz_image.specs.Devices.{WritesWhole}
 use Rattle.sqz_look_files.proofs.DamageLemmas.{ReadsSome-mended}
 use Rattle.sqz_look_files.proofs.WarningLemmas.{IsSilent-then}
 use Rattle.sqz_look_files.proofs.mending.mend.Goals as goal
-use Rattle.sqz_look_files.proofs.mending.mend.Goals.{then-not-is_none+in_ok-view+in_ok-to_string, else-not-is_none}
+use Rattle.sqz_look_files.proofs.mending.mend.Goals.{then-not-is_none+in_ok-text, else-not-is_none}
 
 pub returns-in-Ok-clause-silent : goal.returns-in-Ok-clause-silent
 returns-in-Ok-clause-silent g c =
     let reads = c.in_ok-mended.ensures in
     IsSilent-then _ _ _ _ _ _
     (elim c.if-not-is_none.branch [
-      | then-not-is_none+in_ok-view+in_ok-to_string w ↦
+      | then-not-is_none+in_ok-text w ↦
           inr (inl (inr (
             c.requires,
             ReadsSome-mended _ _ _ c.in_ok-mended.mended reads.read reads.is_mended
