@@ -21,7 +21,7 @@ from tests.harness.worked_images import IMAGES
 from tests.making.process_image import ProcessImage
 from tests.reference.image import Image
 
-# At least so many templates and cells of the text form alone are found: the sources are read.
+# Lower bounds of what is found in the sources: a reader that finds nothing fails.
 MANY_TEMPLATES, MANY_CELLS = 60, 20
 # What a line has for a cell that its row does not have.
 UNKNOWN = re.compile(r"\{[a-z_]+\}")
