@@ -4,9 +4,9 @@ Prints a table in Markdown, with the sums of each group of `crates.txt`.
 
 Usage: bench/count_lines.py
 
-A line counts unless it is blank or a comment alone. Code is `src/*.rt`, contracts among it;
-definitions are `specs/*.antt`, and proofs `proofs/**/*.antt`. A mutant is an edit in `must-fail/`
-or in `mutants/CRATE/`, and a test a function after `#[test]`."""
+A line counts unless it is blank or a comment alone. Code is `src/**/*.rt`, contracts among
+it; definitions are `specs/*.antt`, and proofs `proofs/**/*.antt`. A mutant is an edit in
+`must-fail/` or in `mutants/CRATE/`, and a test a function after `#[test]`."""
 
 import pathlib
 
@@ -23,7 +23,7 @@ def lines_of(paths, comment):
 
 
 def counts_of(crate):
-    sources = list(crate.glob("src/*.rt"))
+    sources = list(crate.glob("src/**/*.rt"))
     return (
         lines_of(sources, "//"),
         lines_of(crate.glob("specs/*.antt"), "--"),
@@ -55,7 +55,7 @@ def print_row(name, counts):
 
 
 def main(with_crates=True):
-    """Prints a row for each group of crates and for all, before them one for each crate if asked."""
+    """Prints rows for groups of crates and for all; before them, if asked, one for each crate."""
     groups = groups_of((ROOT / "crates.txt").read_text(encoding="utf-8").splitlines())
     print("| crates | " + " | ".join(COLUMNS) + " |")
     print("|---|" + "---:|" * len(COLUMNS))

@@ -14,16 +14,15 @@ import sys
 from tests.harness.programs import ROOT
 
 PAGE = ROOT / "explore" / "explore.html"
-SOURCE = ROOT / "crates" / "sqz_look_page" / "src" / "lib.rt"
+SOURCE = ROOT / "crates" / "sqz_look_explore" / "src" / "page.rt"
 # A hash in the policy, and the end of the name of what it is of.
 HASH = re.compile(r"(?P<name>script|style)-src 'sha256-[^']*'")
 TEXT = """\
 //! The page that shows an image in a browser. It is a copy of `explore/explore.html`, which
 //! `bench/embed_page.py` makes.
-#![tactic(auto)]
 
 /// The page, without the data of an image.
-pub const PAGE: &str = r##"%s"##;
+pub(crate) const PAGE: &str = r##"%s"##;
 """
 
 

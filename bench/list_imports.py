@@ -14,7 +14,7 @@ ROOT = pathlib.Path(__file__).resolve().parent.parent
 HEADLINE = ["sqz_tool/Headline"]
 SPEC = re.compile(r"^(?:pub )?use Rattle\.(sqz_\w+)\.specs\.(?!declared\.)(\w+)", re.MULTILINE)
 DECLARED = re.compile(
-    r"^(?:pub )?use Rattle\.(sqz_\w+)\.specs\.declared\.(\w+)\.(\w+)", re.MULTILINE
+    r"^(?:pub )?use Rattle\.(sqz_\w+)\.specs\.declared(?:\.[a-z]\w*)+\.([A-Z]\w*)", re.MULTILINE
 )
 PROMISES = {
     "1. each call returns; a run writes in order": ["sqz_image/Devices"],
@@ -30,27 +30,27 @@ PROMISES = {
     "4. parallel marking": ["sqz_marks/Lawful", "sqz_marks/Core"],
     "5. kept objects": ["sqz_tool/Correspondence"],
     "`check`": ["sqz_answers/Findings"],
-    "`check`: where faults are": ["sqz_places/Faults", "sqz_places/Unread", "sqz_places/Near"],
+    "`check`: where faults are": ["sqz_damage/Faults", "sqz_damage/Unread", "sqz_damage/Near"],
     "`check --strict`": ["sqz_strict/Findings"],
     "`census`": ["sqz_answers/Histograms"],
     "`census --retained`": ["sqz_answers/RetainedHistograms"],
     "`list`": ["sqz_answers/Listings"],
     "`show`": ["sqz_answers/Shown"],
-    "`why`": ["sqz_answers/Why"],
+    "`why`": ["sqz_dominators/Why"],
     "`refs`": ["sqz_answers/References"],
     "`top`": ["sqz_answers/TopRows"],
     "`diff`: alike": ["sqz_alike/Alike"],
     "`diff`: the first objects": ["sqz_alike/FirstDifference"],
     "`diff`: the exit": ["sqz_look_cli/Comparison"],
     "`digest`": ["sqz_digest/Written"],
-    "`mend`": ["sqz_mend/Recovery"],
-    "`mend --nil`": ["sqz_repair/Repairs"],
-    "instructions of `code`": ["sqz_methods/Parts", "sqz_code/Instructions"],
-    "`senders`, `code --unsent`": ["sqz_selectors/Mentions", "sqz_names/Picks"],
-    "`stacks`": ["sqz_stacks/Processes", "sqz_stacks/Stacks", "sqz_stacks/Frames"],
-    "`find`": ["sqz_strings/Matches", "sqz_referrers/FirstReferrers"],
+    "`mend`": ["sqz_damage/Recovery"],
+    "`mend --nil`": ["sqz_damage/Repairs"],
+    "instructions of `code`": ["sqz_code/Parts", "sqz_code/Instructions"],
+    "`senders`, `code --unsent`": ["sqz_code/Mentions", "sqz_names/Picks"],
+    "`stacks`": ["sqz_code/Processes", "sqz_code/Stacks", "sqz_code/Frames"],
+    "`find`": ["sqz_facts/Matches", "sqz_facts/FirstReferrers"],
     "labels": ["sqz_names/Labels", "sqz_names/LabelOrder", "sqz_names/Texts"],
-    "words": ["sqz_words/Words"],
+    "words": ["sqz_names/Words"],
 }
 
 
@@ -71,7 +71,7 @@ def lines_of(module):
 
 def declaration(crate, name):
     """The lines of a type that is declared in Rust, without attributes and comments."""
-    head = re.compile(rf"^pub (?:\(crate\) )?(?:enum|struct) {name}\b")
+    head = re.compile(rf"^pub(?:\(\w+\))? (?:enum|struct) {name}\b")
     for path in sorted((ROOT / "crates" / crate / "src").rglob("*.rt")):
         lines = path.read_text(encoding="utf-8").splitlines()
         for at, line in enumerate(lines):
@@ -93,7 +93,7 @@ def follow(modules):
         text = text_of(module)
         for crate, name in SPEC.findall(text):
             visit(f"{crate}/{name}")
-        for crate, _, name in DECLARED.findall(text):
+        for crate, name in DECLARED.findall(text):
             types[crate, name] = None
         del order[module]
         order[module] = None
@@ -145,7 +145,7 @@ def main():
         nargs="*",
         type=module,
         metavar="CRATE/MODULE",
-        help=f"a module of specs/, as sqz_answers/Why; else {HEADLINE[0]}, which `run` names",
+        help=f"a module of specs/, as sqz_answers/Shown; else {HEADLINE[0]}, which `run` names",
     )
     parser.add_argument(
         "--promises",

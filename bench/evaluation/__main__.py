@@ -6,7 +6,7 @@ import tempfile
 import textwrap
 import typing
 
-from bench import count_lines
+from bench import count_lines, list_imports
 from bench.compare import positive
 from bench.evaluation.compaction import print_compaction
 from bench.evaluation.machine import print_machine
@@ -34,9 +34,21 @@ def print_lines(_options, _folder):
     print(flush=True)
 
 
+def print_definitions(_options, _folder):
+    """Prints what each promise rests on."""
+    list_imports.print_promises()
+    print(flush=True)
+
+
 TABLES = {
     "lines": Table(
         "Lines, mutants and tests", "Blank lines and comments do not count.", print_lines
+    ),
+    "definitions": Table(
+        "Definitions to read",
+        "The files of definitions behind each promise of `docs/GUARANTEES.md` and each answer of "
+        "`sqzlook`: these modules, and all that they import. `types` are declared in Rust.",
+        print_definitions,
     ),
     "tests": Table(
         "Tests",

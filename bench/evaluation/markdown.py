@@ -5,9 +5,9 @@ from bench.images import MIB
 
 
 def print_table(titles, rows):
-    """Prints a table whose first column is text and whose other columns are numbers."""
+    """Prints a table of numbers, but for the columns that have the title of the first one."""
     print(f"| {' | '.join(titles)} |")
-    print("|---|" + "---:|" * (len(titles) - 1))
+    print("|" + "".join("---|" if title == titles[0] else "---:|" for title in titles))
     for row in rows:
         print(f"| {' | '.join(row)} |")
     print(flush=True)

@@ -18,7 +18,7 @@ MOST = 90
 LEFT_OUT = re.compile(r"sqz_look.*|sqz_cli|sqz_compact_args")
 # The names that `rt must-fail` reads.
 NAME = re.compile(r"[A-Za-z0-9_-][A-Za-z0-9_.-]*\.edit")
-PATH = re.compile(r"(src|specs|proofs)/[^/.][^/]*\.(rt|antt)")
+PATH = re.compile(r"(src|specs|proofs)(/[^/.][^/]*)+\.(rt|antt)")
 
 
 def in_crates():

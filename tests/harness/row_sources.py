@@ -29,8 +29,14 @@ TEXT_ALONE = {"note", "note_word", "count", "indent", "difference"}
 HELPER = re.compile(r'\badd_\w+\(\s*(?:\w+,\s*)*"([a-z_]+)"')
 # The crates and the functions that add several cells to rows of other crates.
 GROUPS = {
-    "sqz_look_view": ("object", "slot", "no_slot", "add_method_header"),
-    "sqz_look_path": ("add_first", "add_step"),
+    "sqz_look_view": (
+        "object",
+        "slot",
+        "no_slot",
+        "add_method_header",
+        "add_first",
+        "add_step",
+    ),
 }
 
 
@@ -81,8 +87,8 @@ def text_branches(text):
 @functools.cache
 def row_methods():
     """The methods of rows that take the name of a cell."""
-    text = (CRATES / "sqz_look_view" / "src" / "rows.rt").read_text(encoding="utf-8")
-    return frozenset(METHOD.findall(text))
+    texts = texts_of("sqz_look_view").values()
+    return frozenset(name for text in texts for name in METHOD.findall(text))
 
 
 def adders():

@@ -1,7 +1,9 @@
 """Asks `sqzlook` about the code, the stacks and the strings of an image."""
 
+import functools
 import json
 import re
+import typing
 
 from tests.harness.json_rows import difference, rows_of
 from tests.harness.outcomes import Outcome
@@ -24,6 +26,25 @@ from tests.reference.values import method_of
 METHODS, SELECTORS = 200, 20
 # The bytes that a damaged disk loses at once.
 SECTOR = 512
+
+
+class Mentions(typing.NamedTuple):
+    """The names of an image, its live symbols by their bytes, and what its live methods mention."""
+
+    names: Names
+    symbols: dict
+    senders: Senders
+
+
+@functools.cache
+def mentions_in(image):
+    """What the methods of an image mention, which takes seconds to find."""
+    live = {number for number, it in enumerate(image.live(False)) if it}
+    names, symbols = Names(image, live), {}
+    for number in live:
+        if has_bytes(image.header_of(number)) and names.class_name(number) in SYMBOLS:
+            symbols.setdefault(image.text(number), set()).add(number)
+    return Mentions(names, symbols, Senders(image, live & names.methods.keys()))
 
 
 class CodeTest(SavedImageTest):
@@ -96,8 +117,10 @@ class CodeTest(SavedImageTest):
         self.assertEqual(rows, self.rows("code"))
         self.assertEqual(by_name["Object"]["depth"] + 1, by_name["Point"]["depth"])
         self.assertGreater(by_name["Point"]["methods"], 50)
-        names = {row["class"] for row in self.rows("census")}
-        self.assertIn("Point", names)
+        # the numbers of instances are those of the class histogram
+        objects = {row["address"]: row["objects"] for row in self.rows("census")}
+        found = {row["address"]: row["instances"] for row in rows}
+        self.assertEqual(found, {address: objects.get(address, 0) for address in found})
 
     def test_implementors(self):
         rows = self.rows("implementors", "startUp")
@@ -107,13 +130,7 @@ class CodeTest(SavedImageTest):
 
     def test_senders(self):
         """Selectors that are literals, that are sent by special codes, and that nobody sends."""
-        image = self.image
-        live = {number for number, it in enumerate(image.live(False)) if it}
-        names, symbols = Names(image, live), {}
-        senders = Senders(image, live & names.methods.keys())
-        for number in live:
-            if has_bytes(image.header_of(number)) and names.class_name(number) in SYMBOLS:
-                symbols.setdefault(image.text(number), set()).add(number)
+        names, symbols, senders = mentions_in(self.image)
         for word in ("at:put:", "+", "x", "value", "uniformWindowColors", "nobodySendsThis"):
             with self.subTest(word):
                 found = [it["address"] for it in self.rows("senders", word)]
@@ -129,10 +146,17 @@ class CodeTest(SavedImageTest):
                 self.assertEqual(self.rows("implementors", selector), [])
 
     def test_unsent(self):
-        rows = self.rows("code", "--unsent")
-        self.assertGreater(len(rows), 10)
-        selector = rows[0]["method"].split(">>")[1]
-        self.assertEqual(self.rows("senders", selector), [])
+        """All methods whose selectors no method mentions."""
+        names, symbols, senders = mentions_in(self.image)
+        mentioned = set().union(*senders.mentioned.values())
+        wanted = [
+            names.address(number)
+            for number in senders.mentioned
+            if mentioned.isdisjoint(symbols.get(names.methods[number][1], ()))
+        ]
+        found = [it["address"] for it in self.rows("code", "--unsent")]
+        self.assertGreater(len(found), 10)
+        self.assertEqual(sorted(found), sorted(wanted))
 
     def test_stacks(self):
         rows = self.rows("stacks")

@@ -9,11 +9,13 @@ import unittest
 from tests.harness.failed_outputs import FailedOutputs
 from tests.harness.json_rows import rows_of
 from tests.harness.known_image import NAME, KnownImageTest, answers_about
+from tests.harness.look_checks import warning_about
 from tests.harness.saved_image import SavedImageTest
 from tests.harness.sqzlook import CLEAR, look, look_at_all
 from tests.harness.top_checks import USUAL, Asked, Shape, TopTest
 from tests.harness.worked_images import (
     IMAGES,
+    OUT,
     DeadArrayTest,
     name_of,
     readable_files,
@@ -37,6 +39,8 @@ SHAPES = (
     Shape(3, "100"),
     Shape(100, "0.000001"),
 )
+# The shape that prints all rows of a small image.
+WHOLE = Shape(100, "0")
 # The shapes of trees from other objects, and how many objects they are asked about.
 OBJECT_SHAPES = (USUAL, Shape(1, "0"), Shape(least="12.5"))
 SMALL_OBJECTS, REAL_OBJECTS = 4, 20
@@ -49,18 +53,47 @@ LINE = re.compile(r" *(\d+) +(\d+\.\d) +(\d+)   ((?:  )*)(\S.*)")
 VARIABLE = re.compile(r"class variable (\S+)")
 
 
+def worked_files():
+    """The files of the worked images that can be read, by name. Their compactions, which have the
+    same rows at other addresses, are left out."""
+    return {name: it for name, it in readable_files().items() if not name.endswith(OUT)}
+
+
+def what_is_printed(asked):
+    """All rows of a tree, and the warning about its image."""
+    return asked.tree.rows(**WHOLE.bounds), warning_about(asked.tree.answers, asked.path)
+
+
 def trees_of(files):
-    """The trees of these files by path, under both policies."""
-    return [
-        Asked(Tree(Answers(Image.read(file)[0], options == CLEAR)), path, options)
-        for path, file in files.items()
-        for options in ((), CLEAR)
-    ]
+    """The trees of these files by path. The tree with weak references cleared is one of them if it
+    has other rows or another warning."""
+    trees = []
+    for path, file in files.items():
+        image = Image.read(file)[0]
+        kept, cleared = (
+            Asked(Tree(Answers(image, options == CLEAR)), path, options) for options in ((), CLEAR)
+        )
+        is_same = what_is_printed(kept) == what_is_printed(cleared)
+        trees += [kept] if is_same else [kept, cleared]
+    return trees
+
+
+def is_telling(tree, shapes, place):
+    """Whether a tree has other rows in the shape at this place than in each shape before it."""
+    rows = tree.rows(**shapes[place].bounds)
+    return all(tree.rows(**shape.bounds) != rows for shape in shapes[:place])
 
 
 def sample_of(generator, numbers, count):
     """Some of these, at most a number of them."""
     return generator.sample(numbers, min(count, len(numbers)))
+
+
+def objects_of(generator, tree):
+    """Some live objects of an image that dominate others, and one that does not."""
+    inner = [it for it in tree.answers.live if tree.children[it]]
+    leaves = [it for it in tree.answers.live if not tree.children[it]]
+    return [*sample_of(generator, inner, SMALL_OBJECTS), *sample_of(generator, leaves, 1)]
 
 
 @functools.cache
@@ -92,7 +125,7 @@ class TreeTest(unittest.TestCase):
                     self.assertEqual(sum(row.apart for row in rows), tree.whole)
 
     def test_worked_images(self):
-        self.check_files(readable_files())
+        self.check_files(worked_files())
 
     def test_random_images(self):
         self.check_files(random_files())
@@ -117,27 +150,30 @@ class SmallImagesTest(TopTest):
             self.write(name, file)
         return trees_of(files)
 
+    def check_telling(self, trees, shapes, folder=None):
+        """Asks for each tree in those shapes in which it has rows of its own."""
+        for place, shape in enumerate(shapes):
+            telling = [it for it in trees if is_telling(it.tree, shapes, place)]
+            self.check_trees(telling, [shape], folder)
+
     def test_worked_images(self):
-        self.check_trees(trees_of(readable_files()), SHAPES, folder=IMAGES)
+        self.check_telling(trees_of(worked_files()), SHAPES, folder=IMAGES)
 
     def test_random_images(self):
-        self.check_trees(self.write_all(random_files()), SHAPES)
+        self.check_telling(self.write_all(random_files()), SHAPES)
 
     def test_image_with_names(self):
+        """Each shape is asked for, also if its rows are those of another one."""
         self.check_trees(self.write_all({NAME: named_file()}), SHAPES)
 
     def check_objects(self, trees, folder=None):
         """Asks for the trees from some live objects of each image."""
         generator = random.Random(SEED)
-        asked = [
-            it.below(number)
-            for it in trees
-            for number in sample_of(generator, it.tree.answers.live, SMALL_OBJECTS)
-        ]
-        self.check_trees(asked, OBJECT_SHAPES, folder)
+        asked = [it.below(number) for it in trees for number in objects_of(generator, it.tree)]
+        self.check_telling(asked, OBJECT_SHAPES, folder)
 
     def test_objects_of_worked_images(self):
-        self.check_objects(trees_of(readable_files()), folder=IMAGES)
+        self.check_objects(trees_of(worked_files()), folder=IMAGES)
 
     def test_objects_of_random_images(self):
         self.check_objects(self.write_all(random_files()))

@@ -1,20 +1,9 @@
 -- Lists of words that are the same bytes.
--- Serves `words::bytes_match`; `ReferrerLemmas` of `sqz_referrers`.
+-- Serves `words::bytes_match`.
 use Rattle.std.proofs.Common.{◌≡◌, ℕ, suc, ◌<◌, List, [], ◌∷◌, map, length, slice_index, get_or, refl, sym, ap, ◌∙◌, true, not, nat_eq, arith}
 use Rattle.std.specs.Cmp.Lexicographic.{pointwise}
 use Rattle.std.proofs.lemmas.Cmp.{nat_list_eq_equiv}
 use Rattle.std.proofs.lemmas.List.{get_or-map}
-
--- two lists whose elements are mapped to the same, place by place
-module _ {X : Type 0} (f g : ℕ → X) where
-  pub map-same : (words others : List ℕ) → length words ≡ length others
-      → ((k : ℕ) → k < length words → f (slice_index words k) ≡ g (slice_index others k)) → map f words ≡ map g others
-  map-same [] [] long same = refl
-  map-same [] (other ∷ others) long same = absurd (omega arith)
-  map-same (word ∷ words) [] long same = absurd (omega arith)
-  map-same (word ∷ words) (other ∷ others) long same =
-      let rest = map-same words others (omega arith) (λ k lt. same (suc k) (omega arith)) in
-      ap (λ (xs : List X). f word ∷ xs) rest ∙ ap (λ (x : X). x ∷ map g others) (same 0 (omega arith))
 
 module _ (f g : ℕ → List ℕ) where
   pub map-at : (words others : List ℕ) → length words ≡ length others → map f words ≡ map g others

@@ -4,3 +4,5 @@ pub mod Matching
 pub mod Partners
 pub mod FirstDifference
 pub mod Walk
+pub mod NewObjects
+pub mod Holders

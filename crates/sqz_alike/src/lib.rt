@@ -1,9 +1,13 @@
-//! Whether two images are alike: whether their live objects correspond one to one. Which objects of
-//! two images are partners, if they are not alike.
+//! Two images side by side: whether they are alike, that is, whether their live objects correspond
+//! one to one; if not, which objects are partners, and what grew from one image to the other.
 #![tactic(auto)]
 
 mod alikeness;
+mod growth;
+mod holder;
+mod holders;
 mod matching;
+mod new_objects;
 mod objects;
 mod partners;
 mod seen;
@@ -11,7 +15,11 @@ mod sides;
 mod words;
 
 pub use alikeness::{Alikeness, compare};
+pub use growth::Growth;
+pub use holder::{Holder, objects_of};
+pub use holders::find_holders;
 pub use matching::{Matching, Pair};
+pub use new_objects::mark_new;
 pub use partners::partners_of;
 pub use seen::seen_target;
 pub use sides::Sides;

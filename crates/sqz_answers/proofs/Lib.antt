@@ -1,7 +1,6 @@
 pub mod AloneLemmas
 pub mod FindingLemmas
 pub mod HistogramLemmas
-pub mod WhyLemmas
 pub mod DominanceLemmas
 pub mod SplitLemmas
 pub mod LevelLemmas

@@ -1,11 +1,9 @@
 pub mod Findings
 pub mod Histograms
-pub mod Weakness
 pub mod References
 pub mod CutOff
 pub mod Listings
 pub mod Shown
-pub mod Why
 pub mod Variables
 pub mod Limits
 pub mod Levels

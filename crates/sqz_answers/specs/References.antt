@@ -2,7 +2,7 @@
 use Rattle.sqz_image.specs.Objects.{Memory}
 use Rattle.sqz_facts.specs.declared.referrers.Referrer.{Referrer}
 use Rattle.sqz_answers.specs.declared.references.Reference.{Reference}
-use Rattle.sqz_answers.specs.Weakness.{is_weak_slot}
+use Rattle.sqz_dominators.specs.Weakness.{is_weak_slot}
 
 -- a reference, with whether its slot is weak
 abbrev pub reference_of : Memory → Referrer → Reference

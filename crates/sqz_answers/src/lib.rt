@@ -25,8 +25,6 @@ mod smaller;
 mod together;
 mod top_tree;
 mod variable_parts;
-mod weakness;
-mod why;
 
 pub use changes::{Change, changes_of};
 pub use differences::{bytes_or_none, sort_by_difference};
@@ -43,5 +41,3 @@ pub use rows::{TopObjects, TopRow, TopRows, top_rows};
 pub use sizes::{InBytes, Size, size_or_nothing};
 pub use slots::{ShownSlot, slot_at, slot_count};
 pub use variable_parts::VariableParts;
-pub use weakness::is_weak_slot;
-pub use why::{HoldingPath, WhyStep, why_kept};

@@ -5,7 +5,7 @@ ghost use Rattle.sqz_image.specs.Objects.{object_count};
 ghost use Rattle.sqz_facts.specs.Referrers.{referrers};
 ghost use Rattle.sqz_answers.specs.References.{reference_of};
 
-use crate::weakness::is_weak_slot;
+use sqz_dominators::is_weak_slot;
 use sqz_facts::referrers_of;
 use sqz_image::Slot;
 use sqz_object::ObjectIndex;

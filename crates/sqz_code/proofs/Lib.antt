@@ -1,1 +1,5 @@
 pub mod InstructionLemmas
+mod JoinLemmas
+mod MentionLemmas
+mod UnimplementedLemmas
+mod StackLemmas

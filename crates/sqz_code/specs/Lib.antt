@@ -1,3 +1,14 @@
 pub mod Headers
 pub mod Operations
 pub mod Instructions
+pub mod Trailers
+pub mod Parts
+pub mod Joins
+pub mod Mentions
+pub mod Unimplemented
+pub mod Fields
+pub mod FieldValues
+pub mod Contexts
+pub mod Stacks
+pub mod Frames
+pub mod Processes

@@ -7,3 +7,6 @@ pub mod RangeLemmas
 pub mod MemberLemmas
 pub mod ReferrerLemmas
 pub mod AllDefectLemmas
+mod FirstReferrerLemmas
+mod TextLemmas
+mod MatchLemmas

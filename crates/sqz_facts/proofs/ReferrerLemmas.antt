@@ -1,6 +1,6 @@
 -- The references to an object from one slot more, and from one object more.
 -- Serves `referrers::push_referrers` and `referrers::referrers_of`; the functions of
--- `first_referrers` of `sqz_referrers`.
+-- `first_referrers`.
 use Rattle.std.proofs.Common.{◌≡◌, ℕ, zero, suc, ◌+◌, ◌<◌, ◌≤◌, nat_eq, Bool, true, false, cond, List, [], ◌∷◌, ◌++◌, map, All}
 use Rattle.std.proofs.Common.{Option, Some, None, refl, ap, ◌∙◌, inl, inr, arith}
 use Rattle.std.specs.List.{filter, flat_map, range_with_len}

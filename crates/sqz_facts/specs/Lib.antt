@@ -7,3 +7,6 @@ pub mod Members
 pub mod Referrers
 pub mod AllDefects
 pub mod Classes
+pub mod FirstReferrers
+pub mod Texts
+pub mod Matches

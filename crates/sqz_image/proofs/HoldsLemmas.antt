@@ -1,5 +1,5 @@
 -- A file holds one image at most, and if it holds one, it is not rejected as unreadable.
--- Serves `Uniqueness` of `sqz_tool`, and `sqz_mend`.
+-- Serves `Uniqueness` of `sqz_tool`, and `sqz_damage`.
 use Rattle.std.proofs.Common.{◌≡◌, ℕ, List, Some, None, is_some, sym, ap, subst, ◌∙◌, inl, inr}
 use Rattle.std.proofs.lemmas.Bool.{false≢true}
 use Rattle.std.proofs.lemmas.Option.{none-some, same_Some}

@@ -6,7 +6,8 @@ ghost use Rattle.sqz_histogram.specs.Groups.{IsInside};
 ghost use Rattle.sqz_look_view.specs.Inspectors.{IsObjectOf};
 
 use sqz_histogram::{Group, GroupTotal, first_bytes};
-use sqz_look_view::{Categories, Inspector, field_of};
+use sqz_look_view::{Inspector, field_of};
+use sqz_names::Categories;
 use sqz_names::fields::NAME;
 use sqz_object::ObjectIndex;
 use std::alloc::{AllocError, Global};

@@ -9,7 +9,8 @@ use sqz_answers::{Histogram, dead_histogram, live_histogram, retained_histogram}
 use sqz_histogram::{Group, GroupTotal};
 use sqz_image::Sink;
 use sqz_look_args::Grouping;
-use sqz_look_view::{Categories, Inspector, Out, PrintError, field_of};
+use sqz_look_view::{Inspector, Out, PrintError, field_of};
+use sqz_names::Categories;
 use sqz_names::fields::NAME;
 use std::alloc::AllocError;
 use std::thread::Threads;

@@ -8,7 +8,8 @@ use sqz_answers::{Listed, dead_listing_of, listing_of, sort_by_retained};
 use sqz_histogram::Group;
 use sqz_image::Sink;
 use sqz_look_args::ListOrder;
-use sqz_look_view::{Counter, Inspector, Out, PrintError, preview_of};
+use sqz_look_view::{Inspector, Out, PrintError, preview_of};
+use sqz_names::Counter;
 use sqz_object::ObjectIndex;
 use std::alloc::AllocError;
 
@@ -30,7 +31,7 @@ impl Describing {
             IsObjectOf inspector.now object) }
     {
         let counter = match first {
-            Some(object) => Counter::of(inspector, object)?,
+            Some(object) => Counter::of(&inspector.names, object)?,
             None => Counter::Fields,
         };
         Ok(Describing {

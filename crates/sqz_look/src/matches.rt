@@ -1,18 +1,16 @@
 //! The strings and symbols that match a regular expression.
 
 ghost use Rattle.std.specs.Prelude.{IfSome};
-ghost use Rattle.sqz_strings.specs.Matches.{IsText};
+ghost use Rattle.sqz_facts.specs.Matches.{IsText};
 ghost use Rattle.sqz_look_view.specs.Inspectors.{IsObjectOf};
 
 use crate::slot_holders::referrer_text;
 use regex::bytes::Regex;
-use sqz_facts::Referrer;
+use sqz_facts::{Referrer, first_referrers_of, matches_of, text_of};
 use sqz_image::Sink;
 use sqz_look_view::{Inspector, Out, PrintError};
 use sqz_names::escaped;
 use sqz_object::ObjectIndex;
-use sqz_referrers::first_referrers_of;
-use sqz_strings::{matches_of, text_of};
 
 /// Prints the live strings and symbols that match a regular expression, by address, each with the
 /// first slot of a live object that points to it.

@@ -2,14 +2,14 @@
 
 ghost use Rattle.std.specs.Prelude.{◌≡◌, All, None};
 ghost use Rattle.sqz_image.specs.Objects.{find};
-ghost use Rattle.sqz_words.specs.Found.{IsMissing};
+ghost use Rattle.sqz_names.specs.Found.{IsMissing};
 ghost use Rattle.sqz_look_view.specs.Inspectors.{IsObjectOf};
 
 use crate::near_names::{near_classes, near_names};
 use sqz_facts::{Site, site_of};
 use sqz_look_view::{Hex, Inspector};
+use sqz_names::Missing;
 use sqz_object::{Address, ObjectIndex};
-use sqz_words::Missing;
 use std::alloc::AllocError;
 use std::fmt::Write;
 

@@ -6,10 +6,9 @@ ghost use Rattle.sqz_look.specs.Paths.{IsInside};
 ghost use Rattle.sqz_look_view.specs.Inspectors.{IsObjectOf};
 
 use crate::paths::{PathStep, visible_steps};
-use sqz_answers::HoldingPath;
+use sqz_dominators::HoldingPath;
 use sqz_image::Sink;
-use sqz_look_path::{add_first, add_step};
-use sqz_look_view::{Inspector, Out, SlotNames};
+use sqz_look_view::{Inspector, Out, SlotNames, add_first, add_step};
 use sqz_names::Label;
 use sqz_object::ObjectIndex;
 use std::alloc::AllocError;

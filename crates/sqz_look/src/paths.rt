@@ -5,7 +5,7 @@ ghost use Rattle.sqz_image.specs.Objects.{object_count};
 ghost use Rattle.sqz_look.specs.Paths.{IsInside};
 ghost use Rattle.sqz_look_view.specs.Inspectors.{IsObjectOf};
 
-use sqz_answers::WhyStep;
+use sqz_dominators::WhyStep;
 use sqz_image::Slot;
 use sqz_look_view::Inspector;
 use sqz_names::Variable;

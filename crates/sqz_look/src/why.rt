@@ -3,7 +3,7 @@
 ghost use Rattle.sqz_look_view.specs.Inspectors.{IsObjectOf};
 
 use crate::path_rows::print_path;
-use sqz_answers::{HoldingPath, why_kept};
+use sqz_dominators::{HoldingPath, why_kept};
 use sqz_image::Sink;
 use sqz_look_view::{Inspector, Out, PrintError};
 use sqz_object::ObjectIndex;

@@ -1,6 +1,6 @@
 -- What is read of the matches of a subcommand.
 -- Serves the functions of `requests`, `questions` and `values`.
-use Rattle.std.proofs.Common.{◌≡◌, ◌∙◌, ◌||◌, Bool, true, false, List, [], Option, Some, None, codes, is_some, refl, sym, ap}
+use Rattle.std.proofs.Common.{◌≡◌, ◌∙◌, Bool, true, false, List, [], ◌∷◌, Option, Some, None, codes, is_some, refl, sym, ap}
 use Rattle.std.specs.Prelude.{Box, bytes_eq, map, option_and_then, option_map, slice_get, unwrap_or}
 use Rattle.std.specs.Borrow.{Bor}
 use Rattle.std.specs.Box.{box_value}
@@ -19,11 +19,10 @@ use Rattle.clap.specs.declared.parser.matches.SubCommand.{SubCommand}
 use Rattle.clap.proofs.WalkLemmas.{one_text-rows, raw_values-rows}
 use Rattle.sqz_look_args.specs.declared.subcommands.Name.{Name}
 use Rattle.sqz_look_args.specs.declared.subcommands.Name.TheVariants as names
-use Rattle.sqz_look_args.specs.declared.requests.Question.{Question}
-use Rattle.sqz_look_args.specs.declared.requests.Question.TheVariants.{Check, Mend, Each, Diff, About}
-use Rattle.sqz_look_args.specs.Mends.{is_mend}
+use Rattle.sqz_look_args.specs.declared.question.Question.{Question}
+use Rattle.sqz_look_args.specs.declared.question.Question.TheVariants.{Check}
 use Rattle.sqz_look_args.specs.CommandLine.{name_of}
-use Rattle.sqz_look_args.specs.Requests.{IsCheckOf, IsDiff, given, has_flag}
+use Rattle.sqz_look_args.specs.Requests.{IsCheckOf, first_given, given, has_flag, is_json}
 
 pub is_some-option_map : {X Y : Type 0} (f : X → Y) (o : Option X) → is_some (option_map f o) ≡ is_some o
 is_some-option_map f None = refl
@@ -77,6 +76,23 @@ pub values_given : (f : Found) (id : Text) (read : Option (Bor (List (Bor Text))
     → unwrap_or (option_map (λ s. texts s.now) read) [] ≡ given id (rows_of f)
 values_given f id read is = ap (λ (o : Option (List Text)). unwrap_or o []) (is ∙ raw_values-rows f id)
 
+first_of_matched : (o : Option MatchedArg)
+    → option_and_then (λ (a : MatchedArg). option_map (λ s. s.now) (slice_get a.vals.items 0)) o
+    ≡ slice_get (unwrap_or (option_map raw_values o) []) 0
+first_of_matched None = refl
+first_of_matched (Some a) = at a.vals.items
+  where
+    at : (xs : List (Bor Text)) → option_map (λ s. s.now) (slice_get xs 0) ≡ slice_get (map (λ v. v.now) xs) 0
+    at [] = refl
+    at (x ∷ xs) = refl
+
+-- the value of an argument is the first one of its rows
+pub value_given : (f : Found) (id : Text) (read : Option (Bor Text)) → option_map (λ s. s.now) read ≡ first_value f id
+    → first_given id (rows_of f) ≡ option_map (λ s. s.now) read
+value_given f id read is =
+    ap (λ (o : Option (List Text)). slice_get (unwrap_or o []) 0) (sym (raw_values-rows f id))
+    ∙ (sym (first_of_matched (matched_of f id)) ∙ sym is)
+
 name_of_entered : {Z : Type 0} (entered : Option (Box SubCommand Z))
     → option_map (λ b. (out-SubCommand (box_value b)).name.now) entered ≡ option_map (λ p. p.0) (subcommand_rows entered)
 name_of_entered None = refl
@@ -99,22 +115,7 @@ module _ (m : ArgMatches) (rows : List Row) (word : Text) (name : Name) (entered
   pub name_is_diff : subcommand_rows_of m ≡ Some (codes "diff", rows) → name ≡ names.Diff
   name_is_diff asked = same_Some _ _ (named ∙ ap name_of (word_is (codes "diff") asked))
 
--- to check an image is not to mend it
-pub is_mend-check : (rows : List Row) (question : Question) → IsCheckOf rows question → is_mend question ≡ false
-is_mend-check rows (Check images all strict) is = refl
-is_mend-check rows (Mend image nil) is = absurd is
-is_mend-check rows (Each images question) is = absurd is
-is_mend-check rows (Diff old new) is = absurd is
-is_mend-check rows (About image question) is = absurd is
-
--- nor is it to mend an image to compare two
-pub is_mend-diff : (question : Question) → IsDiff question → is_mend question ≡ false
-is_mend-diff (Check images all strict) is = absurd is
-is_mend-diff (Mend image nil) is = absurd is
-is_mend-diff (Each images question) is = absurd is
-is_mend-diff (Diff old new) is = refl
-is_mend-diff (About image question) is = absurd is
-
-pub or-false : (b : Bool) → (b || false) ≡ b
-or-false true = refl
-or-false false = refl
+-- to check an image is not to write a dump or a page
+pub is_json-check : (rows : List Row) (question : Question) (asked : Bool) → IsCheckOf rows question → is_json question asked ≡ asked
+is_json-check rows (Check images all strict) asked is = refl
+is_json-check rows _ asked is = absurd is

@@ -3,20 +3,17 @@
 ghost use Rattle.std.specs.Prelude.{◌≡◌, IfOk, MatchResult};
 ghost use Rattle.clap.specs.Words.{found_of, rows_of};
 ghost use Rattle.sqz_look_args.specs.declared.bad_request.BadRequest.TheVariants.{OutOfMemory};
-ghost use Rattle.sqz_look_args.specs.Requests.{IsCheckOf, IsDiff};
+ghost use Rattle.sqz_look_args.specs.Requests.{IsCheckOf, IsDiffOf};
 
 use crate::bad_request::BadRequest;
-use crate::code_question::CodeQuestion;
 use crate::counting::Counting;
 use crate::grouping::Grouping;
 use crate::list_order::ListOrder;
 use crate::percent::Percent;
-use crate::requests::{
-    EachQuestion, Instances, NamedQuestion, ObjectQuestion, ObjectsAsked, Question,
-};
+use crate::question::{Instances, Question};
 use crate::subcommands::Name;
 use crate::top_options::{TopForm, TopOptions};
-use crate::values::{flag_of, joined, pattern_of, text_of, value_of, values_of};
+use crate::values::{flag_of, joined, pattern_of, value_of, values_of};
 use clap::ArgMatches;
 use std::alloc::{AllocError, Global};
 
@@ -29,37 +26,28 @@ pub(crate) fn question_of<'a>(
 ) -> Result<Question<'a>, BadRequest<'a>>
     ensures check { let rows = rows_of (found_of matches.now) in name ≡ Name.Check
         → MatchResult result (IsCheckOf rows) (λ bad. bad ≡ OutOfMemory) }
-    ensures diff { name ≡ Name.Diff → IfOk result IsDiff }
+    ensures diff { let rows = rows_of (found_of matches.now) in name ≡ Name.Diff
+        → IfOk result (IsDiffOf rows) }
 {
     match name {
         Name::Check => check(alloc, matches),
         Name::Mend => mend(matches),
-        Name::Diff => difference(matches),
-        Name::Info => about_each(alloc, matches, EachQuestion::Info),
+        Name::Info => info(alloc, matches),
         Name::Census => census(alloc, matches),
-        Name::Digest => about_each(alloc, matches, EachQuestion::Digest),
-        Name::List => about_image(matches, listing(alloc, matches)),
-        Name::Top => about_image(matches, tree(alloc, matches)),
-        Name::Show => {
-            about_image(
-                matches,
-                about_objects(alloc, matches, apart, ObjectQuestion::Show),
-            )
-        }
-        Name::Refs => {
-            about_image(
-                matches,
-                about_objects(alloc, matches, apart, ObjectQuestion::Refs),
-            )
-        }
-        Name::Why => about_image(matches, about_objects(alloc, matches, apart, why(matches))),
-        Name::Code => about_image(matches, code(alloc, matches)),
-        Name::Senders => about_image(matches, senders(alloc, matches)),
-        Name::Implementors => about_image(matches, implementors(alloc, matches)),
-        Name::Stacks => about_image(matches, Ok(NamedQuestion::Stacks)),
-        Name::Find => about_image(matches, strings(alloc, matches)),
-        Name::Dump => about_image(matches, Ok(NamedQuestion::Dump)),
-        Name::Explore => about_image(matches, Ok(page(matches))),
+        Name::Digest => digest(alloc, matches),
+        Name::List => list(alloc, matches),
+        Name::Show => show(alloc, matches, apart),
+        Name::Why => why(alloc, matches, apart),
+        Name::Refs => refs(alloc, matches, apart),
+        Name::Top => top(alloc, matches),
+        Name::Diff => diff(matches),
+        Name::Code => code(alloc, matches),
+        Name::Senders => senders(matches),
+        Name::Implementors => implementors(matches),
+        Name::Stacks => stacks(matches),
+        Name::Find => find(alloc, matches),
+        Name::Dump => dump(matches),
+        Name::Explore => explore(matches),
     }
 }
 
@@ -83,9 +71,87 @@ fn mend<'a>(matches: &ArgMatches<'a>) -> Result<Question<'a>, BadRequest<'a>> {
     })
 }
 
+/// Returns the question what format and size images have.
+fn info<'a>(alloc: Global, matches: &ArgMatches<'a>) -> Result<Question<'a>, BadRequest<'a>> {
+    Ok(Question::Info {
+        images: values_of(alloc, matches, "IMAGE")?,
+    })
+}
+
+/// Returns the question how many objects each class has.
+fn census<'a>(alloc: Global, matches: &ArgMatches<'a>) -> Result<Question<'a>, BadRequest<'a>> {
+    Ok(Question::Census {
+        images: values_of(alloc, matches, "IMAGE")?,
+        counting: Counting::asked(matches),
+        by: grouping_of(matches)?,
+    })
+}
+
+/// Returns the question which digest images have.
+fn digest<'a>(alloc: Global, matches: &ArgMatches<'a>) -> Result<Question<'a>, BadRequest<'a>> {
+    Ok(Question::Digest {
+        images: values_of(alloc, matches, "IMAGE")?,
+    })
+}
+
+/// Returns the question which instances a class has.
+fn list<'a>(alloc: Global, matches: &ArgMatches<'a>) -> Result<Question<'a>, BadRequest<'a>> {
+    Ok(Question::List {
+        image: value_of(matches, "IMAGE")?,
+        class: joined(alloc, &values_of(alloc, matches, "CLASS")?)?,
+        which: instances_of(matches)?,
+    })
+}
+
+/// Returns the question what objects are.
+fn show<'a>(
+    alloc: Global,
+    matches: &ArgMatches<'a>,
+    apart: usize,
+) -> Result<Question<'a>, BadRequest<'a>> {
+    Ok(Question::Show {
+        image: value_of(matches, "IMAGE")?,
+        objects: objects_of(alloc, matches, apart)?,
+    })
+}
+
+/// Returns the question what keeps objects. JSON has each step of a path.
+fn why<'a>(
+    alloc: Global,
+    matches: &ArgMatches<'a>,
+    apart: usize,
+) -> Result<Question<'a>, BadRequest<'a>> {
+    Ok(Question::Why {
+        image: value_of(matches, "IMAGE")?,
+        objects: objects_of(alloc, matches, apart)?,
+        raw: flag_of(matches, "raw") || flag_of(matches, "json"),
+    })
+}
+
+/// Returns the question what points to objects.
+fn refs<'a>(
+    alloc: Global,
+    matches: &ArgMatches<'a>,
+    apart: usize,
+) -> Result<Question<'a>, BadRequest<'a>> {
+    Ok(Question::Refs {
+        image: value_of(matches, "IMAGE")?,
+        objects: objects_of(alloc, matches, apart)?,
+    })
+}
+
+/// Returns the question what retains most.
+fn top<'a>(alloc: Global, matches: &ArgMatches<'a>) -> Result<Question<'a>, BadRequest<'a>> {
+    Ok(Question::Top {
+        image: value_of(matches, "IMAGE")?,
+        object: object_of(alloc, matches, "OBJECT")?,
+        options: top_options(matches)?,
+    })
+}
+
 /// Returns the question what changed between two images.
-fn difference<'a>(matches: &ArgMatches<'a>) -> Result<Question<'a>, BadRequest<'a>>
-    ensures { IfOk result IsDiff }
+fn diff<'a>(matches: &ArgMatches<'a>) -> Result<Question<'a>, BadRequest<'a>>
+    ensures { IfOk result (IsDiffOf (rows_of (found_of matches.now))) }
 {
     Ok(Question::Diff {
         old: value_of(matches, "OLD")?,
@@ -93,99 +159,90 @@ fn difference<'a>(matches: &ArgMatches<'a>) -> Result<Question<'a>, BadRequest<'
     })
 }
 
-/// Returns a question about the image that the matches name, if the question is one.
-fn about_image<'a>(
-    matches: &ArgMatches<'a>,
-    question: Result<NamedQuestion, BadRequest<'a>>,
-) -> Result<Question<'a>, BadRequest<'a>> {
-    let question = question?;
+/// Returns the question about code. Without words and options, that is the tree of all classes.
+fn code<'a>(alloc: Global, matches: &ArgMatches<'a>) -> Result<Question<'a>, BadRequest<'a>> {
     let image = value_of(matches, "IMAGE")?;
-    Ok(Question::About { image, question })
-}
-
-/// Returns the question how many objects each class has.
-fn census<'a>(alloc: Global, matches: &ArgMatches<'a>) -> Result<Question<'a>, BadRequest<'a>> {
-    let (counting, grouping) = (Counting::asked(matches), grouping_of(matches)?);
-    about_each(alloc, matches, EachQuestion::Census(counting, grouping))
-}
-
-/// Returns the question which instances a class has.
-fn listing<'a>(alloc: Global, matches: &ArgMatches<'a>) -> Result<NamedQuestion, BadRequest<'a>> {
-    Ok(NamedQuestion::List {
-        class: joined(alloc, &values_of(alloc, matches, "CLASS")?)?,
-        which: asked_instances(matches)?,
+    Ok(match object_of(alloc, matches, "CODE")? {
+        Some(object) => Question::Code { image, object },
+        None if flag_of(matches, "unsent") => Question::Unsent { image },
+        None if flag_of(matches, "unimplemented") => Question::Unimplemented { image },
+        None => Question::Classes { image },
     })
-}
-
-/// Returns the question what retains most.
-fn tree<'a>(alloc: Global, matches: &ArgMatches<'a>) -> Result<NamedQuestion, BadRequest<'a>> {
-    Ok(NamedQuestion::Top {
-        object: asked_root(alloc, matches)?,
-        options: top_options(matches)?,
-    })
-}
-
-/// Returns the question what keeps an object. JSON has each step of its path.
-fn why(matches: &ArgMatches<'_>) -> ObjectQuestion {
-    let raw = flag_of(matches, "raw") || flag_of(matches, "json");
-    ObjectQuestion::Why { raw }
-}
-
-/// Returns the request for a page. Without `--min`, all objects are on it.
-fn page(matches: &ArgMatches<'_>) -> NamedQuestion {
-    NamedQuestion::Explore {
-        min: matches.get_one("min"),
-    }
-}
-
-/// Returns the question about code.
-fn code<'a>(alloc: Global, matches: &ArgMatches<'a>) -> Result<NamedQuestion, BadRequest<'a>> {
-    Ok(NamedQuestion::Code(CodeQuestion::asked(alloc, matches)?))
 }
 
 /// Returns the question which methods send a selector.
-fn senders<'a>(alloc: Global, matches: &ArgMatches<'a>) -> Result<NamedQuestion, BadRequest<'a>> {
-    Ok(NamedQuestion::Senders(text_of(alloc, matches, "SELECTOR")?))
+fn senders<'a>(matches: &ArgMatches<'a>) -> Result<Question<'a>, BadRequest<'a>> {
+    Ok(Question::Senders {
+        image: value_of(matches, "IMAGE")?,
+        selector: selector_of(matches)?,
+    })
 }
 
 /// Returns the question which methods have a selector.
-fn implementors<'a>(
-    alloc: Global,
-    matches: &ArgMatches<'a>,
-) -> Result<NamedQuestion, BadRequest<'a>> {
-    Ok(NamedQuestion::Implementors(text_of(alloc, matches, "SELECTOR")?))
+fn implementors<'a>(matches: &ArgMatches<'a>) -> Result<Question<'a>, BadRequest<'a>> {
+    Ok(Question::Implementors {
+        image: value_of(matches, "IMAGE")?,
+        selector: selector_of(matches)?,
+    })
+}
+
+/// Returns the question which processes there are.
+fn stacks<'a>(matches: &ArgMatches<'a>) -> Result<Question<'a>, BadRequest<'a>> {
+    Ok(Question::Stacks {
+        image: value_of(matches, "IMAGE")?,
+    })
 }
 
 /// Returns the question which strings match a regular expression.
-fn strings<'a>(alloc: Global, matches: &ArgMatches<'a>) -> Result<NamedQuestion, BadRequest<'a>> {
-    Ok(NamedQuestion::Find(pattern_of(alloc, matches)?))
+fn find<'a>(alloc: Global, matches: &ArgMatches<'a>) -> Result<Question<'a>, BadRequest<'a>> {
+    Ok(Question::Find {
+        image: value_of(matches, "IMAGE")?,
+        pattern: pattern_of(alloc, matches)?,
+    })
 }
 
-/// Returns a question about each image that the matches name.
-fn about_each<'a>(
-    alloc: Global,
-    matches: &ArgMatches<'a>,
-    question: EachQuestion,
-) -> Result<Question<'a>, BadRequest<'a>> {
-    let images = values_of(alloc, matches, "IMAGE")?;
-    Ok(Question::Each { images, question })
+/// Returns the request for all live objects.
+fn dump<'a>(matches: &ArgMatches<'a>) -> Result<Question<'a>, BadRequest<'a>> {
+    Ok(Question::Dump {
+        image: value_of(matches, "IMAGE")?,
+    })
 }
 
-/// Returns a question about the objects that the matches name.
-fn about_objects<'a>(
+/// Returns the request for a page. Without `--min`, all objects are on it.
+fn explore<'a>(matches: &ArgMatches<'a>) -> Result<Question<'a>, BadRequest<'a>> {
+    Ok(Question::Explore {
+        image: value_of(matches, "IMAGE")?,
+        min: matches.get_one("min"),
+    })
+}
+
+/// Returns the selector that the matches have, with or without `#` before it.
+fn selector_of<'a>(matches: &ArgMatches<'a>) -> Result<&'a str, BadRequest<'a>> {
+    let word = value_of(matches, "SELECTOR")?;
+    Ok(word.strip_prefix("#").unwrap_or(word))
+}
+
+/// Returns the words of an argument, joined by spaces. None if there are none.
+fn object_of(
     alloc: Global,
-    matches: &ArgMatches<'a>,
+    matches: &ArgMatches<'_>,
+    id: &str,
+) -> Result<Option<String>, AllocError> {
+    let words = values_of(alloc, matches, id)?;
+    if words.is_empty() {
+        return Ok(None);
+    }
+    Ok(Some(joined(alloc, &words)?))
+}
+
+/// Returns the objects that the matches have: the words before `--` stand for one together, and
+/// each of the words that stand apart stands for one.
+fn objects_of(
+    alloc: Global,
+    matches: &ArgMatches<'_>,
     apart: usize,
-    question: ObjectQuestion,
-) -> Result<NamedQuestion, BadRequest<'a>> {
+) -> Result<Vec<String>, AllocError> {
     let words = values_of(alloc, matches, "OBJECT")?;
-    let objects = objects_of(alloc, &words, apart)?;
-    Ok(NamedQuestion::About(ObjectsAsked { objects, question }))
-}
-
-/// Returns the objects that words name: those before `--` name one together, and each of the words
-/// that stand apart names one.
-fn objects_of(alloc: Global, words: &[&str], apart: usize) -> Result<Vec<String>, AllocError> {
     let (together, others) = words.split_at(words.len() - apart.min(words.len()));
     let mut objects = Vec::new(alloc);
     if !together.is_empty() {
@@ -198,7 +255,7 @@ fn objects_of(alloc: Global, words: &[&str], apart: usize) -> Result<Vec<String>
 }
 
 /// Returns which instances are asked for.
-fn asked_instances<'a>(matches: &ArgMatches<'a>) -> Result<Instances, BadRequest<'a>> {
+fn instances_of<'a>(matches: &ArgMatches<'a>) -> Result<Instances, BadRequest<'a>> {
     let order = match matches.get_str("by") {
         Some(text) => match text.parse() {
             Ok(order) => order,
@@ -211,15 +268,6 @@ fn asked_instances<'a>(matches: &ArgMatches<'a>) -> Result<Instances, BadRequest
     } else {
         Instances::Live(order)
     })
-}
-
-/// Returns the object of the first row of a tree, if the matches name one.
-fn asked_root(alloc: Global, matches: &ArgMatches<'_>) -> Result<Option<String>, AllocError> {
-    let words = values_of(alloc, matches, "OBJECT")?;
-    if words.is_empty() {
-        return Ok(None);
-    }
-    Ok(Some(joined(alloc, &words)?))
 }
 
 /// Returns what is asked for of a tree.

@@ -42,6 +42,19 @@ impl Name {
     }
 }
 
+/// Returns whether the subcommand that a word stands for takes objects.
+pub fn takes_objects(word: &str) -> bool {
+    for subcommand in subcommands() {
+        if subcommand.word == word {
+            return subcommand
+                .arguments
+                .iter()
+                .any(|it| matches!(it, Argument::Object));
+        }
+    }
+    false
+}
+
 /// A subcommand: its name, the word that stands for it, what it says, its own arguments, and an
 /// example.
 #[derive(Clone, Copy)]

@@ -1,9 +1,9 @@
 //! The values of arguments.
 
-ghost use Rattle.std.specs.Prelude.{◌≡◌, IfOk};
+ghost use Rattle.std.specs.Prelude.{◌≡◌, IfOk, Some};
 ghost use Rattle.clap.specs.Walk.{texts};
 ghost use Rattle.clap.specs.Words.{found_of, rows_of};
-ghost use Rattle.sqz_look_args.specs.Requests.{given, has_flag};
+ghost use Rattle.sqz_look_args.specs.Requests.{first_given, given, has_flag};
 
 use crate::bad_request::BadRequest;
 use clap::ArgMatches;
@@ -15,20 +15,14 @@ use std::alloc::{AllocError, Global};
 pub(crate) fn value_of<'a>(
     matches: &ArgMatches<'a>,
     id: &'static str,
-) -> Result<&'a str, BadRequest<'a>> {
+) -> Result<&'a str, BadRequest<'a>>
+    ensures { IfOk result (λ value. first_given id.now (rows_of (found_of matches.now))
+        ≡ Some value.now) }
+{
     match matches.get_str(id) {
         Some(value) => Ok(value),
         None => Err(BadRequest::Missing(id)),
     }
-}
-
-/// Returns the value of a required argument as a text of its own.
-pub(crate) fn text_of<'a>(
-    alloc: Global,
-    matches: &ArgMatches<'a>,
-    id: &'static str,
-) -> Result<String, BadRequest<'a>> {
-    Ok(String::from_str(alloc, value_of(matches, id)?)?)
 }
 
 /// Returns the regular expression of a command line: for bytes, of which each is a character.

@@ -3,12 +3,12 @@
 ghost use Rattle.std.specs.Prelude.{◌<◌};
 ghost use Rattle.sqz_image.specs.Objects.{object_count};
 
+use sqz_damage::near_object;
 use sqz_facts::slot_facts;
 use sqz_image::{Sink, Slot};
 use sqz_look_view::Out;
 use sqz_names::name_of_class_of;
 use sqz_object::ObjectIndex;
-use sqz_places::near_object;
 use sqz_trace::ObjectGraph;
 use std::alloc::{AllocError, Global};
 

@@ -5,12 +5,11 @@ ghost use Rattle.sqz_image.specs.Objects.{object_count};
 ghost use Rattle.sqz_look_view.specs.Inspectors.{IsObjectOf};
 
 use crate::causes::{BadWord, Cause};
+use sqz_damage::{FaultPlace, fault_place};
 use sqz_image::{Fault, Sink, Slot};
-use sqz_look_path::add_path;
-use sqz_look_view::{Inspector, Out, SlotNames, Subject};
+use sqz_look_view::{Inspector, Out, SlotNames, Subject, add_path};
 use sqz_names::Label;
 use sqz_object::ObjectIndex;
-use sqz_places::{FaultPlace, fault_place};
 use sqz_trace::ObjectGraph;
 use std::alloc::{AllocError, Global};
 

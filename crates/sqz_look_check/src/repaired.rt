@@ -1,10 +1,8 @@
 //! What a repair of a file keeps and clears, and which words it writes anew.
 
-use sqz_dangling::{Becomes, Patch};
+use sqz_damage::{Becomes, Patch, RepairSummary, Repaired, byte_of_word};
 use sqz_image::{Header, Sink};
 use sqz_look_view::{Counted, Out};
-use sqz_places::byte_of_word;
-use sqz_repair::{RepairSummary, Repaired};
 use std::alloc::{AllocError, Global};
 
 /// The maximum number of words that are listed.

@@ -1,10 +1,8 @@
 //! What of a file was skipped.
 
-use sqz_damage::Gap;
+use sqz_damage::{Damage, Gap, GapPlace, bytes_in_gaps, gap_place};
 use sqz_image::{Header, Sink};
 use sqz_look_view::{Out, PrintError};
-use sqz_mend::Damage;
-use sqz_places::{GapPlace, bytes_in_gaps, gap_place};
 use std::alloc::{AllocError, Global};
 
 /// Returns the words that a file with this header lacks, if it is clear where they were lost.

@@ -6,12 +6,13 @@ use crate::causes::{Cause, FileKind};
 use crate::faults::FaultFacts;
 use crate::file_kinds::kind_of;
 use crate::skipped::{add_loss, place_of_loss};
+use sqz_damage::{
+    GapPlace, RecoverError, RepairSummary, bytes_in_gaps, image_in, mend_file, repair_summary,
+    unread_place,
+};
 use sqz_image::{Fault, Header, Sink, UnreadFile};
 use sqz_look_view::Out;
-use sqz_mend::{RecoverError, image_in, mend_file};
 use sqz_object::Address;
-use sqz_places::{GapPlace, bytes_in_gaps, unread_place};
-use sqz_repair::{RepairSummary, repair_summary};
 use sqz_trace::Weak;
 use std::alloc::{AllocError, Global};
 use std::thread::Threads;

@@ -6,12 +6,11 @@ ghost use Rattle.sqz_strict.specs.Warnings.{object_of};
 
 use crate::causes::{NearObject, add_near, near_text};
 use crate::skipped::add_gap;
-use sqz_damage::Gap;
+use sqz_damage::{Gap, gap_place};
 use sqz_image::{Image, Object, Sink, Slot};
 use sqz_look_view::{Counted, Out};
 use sqz_names::{name_of_class, name_of_class_of};
 use sqz_object::{ObjectIndex, base_of};
-use sqz_places::gap_place;
 use sqz_strict::{ClassShape, Findings, Warning};
 use sqz_trace::{ObjectGraph, class_address};
 use std::alloc::{AllocError, Global};

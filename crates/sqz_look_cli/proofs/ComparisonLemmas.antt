@@ -12,10 +12,10 @@ use Rattle.sqz_trace.specs.Reachability.{IsReachability}
 use Rattle.sqz_alike.specs.Seen.{seen}
 use Rattle.sqz_look_view.specs.declared.print_error.PrintError.{PrintError}
 use Rattle.sqz_look_view.specs.declared.print_error.PrintError.TheVariants as printing
-use Rattle.sqz_look_args.specs.declared.requests.Question.{Question}
-use Rattle.sqz_look_args.specs.declared.requests.Question.TheVariants.{Check, Mend, Each, Diff, About}
+use Rattle.sqz_look_args.specs.declared.question.Question.{Question}
+use Rattle.sqz_look_args.specs.declared.question.Question.TheVariants.{Diff}
 use Rattle.sqz_look_args.specs.declared.requests.Request.{Request}
-use Rattle.sqz_look_args.specs.Requests.{AsksChanges, IsDiff, has_flag, looks_past}
+use Rattle.sqz_look_args.specs.Requests.{AsksChanges, IsDiffOf, has_flag}
 use Rattle.sqz_look_files.specs.declared.failure.Failure.{Failure}
 use Rattle.sqz_look_files.specs.declared.failure.Failure.TheVariants.{OutOfMemory, NotPrinted, NotRead, NotReadAt, NotThere}
 use Rattle.sqz_look_files.specs.declared.session.ReadFile.TheVariants as read
@@ -34,11 +34,8 @@ IfNotThere-printing P printing.WriteFailed = tt
 
 -- a fact of a comparison follows from another one
 IfDiff-weaker : (question : Question) (P Q : Type 0) → (P → Q) → IfDiff question P → IfDiff question Q
-IfDiff-weaker (Check images all strict) P Q weaker holds = tt
-IfDiff-weaker (Mend image nil) P Q weaker holds = tt
-IfDiff-weaker (Each images question) P Q weaker holds = tt
 IfDiff-weaker (Diff old new) P Q weaker holds = weaker holds
-IfDiff-weaker (About image question) P Q weaker holds = tt
+IfDiff-weaker _ P Q weaker holds = tt
 
 -- the live objects of an image are seen so
 pub IsSeenAs-live : (weak : Weak) (image : SavedImage) (live : Live) → live.graph.heap.now ≡ image.memory → live.graph.weak ≡ weak
@@ -154,19 +151,16 @@ module _ {F : Type 0} (left : F → Option (List ℕ)) (weak : Weak) (past : Boo
   ])
 
 -- the question is what words with the subcommand `diff` ask
-IfDiff-asked : (question : Question) (P : Type 0) → IsDiff question → IfDiff question P → P
-IfDiff-asked (Check images all strict) P is holds = absurd is
-IfDiff-asked (Mend image nil) P is holds = absurd is
-IfDiff-asked (Each images question) P is holds = absurd is
-IfDiff-asked (Diff old new) P is holds = holds
-IfDiff-asked (About image question) P is holds = absurd is
+IfDiff-asked : (rows : List Row) (question : Question) (P : Type 0) → IsDiffOf rows question → IfDiff question P → P
+IfDiff-asked rows (Diff old new) P is holds = holds
+IfDiff-asked rows _ P is holds = absurd is
 
 -- the exit of a request, by the values of these words
 pub IsCompared-asked : {F : Type 0} (left : F → Option (List ℕ)) (rows : List Row) (request : Request) (exit : ℕ)
     → AsksChanges rows request
-    → IfDiff request.question (exit ≤ 1 → IsCompared left (weak_of request.clear_weak) (looks_past request) exit)
+    → IfDiff request.question (exit ≤ 1 → IsCompared left (weak_of request.clear_weak) request.past_damage exit)
     → exit ≤ 1 → IsCompared left (weak_of (has_flag (codes "clear-weak") rows)) (has_flag (codes "past-damage") rows) exit
 IsCompared-asked left rows request exit asks says low =
     subst (λ (clear : Bool). IsCompared left (weak_of clear) (has_flag (codes "past-damage") rows) exit) asks.clear_weak
     (subst (λ (past : Bool). IsCompared left (weak_of request.clear_weak) past exit) asks.past_damage
-    (IfDiff-asked request.question _ asks.question says low))
+    (IfDiff-asked rows request.question _ asks.question says low))

@@ -1,17 +1,29 @@
 -- How a question ends, by its outcome.
 -- Serves `printed`, `outcome_of` and `answer_request`.
-use Rattle.std.proofs.Common.{◌≡◌, ◌≢◌, ◌⊎◌, ◌∙◌, ◌≤◌, ℕ, Bool, List, Option, Result, Ok, Err, IfOk, OnOk}
-use Rattle.std.proofs.Common.{refl, sym, subst, inl, inr, arith}
+use Rattle.std.proofs.Common.{◌≡◌, ◌≢◌, ◌⊎◌, ◌∙◌, ◌≤◌, ◌||◌, ℕ, Bool, true, false, List, Option, Result, Ok, Err, IfOk, OnOk}
+use Rattle.std.proofs.Common.{length, codes, refl, sym, ap, subst, inl, inr, arith}
+use Rattle.std.specs.Prelude.{vec_len}
+use Rattle.std.specs.Borrow.{Bor}
+use Rattle.std.proofs.lemmas.List.{length-map}
+use Rattle.clap.specs.Words.{Row, Text}
 use Rattle.sqz_image.specs.Devices.{SinkState, WritesWhole}
 use Rattle.sqz_trace.specs.declared.weak.Weak.{Weak}
-use Rattle.sqz_look_args.specs.declared.requests.Question.{Question}
-use Rattle.sqz_look_args.specs.declared.requests.Question.TheVariants.{Check, Mend, Each, Diff, About}
+use Rattle.sqz_trace.specs.WeakSlots.{weak_of}
+use Rattle.sqz_look_args.specs.declared.question.Question.{Question}
+use Rattle.sqz_look_args.specs.declared.question.Question.TheVariants.{Check, Diff, Mend}
+use Rattle.sqz_look_args.specs.declared.requests.Request.{Request}
+use Rattle.sqz_look_args.specs.Requests.{AsksSoundness, IsCheckOf, given, has_flag}
 use Rattle.sqz_look_files.specs.declared.failure.Failure.{Failure}
 use Rattle.sqz_look_files.specs.declared.failure.Failure.TheVariants.{NotPrinted}
 use Rattle.sqz_look_files.specs.Verdicts.{AreChecked, EndsChecks}
-use Rattle.sqz_look_cli.specs.Endings.{IfCheck, IfMend, HasPassedOn}
+use Rattle.sqz_look_cli.specs.Comparison.{EndsComparison, IfDiff}
+use Rattle.sqz_look_cli.specs.Endings.{IfCheck, IfMend, HasPassedOn, looks_past}
 use Rattle.sqz_look_files.specs.Failures.{exit_of_failure, exit_of_outcome, IsAnswerExit}
 use Rattle.sqz_look_files.proofs.CheckLemmas.{exit_of_failure-range}
+
+or-false : (b : Bool) → (b || false) ≡ b
+or-false true = refl
+or-false false = refl
 
 -- the exit of an outcome is at most 4 and not 2
 pub exit_of_outcome-range : (outcome : Result ℕ Failure) → IfOk outcome IsAnswerExit
@@ -40,10 +52,7 @@ HasPassedOn-written (Err failure) old new text written = tt
 IfCheck-weaker : (question : Question) (P Q : Bool → ℕ → Type 0) → ((strict : Bool) (files : ℕ) → P strict files → Q strict files)
     → IfCheck question P → IfCheck question Q
 IfCheck-weaker (Check images all strict) P Q weaker holds = weaker _ _ holds
-IfCheck-weaker (Mend image nil) P Q weaker holds = tt
-IfCheck-weaker (Each images question) P Q weaker holds = tt
-IfCheck-weaker (Diff old new) P Q weaker holds = tt
-IfCheck-weaker (About image about) P Q weaker holds = tt
+IfCheck-weaker _ P Q weaker holds = tt
 
 -- the outcome after the rest of the answer was written, or could not be written
 module _ (answered outcome : Result ℕ Failure) (passed : (outcome ≡ answered) ⊎ (outcome ≡ Err NotPrinted)) where
@@ -83,11 +92,54 @@ pub silent_at_zero : (P : Type 0) (outcome : Result ℕ Failure) → IfOk outcom
 silent_at_zero P (Ok exit) silent zero = silent zero
 silent_at_zero P (Err failure) silent zero = let range = exit_of_failure-range failure in absurd (omega arith)
 
--- so is it of an image that is mended
+-- exit 0 of an image that is mended
 pub mended_at_zero : (question : Question) (P : Bool → Type 0) (outcome : Result ℕ Failure) (exit : ℕ) → exit ≡ exit_of_outcome outcome
     → IfMend question (λ nil. OnOk outcome (P nil)) → IfMend question (λ nil. exit ≡ 0 → P nil)
-mended_at_zero (Check images all strict) P outcome exit same written = tt
 mended_at_zero (Mend image nil) P outcome exit same written = λ zero. whole_at_zero (P nil) outcome written (sym same ∙ zero)
-mended_at_zero (Each images question) P outcome exit same written = tt
-mended_at_zero (Diff old new) P outcome exit same written = tt
-mended_at_zero (About image about) P outcome exit same written = tt
+mended_at_zero _ P outcome exit same written = tt
+
+-- to check images is not to mend one
+pub checked_past : {F : Type 0} (left : F → Option (List ℕ)) (weak : Weak) (question : Question) (past : Bool) (outcome : Result ℕ Failure)
+    → IfCheck question (λ strict files. EndsChecks left weak (looks_past question past) strict files outcome)
+    → IfCheck question (λ strict files. EndsChecks left weak past strict files outcome)
+checked_past left weak (Check images all strict) past outcome ends =
+    subst (λ (p : Bool). EndsChecks left weak p strict (vec_len images) outcome) (or-false past) ends
+checked_past left weak _ past outcome ends = tt
+
+-- nor is it to compare two
+pub compared_past : {F : Type 0} (left : F → Option (List ℕ)) (weak : Weak) (question : Question) (past : Bool) (outcome : Result ℕ Failure)
+    → IfDiff question (EndsComparison left weak (looks_past question past) outcome)
+    → IfDiff question (EndsComparison left weak past outcome)
+compared_past left weak (Diff old new) past outcome ends =
+    subst (λ (p : Bool). EndsComparison left weak p outcome) (or-false past) ends
+compared_past left weak _ past outcome ends = tt
+
+-- ---- what words with the subcommand `check` ask
+
+-- the exit of files, by the values of these words
+AreChecked-asked : {F : Type 0} (left : F → Option (List ℕ)) (rows : List Row) (question : Question) (weak : Weak) (past : Bool) (exit : ℕ)
+    → IsCheckOf rows question → IfCheck question (λ strict files. exit ≤ 1 → AreChecked left weak past strict files exit) → exit ≤ 1
+    → AreChecked left weak past (has_flag (codes "strict") rows) (length (given (codes "IMAGE") rows)) exit
+AreChecked-asked left rows (Check images all strict) weak past exit is says low =
+    let count : vec_len images ≡ length images.items = omega (arith, images.ok.0) in
+    let files : vec_len images ≡ length (given (codes "IMAGE") rows) =
+    count
+    ∙ (sym (length-map images.items (λ (s : Bor Text). s.now)) ∙ ap (λ (xs : List Text). length xs) is.0)
+    in
+    subst (λ (s : Bool). AreChecked left weak past s (length (given (codes "IMAGE") rows)) exit) is.2
+    (subst (λ (n : ℕ). AreChecked left weak past strict n exit) files (says low))
+AreChecked-asked left rows _ weak past exit is says low = absurd is
+
+-- so is that of a request
+pub AreChecked-request : {F : Type 0} (left : F → Option (List ℕ)) (rows : List Row) (request : Request) (exit : ℕ) → AsksSoundness rows request
+    → IfCheck request.question (λ strict files. exit ≤ 1
+    → AreChecked left (weak_of request.clear_weak) request.past_damage strict files exit)
+    → exit ≤ 1
+    → AreChecked left (weak_of (has_flag (codes "clear-weak") rows)) (has_flag (codes "past-damage") rows) (has_flag (codes "strict") rows)
+    (length (given (codes "IMAGE") rows)) exit
+AreChecked-request left rows request exit asks says low =
+    let strict = has_flag (codes "strict") rows in
+    let files = length (given (codes "IMAGE") rows) in
+    subst (λ (clear : Bool). AreChecked left (weak_of clear) (has_flag (codes "past-damage") rows) strict files exit) asks.clear_weak
+    (subst (λ (past : Bool). AreChecked left (weak_of request.clear_weak) past strict files exit) asks.past_damage
+    (AreChecked-asked left rows request.question (weak_of request.clear_weak) request.past_damage exit asks.question says low))

@@ -6,8 +6,8 @@ use Rattle.sqz_trace.specs.Faults.{first_fault}
 use Rattle.sqz_trace.specs.Reachability.{IsReachability}
 use Rattle.sqz_alike.specs.Alike.{AreAlike}
 use Rattle.sqz_alike.specs.Seen.{Seen}
-use Rattle.sqz_look_args.specs.declared.requests.Question.{Question}
-use Rattle.sqz_look_args.specs.declared.requests.Question.TheVariants.{Check, Mend, Each, Diff, About}
+use Rattle.sqz_look_args.specs.declared.question.Question.{Question}
+use Rattle.sqz_look_args.specs.declared.question.Question.TheVariants.{Diff}
 use Rattle.sqz_look_files.specs.Checks.{HoldsNone, ReadsSome}
 use Rattle.sqz_look_files.specs.Damaged.{IsImageOf, ReadsDamaged}
 use Rattle.sqz_look_files.specs.declared.failure.Failure.{Failure}
@@ -15,11 +15,8 @@ use Rattle.sqz_look_files.specs.declared.failure.Failure.TheVariants.{OutOfMemor
 
 -- a fact, if the question is what changed between two images
 abbrev pub IfDiff : Question → Type 0 → Type 0
-IfDiff (Check images all strict) P = Unit {0}
-IfDiff (Mend image nil) P = Unit {0}
-IfDiff (Each images question) P = Unit {0}
 IfDiff (Diff old new) P = P
-IfDiff (About image question) P = Unit {0}
+IfDiff _ P = Unit {0}
 
 -- an image as it is compared under a policy on weak slots: marked are its reachable objects
 pub record IsSeenAs (weak : Weak) (image : SavedImage) (seen : Seen) : Type 0 where

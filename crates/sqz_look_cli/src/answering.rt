@@ -9,14 +9,13 @@ ghost use Rattle.sqz_look_files.specs.Mending.{WritesMended};
 ghost use Rattle.sqz_look_files.specs.Warnings.{IsSilent};
 ghost use Rattle.sqz_look_cli.specs.Comparison.{EndsComparison, IfDiff, IsCompared};
 ghost use Rattle.sqz_look_cli.specs.Endings.{EndsAnswer, HasPassedOn, IfCheck, IfMend};
+ghost use Rattle.sqz_look_cli.specs.Endings.{is_mend, looks_past};
 ghost use Rattle.sqz_trace.specs.WeakSlots.{weak_of};
-ghost use Rattle.sqz_look_args.specs.Mends.{is_mend};
-ghost use Rattle.sqz_look_args.specs.Requests.{looks_past};
 
 use crate::answers::answer;
 use sqz_cli::DONE;
 use sqz_image::{Sink, write_all};
-use sqz_look_args::{NamedQuestion, Question, Request};
+use sqz_look_args::{Question, Request};
 use sqz_look_files::{Failure, Session, explain_failure, mend};
 use sqz_look_view::{Format, Out};
 use sqz_trace::Weak;
@@ -43,17 +42,17 @@ pub fn answer_request<T: Files + Threads + Sync, C: Sink, E: Sink>(
     ensures accepted { result ≢ 2 }
     ensures ends { EndsAnswer T.File.remaining request.now (C.state out.new) result }
     ensures check { IfCheck request.now.question (λ strict files. result ≤ 1
-        → AreChecked T.File.remaining (weak_of request.now.clear_weak) (looks_past request.now)
+        → AreChecked T.File.remaining (weak_of request.now.clear_weak) request.now.past_damage
         strict files result) }
     ensures compared { IfDiff request.now.question (result ≤ 1
-        → IsCompared T.File.remaining (weak_of request.now.clear_weak) (looks_past request.now)
+        → IsCompared T.File.remaining (weak_of request.now.clear_weak) request.now.past_damage
         result) }
     ensures mended { IfMend request.now.question (λ nil. result ≡ 0
         → WritesMended T.File.remaining (weak_of request.now.clear_weak) nil (C.state out.old)
         (C.state out.new)) }
     ensures whole { result ≡ 0 → HasPassedOn (C.state out.new) }
     ensures silent { result ≡ 0
-        → IsSilent T.File.remaining (weak_of request.now.clear_weak) (looks_past request.now)
+        → IsSilent T.File.remaining (weak_of request.now.clear_weak) (looks_past request.now.question request.now.past_damage)
         err.old err.new }
 {
     let weak = Weak::clear_if(request.clear_weak);
@@ -61,10 +60,10 @@ pub fn answer_request<T: Files + Threads + Sync, C: Sink, E: Sink>(
         rt,
         alloc,
         weak,
-        past_damage: request.looks_past_damage(),
+        past_damage: looks_past(request),
     };
     let outcome = outcome_of(&session, request, out, err);
-    finish(&outcome, request.image(), err)
+    finish(&outcome, request.image, err)
 }
 
 /// Answers a request, and returns the exit, or why there is no answer.
@@ -139,14 +138,12 @@ fn printed<T: Files + Threads + Sync, C: Sink, E: Sink>(
     let mut printed = Out::new(session.alloc, out, format);
     let answered = answer(session, question, &mut printed, err);
     let rest = printed.into_unwritten();
-    pass_on(answered, rest.as_str(), out)
+    pass_on(answered, &rest, out)
 }
 
-/// Returns the form in which the answer to a request is printed. A dump is always JSON, and a page
-/// is text.
+/// Returns the form in which the answer to a request is printed.
 fn format_of(request: &Request<'_>) -> Format {
-    let is_json = request.json && !is_page(&request.question);
-    if is_json || is_dump(&request.question) {
+    if request.json {
         Format::Json
     } else {
         Format::Text {
@@ -156,35 +153,28 @@ fn format_of(request: &Request<'_>) -> Format {
     }
 }
 
-/// Returns whether a question asks for a dump.
-fn is_dump(question: &Question<'_>) -> bool {
-    matches!(
-        question,
-        Question::About {
-            question: NamedQuestion::Dump,
-            ..
-        }
-    )
+/// Returns whether images are read past what cannot be read: if that is asked for, or if one is to
+/// be mended.
+fn looks_past(request: &Request<'_>) -> bool
+    ensures { result ≡ looks_past request.now.question request.now.past_damage }
+{
+    request.past_damage || is_mend(&request.question)
 }
 
-/// Returns whether a question asks for a page.
-fn is_page(question: &Question<'_>) -> bool {
-    matches!(
-        question,
-        Question::About {
-            question: NamedQuestion::Explore { .. },
-            ..
-        }
-    )
+/// Returns whether an image is to be mended.
+fn is_mend(question: &Question<'_>) -> bool
+    ensures { result ≡ is_mend question.now }
+{
+    matches!(question, Question::Mend { .. })
 }
 
 /// Writes the rest of an answer, if there is an answer, and then flushes. Returns how that ends.
-fn pass_on<C: Sink>(answered: Result<u8, Failure>, rest: &str, out: &mut C) -> Result<u8, Failure>
+fn pass_on<C: Sink>(answered: Result<u8, Failure>, rest: &[u8], out: &mut C) -> Result<u8, Failure>
     ensures outcome { (result ≡ answered) ⊎ (result ≡ Err NotPrinted) }
     ensures written { OnOk result (WritesWhole (C.state out.old) (C.state out.new) rest.now) }
 {
     match answered {
-        Ok(exit) => match write_all(out, rest.as_bytes()) {
+        Ok(exit) => match write_all(out, rest) {
             Ok(()) => Ok(exit),
             Err(_) => Err(Failure::NotPrinted),
         },

@@ -7,13 +7,24 @@ ghost use Rattle.sqz_look_files.specs.Warnings.{IsSilent};
 use sqz_cli::{BAD_IMAGE, DONE};
 use sqz_image::Sink;
 use sqz_look::{print_census, print_dead_census, print_retained_census};
-use sqz_look_args::{Counting, EachQuestion, Grouping};
+use sqz_look_args::{Counting, Grouping};
 use sqz_look_check::{print_digest, print_info, print_info_unreadable};
 use sqz_look_files::{Failure, ReadFile, Session, explain_failure, warn};
 use sqz_look_view::{Inspector, Out, PrintError};
 use std::io::Read;
 use std::rt::Files;
 use std::thread::Threads;
+
+/// What is asked about each of some images.
+#[derive(Clone, Copy)]
+pub(crate) enum EachQuestion {
+    /// The format, the size and the first fault.
+    Info,
+    /// A class histogram.
+    Census(Counting, Grouping),
+    /// The digest of the live objects.
+    Digest,
+}
 
 /// A file with an image that is asked about.
 #[derive(Clone, Copy)]

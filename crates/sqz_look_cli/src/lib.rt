@@ -3,13 +3,15 @@
 
 mod answering;
 mod answers;
-mod code;
 mod comparison;
 mod each;
 mod entry_point;
+mod images;
 mod lines;
 mod meant;
 mod objects;
+mod opening;
+mod page;
 mod quiet_pipe;
 mod words;
 

@@ -69,7 +69,7 @@ pub(crate) fn words_apart(words: &[String]) -> usize {
 /// Returns whether the subcommand takes objects.
 fn takes_objects(words: &[String]) -> bool {
     match words.get(1) {
-        Some(subcommand) => matches!(subcommand.as_str(), "show" | "why" | "refs"),
+        Some(subcommand) => sqz_look_args::takes_objects(subcommand.as_str()),
         None => false,
     }
 }

@@ -1,17 +1,17 @@
 //! Objects and classes that words stand for.
 
 ghost use Rattle.std.specs.Prelude.{◌≡◌, IfOk};
-ghost use Rattle.sqz_words.specs.declared.found.Found.TheVariants.{One};
-ghost use Rattle.sqz_words.specs.Found.{IsMissing};
-ghost use Rattle.sqz_words.specs.Words.{IsGroup, IsObject};
+ghost use Rattle.sqz_names.specs.declared.words.found.Found.TheVariants.{One};
+ghost use Rattle.sqz_names.specs.Found.{IsMissing};
+ghost use Rattle.sqz_names.specs.Words.{IsGroup, IsObject};
 ghost use Rattle.sqz_look_view.specs.Inspectors.{IsObjectOf};
 
 use sqz_histogram::Group;
 use sqz_look::missing_message;
 use sqz_look_files::Failure;
 use sqz_look_view::{Inspector, Shown};
+use sqz_names::{Found, Missing, find_class, find_object};
 use sqz_object::ObjectIndex;
-use sqz_words::{Found, Missing, find_class, find_object};
 use std::alloc::AllocError;
 
 /// Returns the object that words stand for.

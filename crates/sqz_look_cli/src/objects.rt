@@ -1,40 +1,60 @@
 //! Questions about objects.
 
 ghost use Rattle.std.specs.Prelude.{◌≡◌, ◌≤◌, IfOk};
+ghost use Rattle.sqz_look_files.specs.Warnings.{IsSilent};
 ghost use Rattle.sqz_look_view.specs.Inspectors.{IsObjectOf};
 
 use crate::meant::the_object;
+use crate::opening::open;
 use sqz_cli::{BAD_IMAGE, DONE};
 use sqz_image::Sink;
 use sqz_look::{print_refs, print_show, print_why};
-use sqz_look_args::{ObjectQuestion, ObjectsAsked};
-use sqz_look_files::{Failure, print_message};
+use sqz_look_files::{Failure, Session, print_message};
 use sqz_look_view::{Inspector, Out, PrintError};
 use sqz_object::ObjectIndex;
+use std::io::Read;
+use std::rt::Files;
+use std::thread::Threads;
+
+/// What is asked about each of some objects.
+#[derive(Clone, Copy)]
+pub(crate) enum ObjectQuestion {
+    /// What it is, and what its slots hold.
+    Show,
+    /// A shortest path to it; each step if `raw`.
+    Why { raw: bool },
+    /// The live objects that point to it.
+    Refs,
+}
 
 /// Prints the answer to a question about each of some objects in the image of a file, with an empty
 /// line between two, and returns the exit: 1 if one of them is not there. A line on `err` says so,
 /// and the next one has its answer all the same.
-pub(crate) fn answer_about_objects<C: Sink, E: Sink>(
-    inspector: &Inspector<'_>,
+pub(crate) fn answer_about_objects<T: Files + Threads + Sync, C: Sink, E: Sink>(
+    session: &Session<'_, T>,
     path: &str,
-    asked: &ObjectsAsked,
+    objects: &[String],
+    question: ObjectQuestion,
     out: &mut Out<'_, C>,
     err: &mut E,
 ) -> Result<u8, Failure>
     ensures exit { IfOk result (λ exit. exit ≤ BAD_IMAGE) }
-    ensures silent { IfOk result (λ exit. exit ≡ 0 → err.new ≡ err.old) }
+    ensures silent { IfOk result (λ exit. exit ≡ 0
+        → IsSilent T.File.remaining session.now.weak session.now.past_damage
+        err.old err.new) }
 {
+    let mut slot = None;
+    let inspector = open(session, path, &mut slot, out, err)?;
     let mut exit = DONE;
     let mut is_first = true;
-    for words in &asked.objects {
-        match the_object(inspector, words.as_str()) {
+    for words in objects {
+        match the_object(&inspector, words.as_str()) {
             Ok(object) => {
                 if !is_first {
                     out.heading("");
                 }
                 is_first = false;
-                print_about(inspector, object, asked.question, out)?;
+                print_about(&inspector, object, question, out)?;
             }
             Err(Failure::NotThere(message)) => {
                 print_message(Some(path), message.as_str(), err);

@@ -4,9 +4,9 @@ ghost use Rattle.sqz_look_view.specs.Inspectors.{IsObjectOf};
 
 use crate::live_methods::live_methods;
 use sqz_image::Sink;
-use sqz_look_view::{Categories, Inspector, Out, PrintError, field_of};
-use sqz_names::MethodName;
+use sqz_look_view::{Inspector, Out, PrintError, field_of};
 use sqz_names::fields::{INSTANCE_VARIABLES, NAME, SUPERCLASS};
+use sqz_names::{Categories, MethodName};
 use sqz_object::ObjectIndex;
 use std::alloc::AllocError;
 use std::collections::BTreeMap;

@@ -3,6 +3,7 @@
 ghost use Rattle.sqz_look_view.specs.Inspectors.{IsObjectOf};
 
 use crate::live_methods::live_methods;
+use sqz_histogram::{Group, histogram};
 use sqz_image::Sink;
 use sqz_look_view::{Inspector, Out, PrintError, field_of};
 use sqz_names::Label;
@@ -10,6 +11,7 @@ use sqz_names::fields::SUPERCLASS;
 use sqz_object::ObjectIndex;
 use std::alloc::{AllocError, Global};
 use std::collections::BTreeMap;
+use std::thread::Threads;
 
 /// The maximum number of levels by which a class is indented.
 const MOST_INDENTED: usize = 30;
@@ -68,24 +70,28 @@ fn count_methods(inspector: &Inspector<'_>) -> Result<Counts, AllocError> {
     Ok(methods)
 }
 
-/// Returns the number of live instances of each class.
-fn count_instances(inspector: &Inspector<'_>) -> Result<Counts, AllocError> {
-    let graph = inspector.live.graph;
+/// Returns the number of live instances of each class: those of the class histogram.
+fn count_instances(
+    rt: &(impl Threads + Sync),
+    inspector: &Inspector<'_>,
+) -> Result<Counts, AllocError> {
+    let live = &inspector.live;
     let mut instances = Counts::none(inspector.alloc);
-    for object in 0..graph.heap.len() {
-        if inspector.live.marks.has(object)
-            && let Some(class) = graph.class_of(object)
-        {
-            instances.add(class)?;
+    for total in &histogram(rt, inspector.alloc, live.graph, &live.marks)? {
+        if let Group::Class(class) = total.group {
+            instances.numbers.insert(class, total.count)?;
         }
     }
     Ok(instances)
 }
 
 /// Returns the live classes that are no metaclasses, by name.
-fn classes_of(inspector: &Inspector<'_>) -> Result<Classes, AllocError> {
+fn classes_of(
+    rt: &(impl Threads + Sync),
+    inspector: &Inspector<'_>,
+) -> Result<Classes, AllocError> {
     let methods = count_methods(inspector)?;
-    let instances = count_instances(inspector)?;
+    let instances = count_instances(rt, inspector)?;
     let mut classes = BTreeMap::new(inspector.alloc);
     for object in 0..inspector.live.graph.heap.len() {
         if inspector.live.marks.has(object) {
@@ -260,10 +266,11 @@ fn link(links: &[Option<usize>], place: usize) -> Option<usize> {
 /// Prints the live classes that are no metaclasses as a tree, those below one class by name, with
 /// the numbers of their live methods and instances.
 pub fn print_class_tree<C: Sink>(
+    rt: &(impl Threads + Sync),
     inspector: &Inspector<'_>,
     out: &mut Out<'_, C>,
 ) -> Result<(), PrintError> {
-    let named = classes_of(inspector)?;
+    let named = classes_of(rt, inspector)?;
     print_tree(inspector.alloc, &named, out)
 }
 

@@ -3,10 +3,10 @@
 ghost use Rattle.std.specs.Prelude.{IfSome};
 ghost use Rattle.sqz_look_view.specs.Inspectors.{IsObjectOf};
 
+use sqz_code::{Receiver, frame_of};
 use sqz_image::Sink;
 use sqz_look_view::{Inspector, Out};
 use sqz_object::ObjectIndex;
-use sqz_stacks::{Receiver, frame_of};
 use std::alloc::AllocError;
 
 /// Prints a context: its method, whether it is the context of a block of it, the program counter

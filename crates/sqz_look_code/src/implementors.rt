@@ -3,9 +3,9 @@
 use crate::live_methods::live_methods;
 use crate::method_row::print_methods;
 use crate::selectors::selectors_with;
+use sqz_code::implementors_of;
 use sqz_image::Sink;
 use sqz_look_view::{Inspector, Out, PrintError};
-use sqz_selectors::implementors_of;
 
 /// Prints the live methods with a selector.
 pub fn print_implementors<C: Sink>(

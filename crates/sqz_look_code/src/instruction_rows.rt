@@ -2,10 +2,9 @@
 
 use crate::blocks::{after, end_of};
 use crate::operands::Operands;
-use sqz_code::{Distance, Instruction, Operation, Returned};
+use sqz_code::{Distance, Instruction, MethodParts, Operation, Returned};
 use sqz_image::Sink;
 use sqz_look_view::Out;
-use sqz_methods::MethodParts;
 use std::alloc::{AllocError, Global};
 use std::fmt::Write;
 
@@ -67,7 +66,7 @@ pub(crate) fn print_instruction<C: Sink>(
     out: &mut Out<'_, C>,
 ) -> Result<(), AllocError> {
     let said = said_of(operands, instruction)?;
-    let first = u64::from(parts.code_start).saturating_add(1);
+    let first = u64::from(parts.code_start) + 1;
     out.number("pc", first.saturating_add(instruction.start as u64));
     out.text("bytes", hexadecimal(alloc, &parts.bytecodes, instruction));
     out.word("operation", said.operation);

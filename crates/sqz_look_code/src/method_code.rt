@@ -5,9 +5,9 @@ ghost use Rattle.sqz_look_view.specs.Inspectors.{IsObjectOf};
 use crate::blocks::block_depths;
 use crate::instruction_rows::print_instruction;
 use crate::operands::Operands;
+use sqz_code::{MethodCode, code_of};
 use sqz_image::Sink;
 use sqz_look_view::{Inspector, Out, PrintError, add_method_header};
-use sqz_methods::{MethodCode, code_of};
 use sqz_object::ObjectIndex;
 use std::alloc::{AllocError, Global};
 
@@ -41,7 +41,7 @@ fn print_literals<C: Sink>(operands: &Operands, out: &mut Out<'_, C>) {
         return;
     }
     for (index, literal) in operands.literals.iter().enumerate() {
-        out.count("number", index.saturating_add(1));
+        out.count("number", index + 1);
         out.word("literal", literal.as_str());
         out.part("literal {number:<4} {literal}");
     }

@@ -3,9 +3,8 @@
 ghost use Rattle.sqz_look_view.specs.Inspectors.{IsObjectOf};
 
 use crate::special_selectors::special_name;
-use sqz_code::{Source, Target};
+use sqz_code::{Source, Target, method_literals};
 use sqz_look_view::{Inspector, object_at, value_text};
-use sqz_methods::method_literals;
 use sqz_names::Label;
 use sqz_object::{ObjectIndex, Value, value_of};
 use std::alloc::{AllocError, Global};

@@ -2,10 +2,10 @@
 
 ghost use Rattle.sqz_look_view.specs.Inspectors.{IsObjectOf};
 
+use sqz_code::{marked_selectors, spelled};
 use sqz_look_view::Inspector;
 use sqz_names::MethodName;
 use sqz_object::ObjectIndex;
-use sqz_selectors::{marked_selectors, spelled};
 use sqz_trace::Marks;
 use std::alloc::AllocError;
 

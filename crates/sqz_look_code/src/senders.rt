@@ -3,9 +3,9 @@
 use crate::live_methods::{distinct_methods, live_methods};
 use crate::method_row::print_methods;
 use crate::selectors::selectors_with;
+use sqz_code::senders_of;
 use sqz_image::Sink;
 use sqz_look_view::{Inspector, Out, PrintError};
-use sqz_selectors::senders_of;
 
 /// Prints the live methods that send a selector, also to `super`, or have it as a literal.
 pub fn print_senders<C: Sink>(

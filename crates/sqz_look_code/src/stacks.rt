@@ -2,14 +2,14 @@
 
 ghost use Rattle.std.specs.Prelude.{◌≡◌, length, All};
 ghost use Rattle.sqz_image.specs.Objects.{object_count};
-ghost use Rattle.sqz_stacks.specs.Processes.{WaitsBelow};
+ghost use Rattle.sqz_code.specs.Processes.{WaitsBelow};
 ghost use Rattle.sqz_look_view.specs.Inspectors.{IsObjectOf};
 
 use crate::contexts::print_context;
+use sqz_code::{State, innermost_of, priority_of, processes_of, stack_from, state_of};
 use sqz_image::Sink;
 use sqz_look_view::{Inspector, Out, PrintError};
 use sqz_object::ObjectIndex;
-use sqz_stacks::{State, innermost_of, priority_of, processes_of, stack_from, state_of};
 use std::alloc::AllocError;
 
 /// Prints the processes, by address, with their contexts, the innermost first. A context is listed

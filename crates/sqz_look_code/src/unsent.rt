@@ -6,10 +6,10 @@ ghost use Rattle.sqz_look_view.specs.Inspectors.{IsObjectOf};
 
 use crate::live_methods::{distinct_methods, live_methods};
 use crate::method_row::{MethodRow, print_methods};
+use sqz_code::{Unimplemented, mark_mentioned, marked_selectors, unimplemented_of, unsent_of};
 use sqz_image::Sink;
 use sqz_look_view::{Counted, Inspector, Out, PrintError};
 use sqz_object::{Layout, ObjectIndex};
-use sqz_selectors::{Unimplemented, mark_mentioned, marked_selectors, unimplemented_of, unsent_of};
 use std::alloc::{AllocError, Global};
 use std::collections::BTreeMap;
 

@@ -9,7 +9,7 @@ use Rattle.sqz_alike.specs.Seen.{seen}
 use Rattle.sqz_dominators.specs.declared.shares.SharedDominators.{SharedDominators}
 use Rattle.sqz_dominators.specs.Retained.{AreDominators}
 use Rattle.sqz_dominators.specs.Shares.{AreShares}
-use Rattle.sqz_match.specs.NewObjects.{AreNew}
+use Rattle.sqz_alike.specs.NewObjects.{AreNew}
 use Rattle.sqz_look_diff.specs.declared.matched.Matched.{Matched}
 
 -- the pairs of a walk, from some objects with equal names and with some numbers for objects

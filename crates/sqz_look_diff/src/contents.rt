@@ -4,9 +4,9 @@ ghost use Rattle.sqz_look_view.specs.Inspectors.{IsObjectOf};
 
 use crate::literal_numbers::{LiteralNumbers, object_in};
 use crate::numbers::Numbers;
+use sqz_code::{method_literals, method_parts};
 use sqz_image::Heap;
 use sqz_look_view::Inspector;
-use sqz_methods::{method_literals, method_parts};
 use sqz_object::ObjectIndex;
 use std::alloc::{AllocError, Global};
 use std::collections::BTreeMap;

@@ -15,12 +15,11 @@ use crate::methods::MethodChanges;
 use crate::rows::{print_class, print_method, print_total, print_value, print_variable};
 use crate::values::ValueChange;
 use crate::variables::VariableChanges;
-use sqz_alike::{Alikeness, compare};
+use sqz_alike::{Alikeness, Holder, compare, objects_of};
 use sqz_answers::{Change, Size};
+use sqz_facts::first_referrers_of;
 use sqz_image::Sink;
 use sqz_look_view::{Inspector, Out, PrintError, SlotNames};
-use sqz_match::{Holder, objects_of};
-use sqz_referrers::first_referrers_of;
 use std::alloc::{AllocError, Global};
 use std::thread::Threads;
 

@@ -10,10 +10,10 @@ use crate::matched::Matched;
 use crate::methods::{MethodChanges, method_changes};
 use crate::read_names::ReadNames;
 use crate::variables::{VariableChanges, variable_changes};
+use sqz_alike::Holder;
 use sqz_answers::{Change, Size};
 use sqz_facts::marked_bytes;
 use sqz_look_view::Inspector;
-use sqz_match::Holder;
 use std::alloc::AllocError;
 use std::thread::Threads;
 

@@ -3,8 +3,7 @@
 ghost use Rattle.sqz_look_view.specs.Inspectors.{IsObjectOf};
 
 use sqz_image::Sink;
-use sqz_look_path::add_path;
-use sqz_look_view::{Inspector, Out};
+use sqz_look_view::{Inspector, Out, add_path};
 use sqz_object::ObjectIndex;
 use std::alloc::AllocError;
 

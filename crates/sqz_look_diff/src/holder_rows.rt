@@ -2,15 +2,14 @@
 
 ghost use Rattle.std.specs.Prelude.{IfSome};
 ghost use Rattle.sqz_image.specs.Objects.{object_count};
-ghost use Rattle.sqz_referrers.specs.FirstReferrers.{AreInside};
+ghost use Rattle.sqz_facts.specs.FirstReferrers.{AreInside};
 ghost use Rattle.sqz_look_view.specs.Inspectors.{IsObjectOf};
 
+use sqz_alike::Holder;
 use sqz_answers::bytes_or_none;
-use sqz_facts::Referrer;
+use sqz_facts::{FirstReferrers, Referrer};
 use sqz_image::Sink;
 use sqz_look_view::{Inspector, Out, SlotNames};
-use sqz_match::Holder;
-use sqz_referrers::FirstReferrers;
 use std::alloc::AllocError;
 
 /// Prints an object without a name that retains more, or is new, with the first references to it.

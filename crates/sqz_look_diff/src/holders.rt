@@ -4,8 +4,8 @@ ghost use Rattle.std.specs.Prelude.{◌<◌, All, IfOk};
 ghost use Rattle.sqz_image.specs.Objects.{object_count};
 
 use crate::matched::Matched;
+use sqz_alike::{Growth, Holder, find_holders};
 use sqz_look_view::Inspector;
-use sqz_match::{Growth, Holder, find_holders};
 use sqz_names::Label;
 use sqz_object::ObjectIndex;
 use sqz_trace::Marks;

@@ -6,10 +6,9 @@ ghost use Rattle.sqz_look_diff.specs.Matched.{AreMatched, ArePartners, AreShares
 use crate::kinds::kinds_of;
 use crate::named_objects::named_pairs;
 use crate::read_names::ReadNames;
-use sqz_alike::{Matching, Pair, Sides, partners_of};
+use sqz_alike::{Matching, Pair, Sides, mark_new, partners_of};
 use sqz_dominators::{Dominators, SharedDominators, dominators_of, dominators_with};
 use sqz_look_view::Inspector;
-use sqz_match::mark_new;
 use std::alloc::AllocError;
 
 /// The partners of the objects of two images, and what the objects retain.

@@ -7,7 +7,8 @@ ghost use Rattle.sqz_look_view.specs.Inspectors.{IsObjectOf};
 
 use sqz_answers::RetainedTotal;
 use sqz_histogram::Group;
-use sqz_look_view::{Counter, Inspector};
+use sqz_look_view::Inspector;
+use sqz_names::Counter;
 use sqz_object::ObjectIndex;
 use std::alloc::AllocError;
 use std::collections::BTreeMap;
@@ -28,7 +29,7 @@ impl Counters {
         let mut by_class = BTreeMap::new(inspector.alloc);
         for row in rows {
             if let Group::Class(class) = row.total.group {
-                by_class.insert(class, Counter::in_class(inspector, class)?)?;
+                by_class.insert(class, Counter::in_class(&inspector.names, class)?)?;
             }
         }
         Ok(Counters { by_class })
@@ -42,6 +43,8 @@ impl Counters {
             Some(class) => self.by_class.get(&class).copied(),
             None => None,
         };
-        counter.unwrap_or(Counter::Fields).count(inspector, object)
+        counter
+            .unwrap_or(Counter::Fields)
+            .count(&inspector.names, object)
     }
 }

@@ -4,13 +4,14 @@ use crate::classes::add_classes;
 use crate::counters::Counters;
 use crate::head::add_head;
 use crate::objects::{Measures, add_objects};
+use crate::page::PAGE;
 use crate::page_out::PageOut;
 use crate::shown::shown_objects;
 use sqz_answers::retained_histogram;
 use sqz_dominators::dominators_of;
 use sqz_image::Sink;
-use sqz_look_page::PAGE;
-use sqz_look_view::{Categories, Inspector, Out, PrintError};
+use sqz_look_view::{Inspector, Out, PrintError};
+use sqz_names::Categories;
 use std::thread::Threads;
 
 /// What a page says about the file of an image.

@@ -7,6 +7,7 @@ mod counters;
 mod explore;
 mod head;
 mod objects;
+mod page;
 mod page_out;
 mod places;
 mod shown;

@@ -7,12 +7,12 @@ use crate::counters::Counters;
 use crate::page_out::PageOut;
 use crate::places::{offset_of, place_of};
 use sqz_answers::{ShownSlot, slot_at, slot_count};
+use sqz_code::method_parts;
 use sqz_dominators::Dominators;
 use sqz_facts::{Held, ObjectFacts, object_facts};
 use sqz_histogram::first_bytes;
 use sqz_image::{Sink, Slot};
 use sqz_look_view::{Hex, Inspector, Out, value_text};
-use sqz_methods::method_parts;
 use sqz_names::{Label, escaped};
 use sqz_object::{Layout, ObjectIndex};
 use std::alloc::AllocError;
@@ -168,7 +168,7 @@ fn add_slot(inspector: &Inspector<'_>, shown: ShownSlot, page: &mut PageOut) {
     let word = shown.facts.word;
     match shown.facts.held {
         Held::Integer(number) => {
-            page.number(i64::from(number).saturating_mul(2).saturating_add(1));
+            page.number(i64::from(number) * 2 + 1);
         }
         Held::Pointer(_) => page.number(i64::from(offset_of(inspector, word) / 2)),
         Held::Weak(_) => {

@@ -7,11 +7,11 @@ use Rattle.sqz_image.specs.Refusals.{Holds}
 use Rattle.sqz_image.specs.Unread.{IsUnread}
 use Rattle.sqz_trace.specs.declared.weak.Weak.{Weak}
 use Rattle.sqz_damage.specs.declared.gap.Gap.{Gap}
-use Rattle.sqz_mend.specs.declared.damage.Damage.{Damage}
-use Rattle.sqz_mend.specs.declared.recovery.MendedFile.{MendedFile}
-use Rattle.sqz_mend.specs.declared.recovery.Recovered.{Recovered}
-use Rattle.sqz_mend.specs.Damaged.{IsNone}
-use Rattle.sqz_mend.specs.Recovery.{IsMendedFile, IsNotRecovered}
+use Rattle.sqz_damage.specs.declared.mend.damage.Damage.{Damage}
+use Rattle.sqz_damage.specs.declared.mend.recovery.MendedFile.{MendedFile}
+use Rattle.sqz_damage.specs.declared.mend.recovery.Recovered.{Recovered}
+use Rattle.sqz_damage.specs.Damaged.{IsNone}
+use Rattle.sqz_damage.specs.Recovery.{IsMendedFile, IsNotRecovered}
 use Rattle.sqz_look_files.specs.declared.loading.Loaded.TheVariants as whole
 use Rattle.sqz_look_files.specs.declared.loading.LoadedPast.TheVariants as past
 use Rattle.sqz_look_files.specs.Checks.{HoldsNone, IsLoaded, ReadsFile, ReadsSome}

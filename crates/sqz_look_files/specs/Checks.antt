@@ -7,7 +7,7 @@ use Rattle.sqz_image.specs.Objects.{SavedImage}
 use Rattle.sqz_image.specs.Refusals.{Holds, IsUnreadable}
 use Rattle.sqz_trace.specs.declared.weak.Weak.{Weak}
 use Rattle.sqz_trace.specs.Reachability.{IsReachability}
-use Rattle.sqz_mend.specs.Soundness.{HasFirstFault, IsSound}
+use Rattle.sqz_damage.specs.Soundness.{HasFirstFault, IsSound}
 use Rattle.sqz_look_check.specs.Warned.{HasFindings}
 use Rattle.sqz_look_files.specs.declared.loading.Loaded.{Loaded}
 use Rattle.sqz_look_files.specs.declared.loading.Loaded.TheVariants.{Image, Unreadable}

@@ -4,10 +4,10 @@ use Rattle.sqz_image.specs.declared.header.Header.{Header}
 use Rattle.sqz_image.specs.Objects.{SavedImage}
 use Rattle.sqz_image.specs.Refusals.{Holds}
 use Rattle.sqz_trace.specs.declared.weak.Weak.{Weak}
-use Rattle.sqz_mend.specs.declared.damage.Damage.{Damage}
-use Rattle.sqz_mend.specs.declared.recovery.Recovered.{Recovered}
-use Rattle.sqz_mend.specs.Damaged.{HasSoundWords, IsDamageOf, IsNone}
-use Rattle.sqz_mend.specs.Recovery.{IsRecovered}
+use Rattle.sqz_damage.specs.declared.mend.damage.Damage.{Damage}
+use Rattle.sqz_damage.specs.declared.mend.recovery.Recovered.{Recovered}
+use Rattle.sqz_damage.specs.Damaged.{HasSoundWords, IsDamageOf, IsNone}
+use Rattle.sqz_damage.specs.Recovery.{IsRecovered}
 use Rattle.sqz_look_files.specs.declared.loading.Loaded.TheVariants as loaded
 use Rattle.sqz_look_files.specs.declared.loading.LoadedPast.{LoadedPast}
 use Rattle.sqz_look_files.specs.declared.loading.LoadedPast.TheVariants as past

@@ -2,10 +2,10 @@
 use Rattle.std.specs.Prelude.{◌≡◌, ◌≢◌, ℕ, Bool, true, false, List, [], Option}
 use Rattle.sqz_image.specs.Devices.{SinkState, WritesWhole}
 use Rattle.sqz_trace.specs.declared.weak.Weak.{Weak}
-use Rattle.sqz_mend.specs.declared.recovery.MendedFile.{MendedFile}
-use Rattle.sqz_mend.specs.Recovery.{IsMendedFile}
-use Rattle.sqz_repair.specs.declared.repairing.Repaired.{Repaired}
-use Rattle.sqz_repair.specs.Repairs.{IsRepaired}
+use Rattle.sqz_damage.specs.declared.mend.recovery.MendedFile.{MendedFile}
+use Rattle.sqz_damage.specs.Recovery.{IsMendedFile}
+use Rattle.sqz_damage.specs.declared.repaired.repairing.Repaired.{Repaired}
+use Rattle.sqz_damage.specs.Repairs.{IsRepaired}
 use Rattle.sqz_look_files.specs.Checks.{ReadsFile}
 
 -- the bytes of a mended file after its pointers that lead nowhere became nil

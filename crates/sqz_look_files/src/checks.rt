@@ -6,12 +6,12 @@ ghost use Rattle.sqz_look_files.specs.Verdicts.{EndsChecks, IsChecked, IsImageEx
 use crate::failure::Failure;
 use crate::session::{ReadFile, Session};
 use sqz_cli::{BAD_IMAGE, DEVICE_FAILED, DONE};
+use sqz_damage::{RepairSummary, summary_of};
 use sqz_image::Sink;
 use sqz_look_check::{
     CheckOptions, print_check, print_check_missing, print_check_too_large, print_check_unreadable,
 };
 use sqz_look_view::{Out, PrintError, Subject};
-use sqz_repair::{RepairSummary, summary_of};
 use sqz_trace::first_fault;
 use std::alloc::AllocError;
 use std::io::Read;

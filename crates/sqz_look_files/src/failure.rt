@@ -5,9 +5,9 @@ ghost use Rattle.sqz_look_files.specs.Failures.{IsReadFailure, failure_of_printi
 ghost use Rattle.sqz_look_files.specs.declared.failure.Failure.TheVariants.{OutOfMemory};
 
 use crate::loading::LoadError;
+use sqz_damage::RepairError;
 use sqz_look_check::ReadFailure;
 use sqz_look_view::PrintError;
-use sqz_repair::RepairError;
 use std::alloc::{AllocError, Global};
 
 /// Why a question has no answer.

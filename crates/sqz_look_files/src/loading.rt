@@ -5,9 +5,9 @@ ghost use Rattle.sqz_image.specs.Unread.{IsUnread};
 ghost use Rattle.sqz_look_files.specs.Checks.{IsHeldBy, IsLoaded, ReadsFile};
 ghost use Rattle.sqz_look_files.specs.Damaged.{IsHeldPast, IsLoadedPast};
 
+use sqz_damage::{RecoverError, Recovered, recover};
 use sqz_image::{Fault, Image, ReadSource, UnreadFile, image_or_file, read_image_bytes};
 use sqz_look_check::{ReadFailure, Unreadable};
-use sqz_mend::{RecoverError, Recovered, recover};
 use sqz_trace::Weak;
 use std::alloc::{AllocError, Global};
 use std::fs::{File, OpenFile};

@@ -1,5 +1,5 @@
 -- What contracts see of an output, and how many rows of a list it prints.
-use Rattle.std.specs.Prelude.{ℕ, min, Bool, false, not, if◌then◌else◌, List, string_bytes}
+use Rattle.std.specs.Prelude.{ℕ, min, Bool, false, not, if◌then◌else◌, List}
 use Rattle.sqz_look_view.specs.declared.out.Format.{Format}
 use Rattle.sqz_look_view.specs.declared.out.Format.TheVariants.{Text, Json}
 use Rattle.sqz_look_view.specs.declared.out.Out.{Out}
@@ -12,9 +12,9 @@ format_of out = out.format
 abbrev pub sink_of : {C : Type 0} → Out C → C
 sink_of out = out.sink.now
 
--- the text that was printed and is not yet written to the sink
+-- what was printed and is not yet written to the sink
 abbrev pub unwritten : {C : Type 0} → Out C → List ℕ
-unwritten out = string_bytes out.text
+unwritten out = out.text.items
 
 -- whether long lists are cut
 abbrev pub is_cut : Format → Bool

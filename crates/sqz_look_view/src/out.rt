@@ -1,6 +1,6 @@
 //! Where answers are printed.
 
-ghost use Rattle.std.specs.Prelude.{◌≡◌, ◌≤◌, [], string_bytes, OnOk, OnErr};
+ghost use Rattle.std.specs.Prelude.{◌≡◌, ◌≤◌, ◌++◌, [], OnOk, OnErr};
 ghost use Rattle.sqz_image.specs.declared.fault.Fault.TheVariants as faults;
 ghost use Rattle.sqz_image.specs.Devices.{WritesWhole, WriteStops};
 ghost use Rattle.sqz_look_view.specs.Out.{format_of, is_cut, shown_rows, sink_of, unwritten};
@@ -9,7 +9,7 @@ use crate::cell::Cell;
 use crate::json_row::JsonRow;
 use crate::print_error::PrintError;
 use sqz_image::{Sink, write_all};
-use std::alloc::Global;
+use std::alloc::{AllocError, Global};
 
 /// The maximum number of rows of a list in the text form, unless all are requested.
 const MOST_ROWS: u32 = 20;
@@ -33,14 +33,17 @@ pub struct Out<'a, C> {
     pub(crate) alloc: Global,
     sink: &'a mut C,
     pub(crate) format: Format,
-    pub(crate) text: String,
+    /// What was printed and is not yet written.
+    pub(crate) text: Vec<u8>,
     /// The row in the JSON form.
     pub(crate) row: JsonRow,
     /// The lines of the row in the text form.
     pub(crate) lines: String,
     /// The cells of the row in the text form.
     pub(crate) cells: Vec<Cell>,
-    /// For each list that the row is in, the number of cells before it.
+    /// The number of cells that the row has from those in whose lists it is.
+    pub(crate) first_cell: usize,
+    /// For each list that the row is in, this number outside of the list.
     pub(crate) lists: Vec<usize>,
     /// The first error.
     pub(crate) failed: Option<PrintError>,
@@ -52,15 +55,15 @@ impl<'a, C: Sink> Out<'a, C> {
         ensures form { format_of result ≡ format }
         ensures empty { unwritten result ≡ [] }
     {
-        let text = String::new(alloc);
         Out {
             alloc,
             sink,
             format,
-            text,
+            text: Vec::new(alloc),
             row: JsonRow::new(alloc),
             lines: String::new(alloc),
             cells: Vec::new(alloc),
+            first_cell: 0,
             lists: Vec::new(alloc),
             failed: None,
         }
@@ -117,7 +120,7 @@ impl<'a, C: Sink> Out<'a, C> {
         ensures stopped { OnErr result (WriteStops (C.state (sink_of self.old))
             (C.state (sink_of self.new)) (unwritten self.old) faults.WriteFailed) }
     {
-        match write_all(self.sink, self.text.as_bytes()) {
+        match write_all(self.sink, &self.text) {
             Ok(()) => {
                 self.text.clear();
                 Ok(())
@@ -126,9 +129,21 @@ impl<'a, C: Sink> Out<'a, C> {
         }
     }
 
-    /// Returns the text that was printed and is not yet written to the sink.
-    pub fn into_unwritten(self) -> String
-        ensures { string_bytes result ≡ unwritten self.entry }
+    /// Prints bytes as they are. They are buffered, whatever their number.
+    pub fn hold(&mut self, bytes: Vec<u8>) -> Result<(), AllocError>
+        ensures held { OnOk result (unwritten self.new ≡ unwritten self.old ++ bytes.items) }
+        ensures unwritten { C.state (sink_of self.new) ≡ C.state (sink_of self.old) }
+    {
+        if self.text.is_empty() {
+            self.text = bytes;
+            return Ok(());
+        }
+        self.text.extend_from_slice(&bytes)
+    }
+
+    /// Returns what was printed and is not yet written to the sink.
+    pub fn into_unwritten(self) -> Vec<u8>
+        ensures { result.items ≡ unwritten self.entry }
     {
         self.text
     }

@@ -23,13 +23,5 @@ pub fn field_of(inspector: &Inspector<'_>, object: ObjectIndex, field: u32) -> O
     requires { IsObjectOf inspector.now object }
     ensures { IfSome result (λ found. IsObjectOf inspector.now found) }
 {
-    field_in(inspector.live.graph.heap, object, field)
-}
-
-/// Returns the object that a field of an object points to, as `field_of` does.
-pub(crate) fn field_in(heap: &Heap, object: ObjectIndex, field: u32) -> Option<ObjectIndex>
-    requires { object < object_count heap.now }
-    ensures { IfSome result (λ found. found < object_count heap.now) }
-{
-    target(heap, object, Slot::Field(field))
+    target(inspector.live.graph.heap, object, Slot::Field(field))
 }

@@ -3,10 +3,9 @@
 ghost use Rattle.sqz_look_view.specs.Inspectors.{IsObjectOf};
 
 use crate::counted::Counted;
-use crate::elements::Counter;
 use crate::inspector::Inspector;
 use crate::values::value_text;
-use sqz_names::Label;
+use sqz_names::{Counter, Label};
 use sqz_object::ObjectIndex;
 use std::alloc::AllocError;
 
@@ -25,7 +24,7 @@ pub fn preview_of(
     if inspector.names.label_of(object)? != Label::Other {
         return Ok(Some(inspector.names.label(object)?));
     }
-    match counter.count(inspector, object) {
+    match counter.count(&inspector.names, object) {
         Some(count) => {
             let count = Counted(u64::from(count), "element");
             Ok(Some(format!(in inspector.alloc; "{count}")?))

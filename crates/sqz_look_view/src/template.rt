@@ -3,6 +3,13 @@
 use crate::cell::{Cell, cell_of};
 use std::alloc::AllocError;
 
+/// A column of a width: the side at which its texts begin or end.
+#[derive(Clone, Copy)]
+enum Column {
+    Left(usize),
+    Right(usize),
+}
+
 /// Writes a template with its cells in place of what stands in braces:
 ///
 /// - `{name}`: the cell, or `-` if the row has no such value;
@@ -11,7 +18,7 @@ use std::alloc::AllocError;
 /// - `{name#word}`: the number and the word for what is counted, in the plural unless it is 1;
 /// - `{name:>11#word}`: the same with the number in a column.
 ///
-/// A name without a cell is written as it stands, in braces.
+/// A name without a cell, and a column without a width, is written as it stands, in braces.
 pub(crate) fn write_template(
     out: &mut String,
     template: &str,
@@ -88,25 +95,34 @@ fn write_optional(
     }
 }
 
-/// Writes a number and the word for what is counted. A number with a unit has no word.
+/// Writes a number and the word for what it counts.
 fn write_counted(
     out: &mut String,
     name: &str,
     word: &str,
     cells: &[Cell],
 ) -> Result<(), AllocError> {
-    let (name, column) = name.split_once(':').unwrap_or((name, ""));
+    if let Some((name, column)) = name.split_once(':') {
+        write_column(out, name, column, cells, 0)?;
+        return write_word(out, name, word, cells);
+    }
     let Some(cell) = cell_of(cells, name) else {
         return write_unknown(out, name);
     };
-    let number = text_of(cell);
-    write_spaces(out, column.strip_prefix(">").unwrap_or(column), number, 0)?;
-    out.push_str(number)?;
+    out.push_str(text_of(cell))?;
+    write_word(out, name, word, cells)
+}
+
+/// Writes the word for what a number counts. A number with a unit has no word.
+fn write_word(out: &mut String, name: &str, word: &str, cells: &[Cell]) -> Result<(), AllocError> {
+    let Some(cell) = cell_of(cells, name) else {
+        return Ok(());
+    };
     if cell.has_unit {
         return Ok(());
     }
     out.push(' ')?;
-    push_word(out, word, number == "1")
+    push_word(out, word, text_of(cell) == "1")
 }
 
 /// Writes the word for what is counted: in the plural it ends with `s`, or with `ies` for `y`.
@@ -138,30 +154,38 @@ fn write_column(
         return write_unknown(out, name);
     };
     let text = text_of(cell);
-    match column.strip_prefix("<") {
-        Some(places) => {
+    match column_of(column, width) {
+        Some(Column::Left(width)) => {
             out.push_str(text)?;
-            write_spaces(out, places, text, width)
+            write_spaces(out, text, width)
         }
-        None => {
-            write_spaces(out, column.strip_prefix(">").unwrap_or(column), text, width)?;
+        Some(Column::Right(width)) => {
+            write_spaces(out, text, width)?;
             out.push_str(text)
         }
+        None => write_unknown(out, column),
+    }
+}
+
+/// Returns the column that a form names. None if it names none.
+fn column_of(form: &str, width: usize) -> Option<Column> {
+    match (form.strip_prefix("<"), form.strip_prefix(">")) {
+        (Some(places), _) => Some(Column::Left(width_of(places, width)?)),
+        (_, Some(places)) => Some(Column::Right(width_of(places, width)?)),
+        _ => None,
+    }
+}
+
+/// Returns the width of a column. None if it is no number.
+fn width_of(places: &str, width: usize) -> Option<usize> {
+    match places {
+        "*" => Some(width),
+        _ => places.parse::<usize>().ok(),
     }
 }
 
 /// Writes the spaces that a text lacks to the width of its column.
-fn write_spaces(
-    out: &mut String,
-    places: &str,
-    text: &str,
-    width: usize,
-) -> Result<(), AllocError> {
-    let width = if places == "*" {
-        width
-    } else {
-        places.parse::<usize>().unwrap_or(0)
-    };
+fn write_spaces(out: &mut String, text: &str, width: usize) -> Result<(), AllocError> {
     for _ in text.chars().count()..width {
         out.push(' ')?;
     }

@@ -7,3 +7,9 @@ mod LabelLemmas
 mod TextLemmas
 pub mod VariableLemmas
 pub mod MethodLemmas
+mod NumberLemmas
+mod OnlyLemmas
+mod FoundLemmas
+mod PositionLemmas
+mod CategoryLemmas
+mod OrganizationLemmas

@@ -1,5 +1,5 @@
 -- Lists that are picked from a list, item by item.
--- Serves `lookup` and `object_set`; `picking` and `spelling` of `sqz_selectors`.
+-- Serves `lookup`, `object_set` and `CategoryLemmas`; `picking` and `spelling` of `sqz_code`.
 use Rattle.std.proofs.Common.{◌≡◌, ℕ, ◌+◌, ◌<◌, All, Contains, List, [], ◌∷◌, ◌++◌, length, take, get_or, refl, sym, ap, subst, ◌∙◌, inl, inr, arith}
 use Rattle.std.specs.Prelude.{map}
 use Rattle.std.specs.List.{range_with_len}
@@ -74,7 +74,7 @@ module _ {X : Type 0} (P : X → Type 0) (xs : List X) (i : ℕ) (d : X) (inside
       (ArePicked-skip P (get_or xs i d) (take i xs) picked are is_not)
 
 -- one more number
-range_with_len-more : (n : ℕ) → range_with_len 0 (n + 1) ≡ range_with_len 0 n ++ n ∷ []
+pub range_with_len-more : (n : ℕ) → range_with_len 0 (n + 1) ≡ range_with_len 0 n ++ n ∷ []
 range_with_len-more n =
     let id : ℕ → ℕ = λ k. k in
     let same : (l : List ℕ) → map id l ≡ l = λ l. map_fixed id l (λ k d lt. refl) in

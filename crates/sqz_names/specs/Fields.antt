@@ -21,17 +21,9 @@ globals_field = 8
 
 -- ---- a class
 
--- its superclass
-abbrev pub superclass_field : ℕ
-superclass_field = 0
-
 -- its method dictionary
 abbrev pub method_dictionary_field : ℕ
 method_dictionary_field = 1
-
--- the array of the names of the instance variables that it adds
-abbrev pub instance_variables_field : ℕ
-instance_variables_field = 3
 
 -- the only instance of a metaclass
 abbrev pub instance_field : ℕ
@@ -68,3 +60,17 @@ key_field = 0
 -- its value
 abbrev pub value_field : ℕ
 value_field = 1
+
+-- ---- an organizer
+
+-- the array of its categories
+abbrev pub categories_field : ℕ
+categories_field = 1
+
+-- the array that has for each category the number of listed objects up to its last one
+abbrev pub category_ends_field : ℕ
+category_ends_field = 2
+
+-- the array of the objects that it lists, in the order of their categories
+abbrev pub categorized_field : ℕ
+categorized_field = 3

@@ -8,3 +8,8 @@ pub mod LabelOrder
 pub mod NameLists
 pub mod Picks
 pub mod Texts
+pub mod Numbers
+pub mod Found
+pub mod Words
+pub mod Elements
+pub mod Categories

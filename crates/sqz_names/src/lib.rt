@@ -4,8 +4,10 @@
 #![tactic(auto)]
 
 mod bytes;
+mod categories;
 mod class_names;
 mod classes;
+mod elements;
 mod escape;
 pub mod fields;
 pub mod formats;
@@ -23,12 +25,16 @@ mod object_set;
 mod targets;
 mod variable_name;
 mod variables;
+mod words;
 
 pub use bytes::spells;
+pub use categories::Categories;
 pub use class_names::{name_of_class, name_of_class_of};
+pub use elements::Counter;
 pub use escape::escaped;
 pub use known::Known;
 pub use label::Label;
 pub use method_name::MethodName;
 pub use names::Names;
 pub use variable_name::{Variable, VariableName};
+pub use words::{Found, Missing, find_class, find_object};

@@ -1,6 +1,7 @@
 -- The words that bytes encode, one by one, and the bytes that encode words.
 -- Serves `words::Words::of`; `header::header_words`, `ReadingLemmas` and `SavedLemmas` of
--- `sqz_image`; `BytesLemmas` of `sqz_histogram`.
+-- `sqz_image`; `BytesLemmas` of `sqz_histogram`; `words::bytes_match` of `sqz_alike`;
+-- `FirstReferrerLemmas` of `sqz_facts`.
 use Rattle.std.proofs.Common.{◌≡◌, ℕ, zero, suc, ◌+◌, ◌*◌, ◌/◌, ◌^◌, ◌<◌, ◌≤◌, List, [], ◌∷◌, ◌++◌, length}
 use Rattle.std.proofs.Common.{map, take, drop, slice_index, refl, sym, ap, ◌∙◌, arith}
 use Rattle.std.proofs.lemmas.List.{append_assoc, length-append}
@@ -111,3 +112,14 @@ words_of-spelling_of order [] fits = refl
 words_of-spelling_of order (word ∷ words) fits =
     words_of-bytes_of order word (spelling_of order words) (fits 0)
     ∙ ap (λ (ws : List ℕ). word ∷ ws) (words_of-spelling_of order words (λ i. fits (suc i)))
+
+-- two lists whose elements are mapped to the same, place by place
+module _ {X : Type 0} (f g : ℕ → X) where
+  pub map-same : (words others : List ℕ) → length words ≡ length others
+      → ((k : ℕ) → k < length words → f (slice_index words k) ≡ g (slice_index others k)) → map f words ≡ map g others
+  map-same [] [] long same = refl
+  map-same [] (other ∷ others) long same = absurd (omega arith)
+  map-same (word ∷ words) [] long same = absurd (omega arith)
+  map-same (word ∷ words) (other ∷ others) long same =
+      let rest = map-same words others (omega arith) (λ k lt. same (suc k) (omega arith)) in
+      ap (λ (xs : List X). f word ∷ xs) rest ∙ ap (λ (x : X). x ∷ map g others) (same 0 (omega arith))

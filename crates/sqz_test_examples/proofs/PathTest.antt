@@ -7,7 +7,7 @@ use Rattle.std.proofs.lemmas.List.Elements.{All-contains}
 use Rattle.std.proofs.lemmas.List.Sums.{AllPass-from_list_all}
 use Rattle.sqz_image.specs.declared.slot.Slot.{Slot}
 use Rattle.sqz_trace.specs.Edges.{OutEdges, strong_slots, edge_target}
-use Rattle.sqz_paths.specs.Paths.{IsFirstSlotTo}
+use Rattle.sqz_dominators.specs.Paths.{IsFirstSlotTo}
 use Rattle.sqz_test_examples.proofs.TracingTest.{is_index}
 
 module _ (edges : OutEdges) (object : ℕ) where

@@ -9,7 +9,7 @@ ghost use Rattle.std.specs.Prelude.{[], ◌∷◌};
 ghost use Rattle.sqz_image.specs.declared.slot.Slot.TheVariants.{ClassWord, Field};
 ghost use Rattle.sqz_trace.specs.declared.weak.Weak.TheVariants.{Keep};
 ghost use Rattle.sqz_histogram.specs.declared.group.Group.TheVariants.{Class, Compact};
-ghost use Rattle.sqz_paths.specs.Paths.{IsShortestPath, IsUnreachable};
+ghost use Rattle.sqz_dominators.specs.Paths.{IsShortestPath, IsUnreachable};
 ghost use Rattle.sqz_facts.specs.Members.{AreMembers};
 ghost use Rattle.sqz_test_examples.specs.DeadCycle.{dead_cycle};
 ghost use Rattle.sqz_test_examples.specs.ClassEdge.{class_edge, class_edge_marks};

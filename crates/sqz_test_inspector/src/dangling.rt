@@ -1,7 +1,7 @@
 //! Patches of worked images, whose first data word has the address 0x1000, and patches in bytes.
 
 use super::images::image_with;
-use sqz_dangling::{Becomes, NilError, Patch, nil_patches, write_patches};
+use sqz_damage::{Becomes, NilError, Patch, nil_patches, write_patches};
 use sqz_image::Fault;
 use sqz_object::Order;
 use sqz_trace::{Live, ObjectGraph, Weak};

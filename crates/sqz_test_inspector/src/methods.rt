@@ -1,9 +1,8 @@
 //! Parts of worked methods, in an image whose first data word has the address 0x1000.
 
 use super::images::image_with;
-use sqz_code::{Instruction, Operation, Source};
+use sqz_code::{Instruction, MethodCode, Operation, Source, code_of, method_literals};
 use sqz_image::{Fault, Heap};
-use sqz_methods::{MethodCode, code_of, method_literals};
 use std::alloc::{AllocError, Global};
 use std::process::Abort;
 use std::test::Fail;

@@ -1,5 +1,5 @@
 -- What a slot points to is an object.
--- Serves `slots::named_by` and `CopyLemmas`; `PathLemmas` of `sqz_paths`; `CallLemmas` of
+-- Serves `slots::named_by` and `CopyLemmas`; `PathLemmas` of `sqz_dominators`; `CallLemmas` of
 -- `sqz_marks`; `GroupLemmas` of `sqz_histogram`; `steps::claim` of `sqz_test_marks`.
 use Rattle.std.proofs.Common.{◌≡◌, ℕ, ◌<◌, List, Option, Some, None, sym}
 use Rattle.std.specs.Option.{IfSome, option_and_then}

@@ -1,6 +1,6 @@
 -- The slots of an object: how many of its fields they are, and one after another.
 -- Serves `DefectLemmas`, `StrongLemmas` and `TargetLemmas`; `MovedShapeLemmas` of `sqz_slide`,
--- `object::hash_slots` of `sqz_digest` and `PushLemmas` of `sqz_dangling`.
+-- `object::hash_slots` of `sqz_digest` and `PushLemmas` of `sqz_damage`.
 use Rattle.std.proofs.Common.{◌≡◌, ℕ, zero, suc, ◌+◌, ◌-◌, ◌<◌, ◌≤◌, Bool, cond, List, [], ◌∷◌, ◌++◌}
 use Rattle.std.proofs.Common.{length, slice_index, Option, Some, None, ap, ◌∙◌, arith}
 use Rattle.std.proofs.lemmas.Bool.{lt-ltb}

@@ -2,7 +2,7 @@
 -- Serves `edge_slots::StrongSlots::next`, `finishing::blacken`, `turns::blacken_listed`,
 -- `GreyingLemmas`, `MarkingLemmas` and `StrongLemmas`; `search::Search::find_target` and
 -- `::follow` of `sqz_dominators`; `path::path_back` and `slots_between::slot_between` of
--- `sqz_paths`; `referrers::push_referrers` of `sqz_facts`;
+-- `sqz_dominators`; `referrers::push_referrers` of `sqz_facts`;
 -- `CallLemmas` of `sqz_marks`; `scanning::scan_object` and `GainLemmas` of `sqz_workers`;
 -- `targets::mark_targets` and `InOrderLemmas` of `sqz_test_marks`.
 use Rattle.std.proofs.Common.{◌≡◌, ◌⊎◌, ℕ, zero, suc, ◌+◌, ◌-◌, ◌<◌, ◌≤◌, cond, List, [], ◌∷◌, ◌++◌}

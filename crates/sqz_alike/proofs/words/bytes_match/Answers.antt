@@ -1,6 +1,7 @@
 use Rattle.std.proofs.Common.{◌≡◌, length, slice_index, refl, sym, ap, ◌∙◌, arith}
 use Rattle.sqz_object.specs.Bytes.{bytes_of}
-use Rattle.sqz_alike.proofs.WordLemmas.{map-same, map-at, not-pointwise}
+use Rattle.sqz_object.proofs.WordLemmas.{map-same}
+use Rattle.sqz_alike.proofs.WordLemmas.{map-at, not-pointwise}
 use Rattle.sqz_alike.proofs.words.bytes_match.Goals as goal
 
 pub returns-then-ne : goal.returns-then-ne

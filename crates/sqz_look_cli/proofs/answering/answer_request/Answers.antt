@@ -1,5 +1,5 @@
 use Rattle.std.proofs.Common.{sym, ◌∙◌, inl}
-use Rattle.sqz_look_cli.proofs.EndingLemmas.{exit_of_outcome-range, checked_at_one, mended_at_zero, silent_at_zero, whole_at_zero}
+use Rattle.sqz_look_cli.proofs.EndingLemmas.{exit_of_outcome-range, checked_at_one, checked_past, compared_past, mended_at_zero, silent_at_zero, whole_at_zero}
 use Rattle.sqz_look_cli.proofs.ComparisonLemmas.{compared_at_one}
 use Rattle.sqz_look_files.proofs.WarningLemmas.{IsSilent-then}
 use Rattle.sqz_look_cli.proofs.answering.answer_request.Goals as goal
@@ -16,18 +16,21 @@ returns-clause-ends g c =
       outcome = c.outcome_of-outcome.result;
       exit_is = c.finish.ensures.exit;
       whole = c.outcome_of-outcome.ensures.whole;
-      checked = rw (c.clear_if-weak.ensures, c.looks_past_damage.ensures) at c.outcome_of-outcome.ensures.check;
+      checked = checked_past _ _ c.args.request.now.question _ _
+          (rw (c.clear_if-weak.ensures, c.looks_past.ensures) at c.outcome_of-outcome.ensures.check);
     }
 
 pub returns-clause-check : goal.returns-clause-check
 returns-clause-check g c =
-    let checked = rw (c.clear_if-weak.ensures, c.looks_past_damage.ensures) at c.outcome_of-outcome.ensures.check in
-    checked_at_one _ _ _ c.args.request.now.question c.outcome_of-outcome.result _ c.finish.ensures.exit checked
+    let checked = rw (c.clear_if-weak.ensures, c.looks_past.ensures) at c.outcome_of-outcome.ensures.check in
+    checked_at_one _ _ _ c.args.request.now.question c.outcome_of-outcome.result _ c.finish.ensures.exit
+    (checked_past _ _ c.args.request.now.question _ _ checked)
 
 pub returns-clause-compared : goal.returns-clause-compared
 returns-clause-compared g c =
-    let ends = rw (c.clear_if-weak.ensures, c.looks_past_damage.ensures) at c.outcome_of-outcome.ensures.compared in
-    compared_at_one _ _ _ c.args.request.now.question c.outcome_of-outcome.result _ c.finish.ensures.exit ends
+    let ends = rw (c.clear_if-weak.ensures, c.looks_past.ensures) at c.outcome_of-outcome.ensures.compared in
+    compared_at_one _ _ _ c.args.request.now.question c.outcome_of-outcome.result _ c.finish.ensures.exit
+    (compared_past _ _ c.args.request.now.question _ _ ends)
 
 pub returns-clause-mended : goal.returns-clause-mended
 returns-clause-mended g c =
@@ -40,7 +43,7 @@ returns-clause-whole g c =
 
 pub returns-clause-silent : goal.returns-clause-silent
 returns-clause-silent g c zero =
-    let silent = rw (c.clear_if-weak.ensures, c.looks_past_damage.ensures) at c.outcome_of-outcome.ensures.silent in
+    let silent = rw (c.clear_if-weak.ensures, c.looks_past.ensures) at c.outcome_of-outcome.ensures.silent in
     IsSilent-then _ _ _ _ _ _
     (silent_at_zero _ c.outcome_of-outcome.result silent (sym c.finish.ensures.exit ∙ zero))
     (inl (c.finish.ensures.silent zero))

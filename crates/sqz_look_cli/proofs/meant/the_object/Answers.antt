@@ -1,6 +1,6 @@
 use Rattle.std.proofs.Common.{subst}
-use Rattle.sqz_words.specs.declared.found.Found.TheVariants.{One}
-use Rattle.sqz_words.specs.Words.{IsObject}
+use Rattle.sqz_names.specs.declared.words.found.Found.TheVariants.{One}
+use Rattle.sqz_names.specs.Words.{IsObject}
 use Rattle.sqz_look_cli.proofs.meant.the_object.Goals as goal
 
 pub returns-in-One-clause-found : goal.returns-in-One-clause-found

@@ -1,5 +1,5 @@
 use Rattle.std.proofs.Common.{◌≡◌, ◌∙◌, ◌==◌, ℕ, List, true, false, length, refl, ap, arith, inl, inr}
-use Rattle.sqz_dangling.specs.declared.patch.Patch.{Patch}
+use Rattle.sqz_damage.specs.declared.dangling.patch.Patch.{Patch}
 use Rattle.sqz_look_files.proofs.mending.bytes_asked.Goals as goal
 use Rattle.sqz_look_files.proofs.mending.bytes_asked.Goals.{then-not-is_empty+in_ok-text-in-Ok, else-not-is_empty}
 

@@ -1,3 +1,0 @@
-pub mod PatchLemmas
-pub mod PushLemmas
-pub mod NilLemmas

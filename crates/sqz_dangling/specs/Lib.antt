@@ -1,3 +1,0 @@
-pub mod Dangling
-pub mod Patches
-pub mod Pushed

@@ -1,2 +1,0 @@
-pub mod NewObjects
-pub mod Holders

@@ -1,4 +1,0 @@
-pub mod DataLemmas
-mod MendLemmas
-pub mod SoundnessLemmas
-pub mod HeaderLemmas

@@ -1,4 +1,0 @@
-pub mod Soundness
-pub mod Damaged
-pub mod Mended
-pub mod Recovery

@@ -1,2 +1,0 @@
-pub mod Trailers
-pub mod Parts

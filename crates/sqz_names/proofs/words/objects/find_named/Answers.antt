@@ -1,0 +1,12 @@
+use Rattle.sqz_names.proofs.FoundLemmas.{IsFoundIn-about}
+use Rattle.sqz_names.proofs.words.objects.find_named.Goals as goal
+
+pub returns-then-not-is_empty-clause-inside : goal.returns-then-not-is_empty-clause-inside
+returns-then-not-is_empty-clause-inside c =
+    IsFoundIn-about c.args.names.now.graph.heap.now c.in_ok-classes.classes.items
+    (λ i d lt. (c.in_ok-classes.ensures.named i d lt).inside) c.the_one.result c.the_one.ensures.about
+
+pub returns-then-not-is_empty-2-clause-inside : goal.returns-then-not-is_empty-2-clause-inside
+returns-then-not-is_empty-2-clause-inside c =
+    IsFoundIn-about c.args.names.now.graph.heap.now c.in_ok-methods.methods.items c.in_ok-methods.ensures.inside
+    c.the_one-then-not-is_empty-2.result c.the_one-then-not-is_empty-2.ensures.about

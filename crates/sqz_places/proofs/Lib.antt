@@ -1,2 +1,0 @@
-mod FoundLemmas
-mod NearLemmas

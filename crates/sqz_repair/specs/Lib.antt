@@ -1,3 +1,0 @@
-pub mod Repairs
-pub mod Sizes
-pub mod Summaries

@@ -1,3 +1,0 @@
-mod JoinLemmas
-mod MentionLemmas
-mod UnimplementedLemmas

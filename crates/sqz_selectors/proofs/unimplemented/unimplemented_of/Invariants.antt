@@ -1,6 +1,0 @@
-use Rattle.std.proofs.Common.{take}
-use Rattle.sqz_selectors.proofs.UnimplementedLemmas.{AreFound}
-use Rattle.sqz_selectors.proofs.unimplemented.unimplemented_of.Given as goal
-
-abbrev pub invariant-loop-name : goal.invariant-loop-name
-invariant-loop-name l = AreFound l.graph.heap.now l.graph.weak l.implemented (take l.name-index l.methods) l.found.items

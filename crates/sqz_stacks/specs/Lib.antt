@@ -1,6 +1,0 @@
-pub mod Fields
-pub mod FieldValues
-pub mod Contexts
-pub mod Stacks
-pub mod Frames
-pub mod Processes

@@ -1,3 +1,0 @@
-mod NumberLemmas
-mod OnlyLemmas
-mod FoundLemmas
