@@ -303,9 +303,13 @@ class CodeArgumentsTest(DeadArrayTest):
         return look(*words, folder=self.folder)
 
     def test_wrong_expression(self):
-        outcome = self.look("find", "in", "(")
-        message = b"sqzlook: not a regular expression: (\n"
-        self.assert_ends(outcome, Outcome(2, stderr=message))
+        """The message says where the expression is wrong."""
+        for word, place in (("(", "0..1"), ("a[z-b]", "2..5")):
+            with self.subTest(word):
+                outcome = self.look("find", "in", word)
+                self.assertEqual((outcome.status, outcome.stdout), (2, b""))
+                line = rf"sqzlook: not a regular expression: {re.escape(word)}: .* {place}: .+"
+                self.assertRegex(outcome.stderr.decode(), rf"\A{line}\n\Z")
 
     def test_no_code(self):
         for words in (("stacks", "in"), ("code", "in"), ("find", "in", ".*")):

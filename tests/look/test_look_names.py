@@ -282,7 +282,14 @@ class CollectionsTest(LookTest):
         """What a list says of these instances of a class with these variables: their fields."""
         image = NamedImage()
         image.add_class(a_class, "Object", variables, len(variables))
-        its = [image.add(kind, a_class, *fields) for fields in collections]
+        its = [
+            image.add(
+                kind,
+                a_class,
+                *(image.add_bytes("String", it) if isinstance(it, bytes) else it for it in fields),
+            )
+            for fields in collections
+        ]
         image.fields_of(image.special).append(image.add_array(*its))
         self.write(FILE, image.file())
         outcome = look("list", "--json", "--by", "size", FILE, a_class, folder=self.folder)
@@ -313,6 +320,40 @@ class CollectionsTest(LookTest):
         its = [(integer(7), ZERO)]
         found = self.previews("Row", ("tally",), *its, kind=Format.FIXED_AND_INDEXED)
         self.assertEqual(found, ["1 element"])
+
+
+    def test_extent(self):
+        """A form states how large it is."""
+        extents = [(integer(640), integer(-480), integer(8)), (ZERO, ZERO, "Object")]
+        found = self.previews("Picture", ("width", "height", "depth"), *extents)
+        self.assertEqual(found, ["640x-480, depth 8", None])
+
+    def test_name(self):
+        """A font states what it is called."""
+        names = [(ZERO, b"Arial"), (ZERO, "Object"), (ZERO, integer(3))]
+        found = self.previews("Face", ("size", "name"), *names)
+        self.assertEqual(found, ["'Arial'", None, None])
+
+
+class MatchesTest(LookTest):
+    """What `find` prints of a string: the first bytes, or those around a match after these."""
+
+    def test_text(self):
+        image, long = NamedImage(), b"x" * 60
+        texts = {
+            b"needle" + long: "'needle" + "x" * 34 + "'..",
+            b"y" * 39 + b"needle": "'" + "y" * 39 + "n'..",
+            b"y" * 40 + b"needle": "..'" + "y" * 10 + "needle'",
+            long + b"needle" + long: "..'" + "x" * 10 + "needle" + "x" * 24 + "'..",
+            long + b"\\needle": "..'" + "x" * 9 + "\\\\needle'",
+        }
+        strings = [image.add_bytes("String", text) for text in texts]
+        symbol = image.add_bytes("Symbol", long + b"needle")
+        image.fields_of(image.special).append(image.add_array(*strings, symbol))
+        self.write(FILE, image.file())
+        lines = self.printed_by(look("find", FILE, "needle", folder=self.folder)).decode()
+        found = [line.split("  ")[1] for line in lines.splitlines()[1:]]
+        self.assertEqual(found, [*texts.values(), "#.." + "x" * 10 + "needle"])
 
 
 class SitesTest(LookTest):

@@ -250,7 +250,7 @@ class TextTest(KnownImageTest):
 
     def columns(self, tree, row):
         share = percent(row.retained, tree.whole)
-        return str(row.retained), share, str(row.objects), "  " * row.depth, row.label
+        return str(row.retained), share, str(row.objects), "  " * row.depth, tree.text_label(row)
 
 
 class HeldTest(TopTest, KnownImageTest):

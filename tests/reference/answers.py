@@ -10,7 +10,7 @@ from tests.reference.names import Names, escaped
 from tests.reference.objects import Format, compact_index, format_of, has_bytes, traced_end
 from tests.reference.reachability import Reachability
 from tests.reference.repair import repair_row
-from tests.reference.values import method_of, preview, signed, value_of
+from tests.reference.values import list_preview, method_of, signed, value_of
 
 # What stands for the category of objects whose class has none.
 NO_CATEGORY = "no category"
@@ -220,7 +220,7 @@ class Answers:
             "address": self.names.address(number),
             "bytes": self.reach.sizes[number],
             "retained": self.retained(number),
-            "preview": preview(self.names, number),
+            "preview": list_preview(self.names, number),
             "variable": self.holders.get(number),
         }
 

@@ -75,8 +75,12 @@ class Categories:
         return is_string and self.names.label(number) == self.names.own_label(number)
 
     def object_of(self, a_class):
-        """The category of a class, if it has one."""
-        return self.objects.get(self.names.target(a_class, ClassField.NAME))
+        """The category of a class, or of the instance of a metaclass, if it has one."""
+        names, path = self.names, (ClassField.NAME,)
+        is_labelled = a_class in names.class_labels and a_class not in names.constants
+        if is_labelled and names.is_metaclass(a_class):
+            path = ClassField.INSTANCE, ClassField.NAME
+        return self.objects.get(names.target(a_class, *path))
 
     def of_class(self, a_class):
         """The first bytes of the category of a class as text, if it has one."""

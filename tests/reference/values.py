@@ -4,12 +4,15 @@ import decimal
 import math
 import struct
 
+from tests.reference.names import STRINGS, SYMBOLS
 from tests.reference.objects import Format, format_of
 
 # A large integer of at most this many bytes is printed as a number.
 LONGEST = 8
 # The sign of a large integer, by its class.
 SIGNS = {"LargePositiveInteger": "", "LargeNegativeInteger": "-"}
+# The instance variables that say how large a form is.
+EXTENT = "width", "height", "depth"
 # The characters that are printed as they are.
 PRINTABLE = range(33, 127)
 
@@ -115,3 +118,30 @@ def preview(names, number):
         return label
     count = element_count(names, number)
     return None if count is None else f"{count} element{'' if count == 1 else 's'}"
+
+
+def list_preview(names, number):
+    """As `preview`; for other objects the extent and depth, or the name, that they state."""
+    found = preview(names, number)
+    return stated(names, number) if found is None else found
+
+
+def stated(names, number):
+    """What the instance variables of an object say of it: its extent and depth, or its name."""
+    a_class = names.class_of(number)
+    variables = None if a_class is None else names.variables_of(a_class)
+    fields, found = fields_of(names.image, number), {}
+    for place, name in enumerate(variables or ()):
+        found.setdefault(name, place)
+    words = [
+        fields[found[it]] if found.get(it, len(fields)) < len(fields) else 0 for it in EXTENT
+    ]
+    if all(word & 1 for word in words):
+        width, height, depth = map(signed, words)
+        return f"{width}x{height}, depth {depth}"
+    name = names.target(number, found["name"]) if "name" in found else None
+    if name is None or names.image.text(name) is None:
+        return None
+    is_text = names.class_name(name) in STRINGS + SYMBOLS
+    label = names.label(name)
+    return label if is_text and label == names.own_label(name) else None

@@ -6,9 +6,8 @@ ghost use Rattle.sqz_histogram.specs.Groups.{IsInside};
 ghost use Rattle.sqz_look_view.specs.Inspectors.{IsObjectOf};
 
 use sqz_histogram::{Group, GroupTotal, first_bytes};
-use sqz_look_view::{Inspector, field_of};
+use sqz_look_view::{Inspector, listed_name};
 use sqz_names::Categories;
-use sqz_names::fields::NAME;
 use sqz_object::ObjectIndex;
 use std::alloc::{AllocError, Global};
 use std::cmp::Reverse;
@@ -56,7 +55,7 @@ pub(crate) fn category_sums(
         sums: BTreeMap::new(alloc),
     };
     for total in totals {
-        let category = match name_of(inspector, total.group) {
+        let category = match name_of(inspector, total.group)? {
             Some(name) => categories.of_listed(name)?,
             None => None,
         };
@@ -138,12 +137,12 @@ fn text_of(inspector: &Inspector<'_>, category: Option<ObjectIndex>) -> Result<S
     }
 }
 
-/// Returns the name of the class of a group.
-fn name_of(inspector: &Inspector<'_>, group: Group) -> Option<ObjectIndex>
+/// Returns the name by which the class of a group is listed.
+fn name_of(inspector: &Inspector<'_>, group: Group) -> Result<Option<ObjectIndex>, AllocError>
     requires { IsInside (object_count inspector.now.live.graph.heap.now) group }
 {
     match group {
-        Group::Class(class) => field_of(inspector, class, NAME),
-        Group::Compact(_) => None,
+        Group::Class(class) => listed_name(inspector, class),
+        Group::Compact(_) => Ok(None),
     }
 }

@@ -9,9 +9,8 @@ use sqz_answers::{Histogram, dead_histogram, live_histogram, retained_histogram}
 use sqz_histogram::{Group, GroupTotal};
 use sqz_image::Sink;
 use sqz_look_args::Grouping;
-use sqz_look_view::{Inspector, Out, PrintError, field_of};
+use sqz_look_view::{Inspector, Out, PrintError, category_of};
 use sqz_names::Categories;
-use sqz_names::fields::NAME;
 use std::alloc::AllocError;
 use std::thread::Threads;
 
@@ -140,12 +139,8 @@ fn add_group<C: Sink>(
         Group::Class(class) => {
             out.text("class", inspector.names.name_of_class(class));
             out.hex("address", inspector.address(class).0);
-            match field_of(inspector, class, NAME) {
-                Some(name) if out.is_json() => out.text_or_null(
-                    "category",
-                    categories.text_of(name),
-                ),
-                _ => out.null("category"),
+            if out.is_json() {
+                out.text_or_null("category", category_of(inspector, categories, class));
             }
         }
         Group::Compact(index) => {

@@ -13,6 +13,7 @@ mod missing;
 mod near_names;
 mod path_rows;
 mod paths;
+mod preview_fields;
 mod refs;
 mod show;
 mod slot_holders;

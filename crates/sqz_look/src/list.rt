@@ -4,6 +4,7 @@ ghost use Rattle.std.specs.Prelude.{All, IfSome};
 ghost use Rattle.sqz_look_view.specs.Inspectors.{IsObjectOf};
 
 use crate::holders::Holders;
+use crate::preview_fields::PreviewFields;
 use sqz_answers::{Listed, dead_listing_of, listing_of, sort_by_retained};
 use sqz_histogram::Group;
 use sqz_image::Sink;
@@ -16,12 +17,13 @@ use std::alloc::AllocError;
 /// The line above the instances, in the text form.
 const HEADING: &str = "       bytes     retained  address   preview";
 
-/// What tells what the instances of a class are: the variables that hold objects, and what their
-/// elements are counted by.
+/// What tells what the instances of a class are: the variables that hold objects, what their
+/// elements are counted by, and the fields that say what they are.
 #[derive(Drop)]
 struct Describing {
     holders: Holders,
     counter: Counter,
+    fields: PreviewFields,
 }
 
 impl Describing {
@@ -30,14 +32,32 @@ impl Describing {
         requires { IfSome first (λ object.
             IsObjectOf inspector.now object) }
     {
-        let counter = match first {
-            Some(object) => Counter::of(&inspector.names, object)?,
-            None => Counter::Fields,
+        let (counter, fields) = match first {
+            Some(object) => (
+                Counter::of(&inspector.names, object)?,
+                PreviewFields::of(inspector, object)?,
+            ),
+            None => (Counter::Fields, PreviewFields::none()),
         };
         Ok(Describing {
             holders: Holders::of(inspector)?,
             counter,
+            fields,
         })
+    }
+
+    /// Returns what an instance is in a few words.
+    fn preview(
+        &self,
+        inspector: &Inspector<'_>,
+        object: ObjectIndex,
+    ) -> Result<Option<String>, AllocError>
+        requires { IsObjectOf inspector.now object }
+    {
+        match preview_of(inspector, self.counter, object)? {
+            Some(preview) => Ok(Some(preview)),
+            None => self.fields.preview(inspector, object),
+        }
     }
 }
 
@@ -121,7 +141,7 @@ fn print_instance<C: Sink>(
     out.hex("address", inspector.address(object).0);
     out.amount("bytes", inspector.bytes(object));
     out.amount_or_null("retained", retained);
-    out.text_or_null("preview", preview_of(inspector, describing.counter, object));
+    out.text_or_null("preview", describing.preview(inspector, object));
     out.word_or_null("variable", describing.holders.label_of(object));
     out.line("{bytes:>12} {retained:>12}  {address}{preview/  }{variable/  in }");
 }

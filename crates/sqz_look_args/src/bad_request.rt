@@ -19,8 +19,8 @@ pub enum BadRequest<'a> {
     NoOrder(&'a str),
     /// The value of `--by` is nothing that rows are about.
     NoGrouping(&'a str),
-    /// The word is no regular expression.
-    NoPattern(&'a str),
+    /// The word is no regular expression, and why.
+    NoPattern(&'a str, regex::Error),
 }
 
 impl From<AllocError> for BadRequest<'_> {
@@ -41,7 +41,9 @@ impl fmt::Display for BadRequest<'_> {
             }
             BadRequest::NoOrder(text) => write!(f, "--by takes retained or size: {text}"),
             BadRequest::NoGrouping(text) => write!(f, "--by takes class or category: {text}"),
-            BadRequest::NoPattern(text) => write!(f, "not a regular expression: {text}"),
+            BadRequest::NoPattern(text, error) => {
+                write!(f, "not a regular expression: {text}: {error}")
+            }
         }
     }
 }

@@ -34,7 +34,7 @@ pub(crate) fn pattern_of<'a>(
     match RegexBuilder::new(text).unicode(false).build_bytes(alloc) {
         Ok(pattern) => Ok(pattern),
         Err(Error::OutOfMemory) => Err(BadRequest::OutOfMemory),
-        Err(_) => Err(BadRequest::NoPattern(text)),
+        Err(error) => Err(BadRequest::NoPattern(text, error)),
     }
 }
 

@@ -4,23 +4,24 @@ ghost use Rattle.sqz_look_view.specs.Inspectors.{IsObjectOf};
 
 use crate::live_methods::live_methods;
 use sqz_image::Sink;
-use sqz_look_view::{Inspector, Out, PrintError, field_of};
-use sqz_names::fields::{INSTANCE_VARIABLES, NAME, SUPERCLASS};
+use sqz_look_view::{Inspector, Out, PrintError, category_of, field_of};
+use sqz_names::fields::{INSTANCE_VARIABLES, SUPERCLASS};
 use sqz_names::{Categories, MethodName};
 use sqz_object::ObjectIndex;
-use std::alloc::AllocError;
+use std::alloc::{AllocError, Global};
 use std::collections::BTreeMap;
 
 /// The field of a class that points to the organizer of its methods.
 const ORGANIZER: u32 = 4;
 
-/// The category of methods that no organizer lists.
+/// What is printed for methods that no organizer lists.
 const NO_CATEGORY: &str = "no category";
 
 /// A method of a class.
 #[derive(Drop)]
 struct CategorizedRow {
-    category: String,
+    /// None if no organizer lists it.
+    category: Option<String>,
     selector: String,
     address: u32,
     bytes: u64,
@@ -41,17 +42,6 @@ fn superclass_of(
             Ok(Some(inspector.names.name_of_class(superclass)?))
         }
         _ => Ok(None),
-    }
-}
-
-/// Returns the category of a class.
-fn category_of(inspector: &Inspector<'_>, class: ObjectIndex) -> Result<Option<String>, AllocError>
-    requires { IsObjectOf inspector.now class }
-{
-    let categories = Categories::of_classes(inspector.alloc, &inspector.names)?;
-    match field_of(inspector, class, NAME) {
-        Some(name) => categories.text_of(name),
-        None => Ok(None),
     }
 }
 
@@ -97,15 +87,17 @@ fn rows_of(inspector: &Inspector<'_>, class: ObjectIndex) -> Result<Rows, AllocE
     let mut rows = BTreeMap::new(inspector.alloc);
     for name in &live_methods(inspector)? {
         if name.class == class {
-            add_row(&mut rows, row_of(inspector, &categories, *name)?)?;
+            let row = row_of(inspector, &categories, *name)?;
+            add_row(inspector.alloc, &mut rows, row)?;
         }
     }
     Ok(rows)
 }
 
 /// Adds a method to those of a class.
-fn add_row(rows: &mut Rows, row: CategorizedRow) -> Result<(), AllocError> {
-    let key = (row.category.clone()?, row.selector.clone()?, row.address);
+fn add_row(alloc: Global, rows: &mut Rows, row: CategorizedRow) -> Result<(), AllocError> {
+    let category = String::from_str(alloc, row.category_text())?;
+    let key = (category, row.selector.clone()?, row.address);
     rows.insert(key, row)?;
     Ok(())
 }
@@ -120,10 +112,7 @@ fn row_of(
     requires selector { IsObjectOf inspector.now name.selector }
 {
     Ok(CategorizedRow {
-        category: match categories.text_of(name.selector)? {
-            Some(category) => category,
-            None => String::from_str(inspector.alloc, NO_CATEGORY)?,
-        },
+        category: categories.text_of(name.selector)?,
         selector: inspector.names.text(name.selector)?,
         address: inspector.address(name.method).0,
         bytes: inspector.bytes(name.method),
@@ -131,9 +120,17 @@ fn row_of(
 }
 
 impl CategorizedRow {
+    /// Returns the category as it is printed.
+    fn category_text(&self) -> &str {
+        match &self.category {
+            Some(category) => category.as_str(),
+            None => NO_CATEGORY,
+        }
+    }
+
     /// Returns whether two methods have the same category.
     fn has_category_of(&self, other: &CategorizedRow) -> bool {
-        self.category.as_str() == other.category.as_str()
+        self.category_text() == other.category_text()
     }
 }
 
@@ -163,7 +160,8 @@ fn print_class<C: Sink>(
     out.text("class", inspector.names.name_of_class(class));
     out.hex("address", inspector.address(class).0);
     out.text_or_null("superclass", superclass_of(inspector, class));
-    out.text_or_null("category", category_of(inspector, class));
+    let categories = Categories::of_classes(inspector.alloc, &inspector.names)?;
+    out.text_or_null("category", category_of(inspector, &categories, class));
     out.texts(
         "instance_variables",
         &instance_variables_of(inspector, class)?,
@@ -187,7 +185,14 @@ fn print_rows<C: Sink>(rows: &Rows, out: &mut Out<'_, C>) {
     let shown = out.shown(rows.len());
     let mut last: Option<&CategorizedRow> = None;
     for row in rows.values().take(shown) {
-        out.word("category", row.category.as_str());
+        if out.is_json() {
+            out.word_or_null(
+                "category",
+                row.category.as_ref().map(|category| category.as_str()),
+            );
+        } else {
+            out.word("category", row.category_text());
+        }
         out.word("selector", row.selector.as_str());
         out.hex("address", row.address);
         out.amount("bytes", row.bytes);

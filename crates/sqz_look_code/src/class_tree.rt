@@ -5,9 +5,9 @@ ghost use Rattle.sqz_look_view.specs.Inspectors.{IsObjectOf};
 use crate::live_methods::live_methods;
 use sqz_histogram::{Group, histogram};
 use sqz_image::Sink;
-use sqz_look_view::{Inspector, Out, PrintError, field_of};
-use sqz_names::Label;
+use sqz_look_view::{Inspector, Out, PrintError, category_of, field_of};
 use sqz_names::fields::SUPERCLASS;
+use sqz_names::{Categories, Label};
 use sqz_object::ObjectIndex;
 use std::alloc::{AllocError, Global};
 use std::collections::BTreeMap;
@@ -21,6 +21,7 @@ const MOST_INDENTED: usize = 30;
 struct ClassRow {
     class: String,
     address: u32,
+    category: Option<String>,
     /// The number of its live methods.
     methods: u32,
     /// The number of its live instances.
@@ -92,38 +93,47 @@ fn classes_of(
 ) -> Result<Classes, AllocError> {
     let methods = count_methods(inspector)?;
     let instances = count_instances(rt, inspector)?;
+    let categories = Categories::of_classes(inspector.alloc, &inspector.names)?;
     let mut classes = BTreeMap::new(inspector.alloc);
     for object in 0..inspector.live.graph.heap.len() {
         if inspector.live.marks.has(object) {
             let (methods, instances) = (methods.of(object), instances.of(object));
-            add_class(inspector, object, methods, instances, &mut classes)?;
+            let row = row_of(inspector, &categories, object, methods, instances)?;
+            add_class(&mut classes, row)?;
         }
     }
     Ok(classes)
 }
 
-/// Adds a live object to the classes if it is one and no metaclass.
-fn add_class(
+/// Returns a live object with these numbers as a class. None if it is none, or a metaclass.
+fn row_of(
     inspector: &Inspector<'_>,
+    categories: &Categories<'_, '_>,
     object: ObjectIndex,
     methods: u32,
     instances: u32,
-    classes: &mut Classes,
-) -> Result<(), AllocError>
+) -> Result<Option<ClassRow>, AllocError>
     requires { IsObjectOf inspector.now object }
 {
     if inspector.names.label_of(object)? != Label::Class {
-        return Ok(());
+        return Ok(None);
     }
-    let row = ClassRow {
+    Ok(Some(ClassRow {
         class: inspector.names.name_of_class(object)?,
         address: inspector.address(object).0,
+        category: category_of(inspector, categories, object)?,
         methods,
         instances,
         object,
         superclass: field_of(inspector, object, SUPERCLASS),
-    };
-    classes.insert((row.class.clone()?, row.address), row)?;
+    }))
+}
+
+/// Adds a class, if there is one.
+fn add_class(classes: &mut Classes, row: Option<ClassRow>) -> Result<(), AllocError> {
+    if let Some(row) = row {
+        classes.insert((row.class.clone()?, row.address), row)?;
+    }
     Ok(())
 }
 
@@ -315,6 +325,10 @@ fn print_rows<C: Sink>(
 fn print_row<C: Sink>(class: &ClassRow, depth: usize, out: &mut Out<'_, C>) {
     out.word("class", class.class.as_str());
     out.hex("address", class.address);
+    out.word_or_null(
+        "category",
+        class.category.as_ref().map(|category| category.as_str()),
+    );
     out.number("depth", depth as u64);
     out.number("methods", u64::from(class.methods));
     out.number("instances", u64::from(class.instances));

@@ -20,6 +20,8 @@ pub(crate) struct Row {
     pub(crate) label: String,
     /// The address of its object.
     pub(crate) address: Option<u32>,
+    /// Whether its label alone does not tell its object from others: whether it has no name.
+    pub(crate) is_unnamed: bool,
     /// The name of its object's class.
     pub(crate) class: Option<String>,
     /// The number of rows above it.
@@ -63,12 +65,13 @@ impl Row {
     fn of(inspector: &Inspector<'_>, row: TopRow, label: String) -> Result<Self, AllocError>
         requires { IsRowInside (object_count inspector.now.live.graph.heap.now) row }
     {
-        let (address, class) = match row.what {
+        let (address, class, is_unnamed) = match row.what {
             TopObjects::One { object, .. } => {
                 let class = inspector.names.name_of_class_of(object)?;
-                (Some(inspector.address(object).0), Some(class))
+                let is_unnamed = inspector.names.label_of(object)? == Label::Other;
+                (Some(inspector.address(object).0), Some(class), is_unnamed)
             }
-            TopObjects::Smaller { .. } => (None, None),
+            TopObjects::Smaller { .. } => (None, None, false),
         };
         let parent = match row.parent {
             Some(parent) => Some(inspector.address(parent).0),
@@ -77,6 +80,7 @@ impl Row {
         Ok(Row {
             label,
             address,
+            is_unnamed,
             class,
             depth: row.depth as usize,
             parent,
@@ -166,6 +170,7 @@ fn add_address(alloc: Global, repeated: &Keys, row: &mut Row) -> Result<(), Allo
         && repeated.contains(&key_of(row)?)
     {
         row.label = format!(in alloc; "{} {address:08x}", row.label)?;
+        row.is_unnamed = false;
     }
     Ok(())
 }

@@ -93,7 +93,8 @@ fn print_row<C: Sink>(
         out.words("path", path);
     } else {
         out.text("share", share_text(inspector.alloc, row.retained, whole));
+        out.hex_or_null("unnamed", if row.is_unnamed { row.address } else { None });
         out.indent("indent", row.depth);
     }
-    out.line("{retained:>10} {share:>6} {objects:>9}   {indent}{label}");
+    out.line("{retained:>10} {share:>6} {objects:>9}   {indent}{label}{unnamed/ }");
 }

@@ -5,6 +5,7 @@
 mod amounts;
 mod cell;
 mod cells;
+mod class_categories;
 mod counted;
 mod hex;
 mod inspector;
@@ -27,6 +28,7 @@ mod subject;
 mod template;
 mod values;
 
+pub use class_categories::{category_of, listed_name};
 pub use counted::Counted;
 pub use hex::Hex;
 pub use inspector::Inspector;
