@@ -1,0 +1,11 @@
+pub mod ListLemmas
+pub mod NamedLemmas
+pub mod PairLemmas
+pub mod AnchorLemmas
+pub mod LeadLemmas
+pub mod TallyLemmas
+pub mod TalliesLemmas
+pub mod SameLemmas
+pub mod LawLemmas
+pub mod AlikeLemmas
+pub mod OwnerLemmas

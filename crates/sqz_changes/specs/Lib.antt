@@ -1,0 +1,12 @@
+pub mod Named
+pub mod Compared
+pub mod Anchors
+pub mod Headers
+pub mod Words
+pub mod Differences
+pub mod Owners
+pub mod Leads
+pub mod Changes
+pub mod Tally
+pub mod Tallies
+pub mod Laws
