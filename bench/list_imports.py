@@ -41,6 +41,7 @@ PROMISES = {
     "`top`": ["sqz_answers/TopRows"],
     "`diff`: alike": ["sqz_alike/Alike"],
     "`diff`: the first objects": ["sqz_alike/FirstDifference"],
+    "`diff`: what differs, by owner": ["sqz_changes/Changes"],
     "`diff`: the exit": ["sqz_look_cli/Comparison"],
     "`digest`": ["sqz_digest/Written"],
     "`mend`": ["sqz_damage/Recovery"],

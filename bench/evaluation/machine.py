@@ -34,12 +34,6 @@ def bytes_of_memory(name):
     return KIB * int(value_in("/proc/meminfo", name).split()[0])
 
 
-def commit():
-    """The commit of this checkout, and whether its files are changed."""
-    changed = ", changed" if printed_by("git", "status", "--porcelain") else ""
-    return printed_by("git", "rev-parse", "--short=8", "HEAD") + changed
-
-
 def machine_version():
     """The version of the Squeak machine: the name of its folder."""
     found = find_machine()
@@ -55,7 +49,6 @@ def print_machine(image):
         ("kit", printed_by("rt", "version")),
         ("stock Rust", printed_by("rustc", "--version")),
         ("Squeak machine", machine_version()),
-        ("commit", commit()),
     )
     print("| Machine | |\n|---|---|")
     for name, value in rows:

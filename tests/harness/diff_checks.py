@@ -6,8 +6,9 @@ from tests.harness.json_rows import difference, rows_of
 from tests.harness.look_checks import LookTest, warning_about
 from tests.harness.sqzlook import CLEAR, look_at_all
 from tests.reference.answers import Answers
-from tests.reference.changes import Changes, Side
+from tests.reference.changes import Changes
 from tests.reference.image import Image
+from tests.reference.sides import Side
 
 JSON, TEXT, WHOLE_TEXT = ("--json",), (), ("--all",)
 FORMS = (JSON, TEXT, WHOLE_TEXT)

@@ -202,16 +202,17 @@ class CategoriesTest(LookTest):
         self.assertEqual(self.ask(image), {})
 
     def test_rows_of_categories(self):
-        """Categories of one text have one row, and those of several texts a row each."""
+        """Categories of one text have one row, and those of several texts a row each. Each class
+        has its metaclass with it."""
         for texts, expected in (
-            ([ONE, ONE], {"Graphics": 4}),
-            ([ONE, TWO], {"Graphics": 2, "Collections-Text": 2}),
+            ([ONE, ONE], {"Graphics": 8}),
+            ([ONE, TWO], {"Graphics": 4, "Collections-Text": 4}),
         ):
             self.ask(OrganizedImage(texts, [2, 4], LISTED))
             outcome = look("census", "--json", *BY, NAME, folder=self.folder)
             *rows, total = rows_of(self.printed_by(outcome))
             found = {row["category"]: row["classes"] for row in rows}
-            rest = {"no category": total["classes"] - 4}
+            rest = {"no category": total["classes"] - 8}
             self.assertEqual(found, {**expected, **rest})
 
 
@@ -299,7 +300,7 @@ class KnownCategoriesTest(KnownImageTest):
     def test_text(self):
         first, *lines = self.printed("census", *BY).decode().splitlines()
         self.assertEqual(first, TINY.splitlines()[0])
-        self.assertEqual(lines[0], "     11054      2998548         4  Collections-Arrayed")
+        self.assertEqual(lines[0], "     11060      2998836        10  Collections-Arrayed")
         self.assertEqual(lines[-1], "     83459      5682480       757  total")
         self.assertEqual(len(lines), SHOWN + 2)
 
@@ -326,10 +327,14 @@ class KnownCategoriesTest(KnownImageTest):
         return {name: row[name] for name in ("image", "objects", "bytes")}
 
     def test_category_of_a_class(self):
-        """A class has the category that `code` prints."""
+        """A class has the category that `code` prints, and so has its metaclass."""
         categories = {row["class"]: row["category"] for row in self.rows("census")}
+        tree = {row["class"]: row["category"] for row in self.rows("code", "--classes")}
         for name in ("Point", "SoundBuffer", "OrderedCollection"):
             with self.subTest(name):
                 row, *_ = self.rows("code", name)
-                self.assertEqual(categories[name], row["category"])
                 self.assertIsNotNone(row["category"])
+                found = categories[name], categories[f"{name} class"], tree[name]
+                self.assertEqual(found, (row["category"],) * 3)
+                metaclass, *_ = self.rows("code", f"{name} class")
+                self.assertEqual(metaclass["category"], row["category"])

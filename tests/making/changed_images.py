@@ -1,5 +1,6 @@
 """Makes copies of images in which something was changed."""
 
+import functools
 import random
 
 from tests.making.named_image import named_file
@@ -65,15 +66,26 @@ def with_flipped_bit(image, place):
 
 
 def with_changed_word(image, generator):
-    """The image in which one bit of a random word of a live object is flipped: of a field, or of
-    the hash."""
-    live = [it for it, is_live in zip(image.objects, image.live()) if is_live]
-    it = generator.choice(live)
+    """As `changed_word`, without the number."""
+    return changed_word(image, generator)[0]
+
+
+def changed_word(image, generator):
+    """The image in which one bit of a random word of a live object is flipped, of a field or of the
+    hash; and the number of the object."""
+    number = generator.choice(live_numbers(image))
+    it = image.objects[number]
     place = generator.randrange(it.base, it.end)
     bits = range(17, 29) if place == it.base else range(32)
     words = image.words[:]
     words[place] ^= 1 << generator.choice(bits)
-    return with_words(image, words)
+    return with_words(image, words), number
+
+
+@functools.cache
+def live_numbers(image):
+    """The numbers of the live objects of an image."""
+    return [number for number, is_live in enumerate(image.live()) if is_live]
 
 
 def with_bad_pointers(image, count):

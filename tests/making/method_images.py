@@ -80,10 +80,6 @@ EQUAL_LITERALS = {
         lambda it: it.add_nested(3, it.add_cycle(3, 5, 7)),
     ]
     * 2,
-    "other objects of a class": [
-        lambda it: it.add(Format.FIXED, "Point", 3, 5),
-        lambda it: it.add(Format.FIXED, "Point", 7),
-    ],
 }
 OTHER_LITERALS = {
     "integers": [lambda _: 3, lambda _: 5],
@@ -121,6 +117,10 @@ OTHER_LITERALS = {
     "which of the arrays that contain each other": [
         lambda it: it.add_cycle(3, 5),
         lambda it: it.add_cycle(5, 3),
+    ],
+    "other objects of a class": [
+        lambda it: it.add(Format.FIXED, "Point", 3, 5),
+        lambda it: it.add(Format.FIXED, "Point", 7, 5),
     ],
     "classes of other objects": [
         lambda it: it.add(Format.FIXED, "Point", ZERO, ZERO),

@@ -5,9 +5,8 @@ ghost use Rattle.sqz_image.specs.Objects.{object_count};
 ghost use Rattle.sqz_histogram.specs.Groups.{IsInside};
 ghost use Rattle.sqz_look_diff.specs.ClassSizes.{AreClassSizes};
 
-use crate::numbers::Numbers;
-use crate::read_names::ReadNames;
-use crate::whole_names::WholeNames;
+use crate::keys::class_key;
+use crate::texts::{Age, Texts};
 use sqz_answers::{
     Change, NamedTotal, Size, changes_of, live_histogram, sizes_by_name, sort_by_difference,
 };
@@ -24,38 +23,38 @@ pub(crate) fn class_changes(
     rt: &(impl Threads + Sync),
     old: &Inspector<'_>,
     new: &Inspector<'_>,
-    names: &mut ReadNames,
+    texts: &mut Texts,
 ) -> Result<Vec<Change<Size>>, AllocError> {
-    let old_sizes = sizes_of(rt, old, &mut names.texts.whole, &mut names.old.whole)?;
-    let new_sizes = sizes_of(rt, new, &mut names.texts.whole, &mut names.new.whole)?;
+    let old_sizes = sizes_of(rt, old, texts, Age::Old)?;
+    let new_sizes = sizes_of(rt, new, texts, Age::New)?;
     let mut changes = changes_of(old.alloc, &old_sizes, &new_sizes)?;
     sort_by_difference(&mut changes)?;
     Ok(changes)
 }
 
-/// Returns the size of the live instances of each class, by its name. Classes with one name are
+/// Returns the size of the live instances of each class, by its key. Classes with one name are
 /// added up.
 fn sizes_of(
     rt: &(impl Threads + Sync),
     inspector: &Inspector<'_>,
-    numbers: &mut Numbers,
-    names: &mut WholeNames,
+    texts: &mut Texts,
+    age: Age,
 ) -> Result<BTreeMap<String, Size>, AllocError>
     ensures { IfOk result (AreClassSizes inspector.now.live.graph.heap.now
         inspector.now.live.graph.weak inspector.now.live.marks) }
 {
     heap_bounds(inspector.live.graph.heap); // fewer than 2^30 objects and words
     let histogram = live_histogram(rt, inspector.alloc, &inspector.live)?;
-    let named = with_names(inspector, numbers, names, &histogram.totals)?;
+    let named = with_keys(inspector, texts, age, &histogram.totals)?;
     let sizes = sizes_by_name(inspector.alloc, &named)?;
     Ok(sizes)
 }
 
-/// Returns the totals of a class histogram with the names of their classes.
-fn with_names(
+/// Returns the totals of a class histogram with the keys of their classes.
+fn with_keys(
     inspector: &Inspector<'_>,
-    numbers: &mut Numbers,
-    names: &mut WholeNames,
+    texts: &mut Texts,
+    age: Age,
     totals: &[GroupTotal],
 ) -> Result<Vec<NamedTotal>, AllocError>
     requires { All (λ total. IsInside (object_count inspector.now.live.graph.heap.now)
@@ -65,7 +64,7 @@ fn with_names(
     let mut named = Vec::new(inspector.alloc);
     for total in totals {
         let name = match total.group {
-            Group::Class(class) => names.class(inspector, numbers, class)?,
+            Group::Class(class) => class_key(inspector, texts, age, class)?,
             Group::Compact(index) => format!(in inspector.alloc; "compact {index}")?,
         };
         named.push(NamedTotal {

@@ -1,246 +1,128 @@
-//! The definitions of classes.
+//! The rows about classes.
 
-ghost use Rattle.std.specs.Prelude.{IfSome};
 ghost use Rattle.sqz_look_view.specs.Inspectors.{IsObjectOf};
 
-use crate::name_list::NameList;
-use crate::numbers::Numbers;
-use crate::read_names::ReadNames;
-use crate::whole_names::WholeNames;
-use sqz_answers::Change;
-use sqz_look_view::{Inspector, field_of};
-use sqz_names::Categories;
-use sqz_names::fields::{INSTANCE_VARIABLES, NAME, SUPERCLASS};
+use crate::categories::CategoryChange;
+use crate::changed_rows::{Kind, print_owners};
+use crate::compared::Compared;
+use crate::found::Found;
+use crate::keys::name_in;
+use crate::names::class_text;
+use sqz_image::Sink;
+use sqz_look_view::{Inspector, Out, field_of};
+use sqz_names::fields::SUPERCLASS;
 use sqz_object::ObjectIndex;
 use std::alloc::{AllocError, Global};
-use std::collections::BTreeMap;
 
-/// The classes that came or went, or whose definitions differ, by name.
-#[derive(Drop)]
-pub(crate) struct DefinitionChanges {
-    /// Those that came or went, or have another superclass: their superclasses.
-    pub(crate) superclasses: Vec<Change<String>>,
-    /// Those of both images that add other instance variables to those of their superclasses.
-    pub(crate) variables: Vec<Change<NameList>>,
-    /// Those of both images with another category. None if the class has no category.
-    pub(crate) categories: Vec<Change<String>>,
+/// Returns the number of rows.
+pub(crate) fn definition_count(found: &Found) -> usize {
+    let alone = found
+        .removed
+        .classes
+        .len()
+        .saturating_add(found.added.classes.len());
+    alone
+        .saturating_add(found.owners.classes.len())
+        .saturating_add(found.categories.len())
 }
 
-/// The definition of a class.
-#[derive(Drop)]
-struct Definition {
-    superclass: String,
-    variables: NameList,
-    category: Option<String>,
+/// Prints the classes that were removed or added, those in which something differs, and those with
+/// other categories.
+pub(crate) fn print_definitions<C: Sink>(
+    compared: Compared<'_>,
+    found: &Found,
+    out: &mut Out<'_, C>,
+) {
+    let (count, classes) = (definition_count(found), &found.owners.classes);
+    let (removed, added) = (&found.removed.classes, &found.added.classes);
+    out.count("count", count);
+    out.heading("definitions {count} changed");
+    let most = out.shown(count);
+    for class in removed.iter().take(most) {
+        print_class(compared.old, *class, false, out);
+    }
+    let most = most.saturating_sub(removed.len());
+    for class in added.iter().take(most) {
+        print_class(compared.new, *class, true, out);
+    }
+    let most = most.saturating_sub(added.len());
+    print_owners(compared, Kind::Definition, classes, most, out);
+    let most = most.saturating_sub(classes.len());
+    for (key, change) in found.categories.iter().take(most) {
+        print_category(compared.old.alloc, key.as_str(), change, out);
+    }
+    out.rest(count, "row");
 }
 
-/// The definitions of live classes, by their names. Classes with one name are in the order of their
-/// addresses.
-type Definitions = BTreeMap<String, Vec<Definition>>;
-
-impl DefinitionChanges {
-    /// Returns no changes.
-    pub(crate) fn none(alloc: Global) -> Self {
-        DefinitionChanges {
-            superclasses: Vec::new(alloc),
-            variables: Vec::new(alloc),
-            categories: Vec::new(alloc),
-        }
-    }
-
-    /// Returns what differs between the definitions of two images.
-    fn between(alloc: Global, old: &Definitions, new: &Definitions) -> Result<Self, AllocError> {
-        let mut changes = DefinitionChanges::none(alloc);
-        for (name, definitions) in old.iter() {
-            match new.get(name.as_str()) {
-                Some(others) => changes.add(alloc, name.as_str(), definitions, others)?,
-                None => changes.add(alloc, name.as_str(), definitions, &[])?,
-            }
-        }
-        for (name, definitions) in new.iter() {
-            if !old.contains_key(name.as_str()) {
-                changes.add(alloc, name.as_str(), &[], definitions)?;
-            }
-        }
-        Ok(changes)
-    }
-
-    /// Returns the number of changes.
-    pub(crate) fn len(&self) -> usize {
-        let (some, others) = (self.superclasses.len(), self.variables.len());
-        some.saturating_add(others)
-            .saturating_add(self.categories.len())
-    }
-
-    /// Adds what differs between the classes that have one name in two images. Several are compared
-    /// by their order.
-    fn add(
-        &mut self,
-        alloc: Global,
-        name: &str,
-        old: &[Definition],
-        new: &[Definition],
-    ) -> Result<(), AllocError> {
-        for place in 0..old.len().max(new.len()) {
-            match (old.get(place), new.get(place)) {
-                (Some(old), Some(new)) => self.add_differences(alloc, name, old, new)?,
-                (old, new) => self.superclasses.push(Change {
-                    name: String::from_str(alloc, name)?,
-                    old: superclass_of(old)?,
-                    new: superclass_of(new)?,
-                })?,
-            }
-        }
-        Ok(())
-    }
-
-    /// Adds what differs between two definitions of a class.
-    fn add_differences(
-        &mut self,
-        alloc: Global,
-        name: &str,
-        old: &Definition,
-        new: &Definition,
-    ) -> Result<(), AllocError> {
-        if old.superclass.as_str() != new.superclass.as_str() {
-            self.superclasses.push(Change {
-                name: String::from_str(alloc, name)?,
-                old: superclass_of(Some(old))?,
-                new: superclass_of(Some(new))?,
-            })?;
-        }
-        if !old.variables.is_same(&new.variables) {
-            self.variables.push(Change {
-                name: String::from_str(alloc, name)?,
-                old: Some(old.variables.copied(alloc)?),
-                new: Some(new.variables.copied(alloc)?),
-            })?;
-        }
-        if !is_same_text(&old.category, &new.category) {
-            self.categories.push(Change {
-                name: String::from_str(alloc, name)?,
-                old: text_copy(&old.category)?,
-                new: text_copy(&new.category)?,
-            })?;
-        }
-        Ok(())
-    }
-}
-
-/// Returns the classes that came or went, or whose definitions differ: those of the old image by
-/// name, and then those of the new one alone.
-pub(crate) fn definition_changes(
-    old: &Inspector<'_>,
-    new: &Inspector<'_>,
-    names: &mut ReadNames,
-) -> Result<DefinitionChanges, AllocError> {
-    let alloc = old.alloc;
-    let old = definitions_in(old, &mut names.texts.whole, &mut names.old.whole)?;
-    let new = definitions_in(new, &mut names.texts.whole, &mut names.new.whole)?;
-    DefinitionChanges::between(alloc, &old, &new)
-}
-
-/// Returns the definitions of the live classes of an image.
-fn definitions_in(
+/// Prints a class whose name one image alone has: the new one, or the old one.
+fn print_class<C: Sink>(
     inspector: &Inspector<'_>,
-    numbers: &mut Numbers,
-    names: &mut WholeNames,
-) -> Result<Definitions, AllocError> {
-    let alloc = inspector.alloc;
-    let categories = Categories::of_classes(alloc, &inspector.names)?;
-    let mut found = BTreeMap::new(alloc);
-    for class in 0..inspector.live.graph.heap.len() {
-        if !inspector.names.is_class(class) || !inspector.live.marks.has(class) {
-            continue;
-        }
-        let name = names.class(inspector, numbers, class)?;
-        let category = match field_of(inspector, class, NAME) {
-            Some(listed) => categories.of_listed(listed)?,
-            None => None,
-        };
-        let definition = definition_of(inspector, names, numbers, class, category)?;
-        let same_name = found.entry(name)?.or_insert(Vec::new(alloc));
-        same_name.push(definition)?;
-    }
-    Ok(found)
-}
-
-/// Returns the definition of a class in a category.
-fn definition_of(
-    inspector: &Inspector<'_>,
-    names: &mut WholeNames,
-    numbers: &mut Numbers,
     class: ObjectIndex,
-    category: Option<ObjectIndex>,
-) -> Result<Definition, AllocError>
-    requires class { IsObjectOf inspector.now class }
-    requires category { IfSome category (λ category.
-        IsObjectOf inspector.now category) }
-{
-    let category = match category {
-        Some(category) => names.text(inspector, numbers, category)?,
-        None => None,
-    };
-    Ok(Definition {
-        superclass: superclass_text(inspector, names, numbers, class)?,
-        variables: variables_of(inspector, names, numbers, class)?,
-        category,
-    })
+    is_added: bool,
+    out: &mut Out<'_, C>,
+) {
+    if class >= inspector.live.graph.heap.len() {
+        return;
+    }
+    out.word("kind", "definition");
+    out.text("name", class_text(inspector, class));
+    out.word("part", "superclass");
+    out.texts("slots", &[]);
+    if is_added {
+        out.null("old");
+        out.text("new", superclass_text(inspector, class));
+    } else {
+        out.text("old", superclass_text(inspector, class));
+        out.null("new");
+    }
+    out.null("differences");
+    out.line(if is_added {
+        "  added    {name}: superclass {new}"
+    } else {
+        "  removed  {name}: superclass {old}"
+    });
+}
+
+/// Prints a class with another category, given its key.
+fn print_category<C: Sink>(
+    alloc: Global,
+    key: &str,
+    change: &CategoryChange,
+    out: &mut Out<'_, C>,
+) {
+    out.word("kind", "definition");
+    out.word("name", name_in(key));
+    out.word("part", "category");
+    out.texts("slots", &[]);
+    add_category(alloc, "old", &change.old, out);
+    add_category(alloc, "new", &change.new, out);
+    out.null("differences");
+    out.line("  changed  {name}: category {old} -> {new}");
+}
+
+/// Adds a category: as text in quotes, or `none`.
+fn add_category<C: Sink>(
+    alloc: Global,
+    name: &'static str,
+    category: &Option<String>,
+    out: &mut Out<'_, C>,
+) {
+    match category {
+        Some(category) if out.is_json() => out.word(name, category.as_str()),
+        Some(category) => out.text(name, format!(in alloc; "'{category}'")),
+        None if out.is_json() => out.null(name),
+        None => out.word(name, "none"),
+    }
 }
 
 /// Returns the name of the superclass of a class, or `nil`.
-fn superclass_text(
-    inspector: &Inspector<'_>,
-    names: &mut WholeNames,
-    numbers: &mut Numbers,
-    class: ObjectIndex,
-) -> Result<String, AllocError>
+fn superclass_text(inspector: &Inspector<'_>, class: ObjectIndex) -> Result<String, AllocError>
     requires { IsObjectOf inspector.now class }
 {
     match field_of(inspector, class, SUPERCLASS) {
         Some(superclass) if inspector.names.is_class(superclass) => {
-            names.class(inspector, numbers, superclass)
+            class_text(inspector, superclass)
         }
         _ => String::from_str(inspector.alloc, "nil"),
-    }
-}
-
-/// Returns the names of the instance variables that a class adds to those of its superclass.
-fn variables_of(
-    inspector: &Inspector<'_>,
-    names: &mut WholeNames,
-    numbers: &mut Numbers,
-    class: ObjectIndex,
-) -> Result<NameList, AllocError>
-    requires { IsObjectOf inspector.now class }
-{
-    match field_of(inspector, class, INSTANCE_VARIABLES) {
-        Some(array) => names.list(inspector, numbers, array),
-        None => Ok(NameList::empty(inspector.alloc)),
-    }
-}
-
-/// Returns the superclass in a definition, if there is one.
-fn superclass_of(definition: Option<&Definition>) -> Result<Option<String>, AllocError> {
-    match definition {
-        Some(definition) => Ok(Some(definition.superclass.clone()?)),
-        None => Ok(None),
-    }
-}
-
-/// Returns whether two texts are the same, or both are missing.
-fn is_same_text(one: &Option<String>, other: &Option<String>) -> bool {
-    match (one, other) {
-        (Some(one), Some(other)) => one.as_str() == other.as_str(),
-        (None, None) => true,
-        _ => false,
-    }
-}
-
-/// Returns a copy of a text, if there is one.
-fn text_copy(text: &Option<String>) -> Result<Option<String>, AllocError> {
-    match text {
-        Some(text) => Ok(Some(text.clone()?)),
-        None => Ok(None),
     }
 }

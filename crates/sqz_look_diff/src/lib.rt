@@ -1,32 +1,36 @@
-//! What changed between two images: objects and bytes, classes, what variables retain, and methods,
-//! printed as text or as lines of JSON. Everything is compared by its name, and nothing by address.
+//! What changed between two images, printed as text or as lines of JSON: objects and bytes,
+//! classes, what variables retain, and what differs between partners, by the objects with names
+//! that own it. Nothing is compared by address.
 #![tactic(auto)]
 
+mod alone;
+mod aspects;
+mod bytes;
+mod categories;
+mod changed;
+mod changed_rows;
 mod classes;
-mod contents;
-mod definition_rows;
+mod compared;
+mod cut;
 mod definitions;
 mod diff;
-mod differences;
 mod first_difference;
+mod found;
 mod holder_rows;
 mod holders;
+mod keys;
 mod kinds;
-mod literal_numbers;
-mod literals;
 mod matched;
-mod method_names;
-mod method_order;
 mod methods;
-mod name_list;
 mod named_objects;
-mod numbers;
-mod object_numbers;
-mod read_names;
+mod names;
+mod owners;
+mod paths;
+mod quiet;
 mod rows;
 mod signed;
-mod values;
+mod texts;
 mod variables;
-mod whole_names;
+mod words;
 
 pub use diff::print_diff;

@@ -1,153 +1,168 @@
-//! The objects of two images with equal names.
+//! The live objects of an image that have names.
 
-use crate::method_names::ImageNames;
-use crate::read_names::{ReadNames, Texts};
-use sqz_alike::Pair;
+ghost use Rattle.sqz_look_view.specs.Inspectors.{IsObjectOf};
+
+use crate::texts::{Age, Texts};
+use sqz_changes::{Name, Named};
 use sqz_look_view::Inspector;
+use sqz_names::{Label, MethodName};
 use sqz_object::ObjectIndex;
-use std::alloc::{AllocError, Global};
+use sqz_trace::Marks;
+use std::alloc::AllocError;
 
-/// The name of an object, by the numbers of its texts.
-#[derive(Clone, Copy, PartialEq, Eq, PartialOrd, Ord)]
-enum ObjectName {
-    Class(usize),
-    /// The association of a variable.
-    Variable(usize),
-    /// The value of a variable.
-    Value(usize),
-    /// A method of a class under a selector.
-    Method(usize, usize),
+/// A method with its name as numbers.
+#[derive(Clone, Copy)]
+pub(crate) struct NamedMethod {
+    pub(crate) named: Named<Name>,
+    pub(crate) method: MethodName,
 }
-
-/// An object with its name.
-type Named = (ObjectName, ObjectIndex);
 
 /// The live objects of an image that have names.
 #[derive(Drop)]
-struct NamedObjects {
-    /// In the order in which they are matched.
-    listed: Vec<Named>,
-    /// In the order of their names.
-    by_name: Vec<Named>,
+pub(crate) struct NamedObjects {
+    /// Classes and metaclasses by address, associations of variables, methods and symbols.
+    pub(crate) all: Vec<Named<Name>>,
+    /// The methods among them, in the same order.
+    pub(crate) methods: Vec<NamedMethod>,
 }
 
 impl NamedObjects {
-    /// Returns these objects.
-    fn of(alloc: Global, listed: Vec<Named>) -> Result<Self, AllocError> {
-        let mut by_name = Vec::from_slice(alloc, &listed)?;
-        by_name.sort_unstable_by_key(|it: &Named| -> ObjectName { it.0 });
-        Ok(NamedObjects { listed, by_name })
-    }
-
-    /// Returns the only object of a name. None if there is none, or several.
-    fn only(&self, name: ObjectName) -> Option<ObjectIndex> {
-        let begin = self.by_name.partition_point(|it: &Named| it.0 < name);
-        let end = self.by_name.partition_point(|it: &Named| it.0 <= name);
-        match self.by_name.get(begin..end) {
-            Some([(_, object)]) => Some(*object),
-            _ => None,
+    /// Returns the live objects of an image that have names.
+    pub(crate) fn of(
+        inspector: &Inspector<'_>,
+        texts: &mut Texts,
+        age: Age,
+    ) -> Result<Self, AllocError> {
+        let mut all = Vec::new(inspector.alloc);
+        add_classes(inspector, texts, age, &mut all)?;
+        add_variables(inspector, texts, age, &mut all)?;
+        let methods = named_methods(inspector, texts, age)?;
+        for method in &methods {
+            all.push(method.named)?;
         }
+        add_symbols(inspector, texts, age, &mut all)?;
+        Ok(NamedObjects { all, methods })
     }
 }
 
-/// Returns the objects of two images with equal names, each of which only one object of either
-/// image has: classes, associations of variables and methods, and then the values of variables;
-/// each in the order of the old image.
-pub(crate) fn named_pairs(
-    old: &Inspector<'_>,
-    new: &Inspector<'_>,
-    names: &mut ReadNames,
-) -> Result<Vec<Pair>, AllocError> {
-    let mut pairs = Vec::new(old.alloc);
-    let old = objects_of(old, &mut names.texts, &mut names.old)?;
-    let new = objects_of(new, &mut names.texts, &mut names.new)?;
-    for (name, object) in &old.listed {
-        if old.only(*name).is_some()
-            && let Some(partner) = new.only(*name)
-        {
-            pairs.push(Pair {
-                old: *object,
-                new: partner,
-            })?;
-        }
-    }
-    Ok(pairs)
-}
-
-/// Returns the live objects of an image that have names.
-fn objects_of(
-    inspector: &Inspector<'_>,
-    texts: &mut Texts,
-    names: &mut ImageNames,
-) -> Result<NamedObjects, AllocError> {
-    let mut found = Vec::new(inspector.alloc);
-    let mut values = Vec::new(inspector.alloc);
-    add_classes(inspector, texts, names, &mut found)?;
-    add_variables(inspector, texts, names, &mut found, &mut values)?;
-    add_methods(inspector, texts, names, &mut found)?;
-    found.extend_from_slice(&values)?;
-    NamedObjects::of(inspector.alloc, found)
-}
-
-/// Adds the live classes, by address.
+/// Adds the live classes and metaclasses, by address.
 fn add_classes(
     inspector: &Inspector<'_>,
     texts: &mut Texts,
-    names: &mut ImageNames,
-    found: &mut Vec<Named>,
+    age: Age,
+    found: &mut Vec<Named<Name>>,
 ) -> Result<(), AllocError> {
-    for class in 0..inspector.live.graph.heap.len() {
-        if !inspector.names.is_class(class) || !inspector.live.marks.has(class) {
+    for object in 0..inspector.live.graph.heap.len() {
+        if !inspector.names.is_class(object) || !inspector.live.marks.has(object) {
             continue;
         }
-        let name = names.whole.class(inspector, &mut texts.whole, class)?;
-        let number = texts.whole.number_of(name.into_bytes())?;
-        found.push((ObjectName::Class(number), class))?;
+        let class = texts.of_class(inspector, age, object)?;
+        let name = match inspector.names.label_of(object)? {
+            Label::Class => Name::Class(class.name),
+            Label::Metaclass => Name::Metaclass(class.name),
+            _ => continue,
+        };
+        found.push(Named { name, object })?;
     }
     Ok(())
 }
 
-/// Adds the live associations of variables, by address, and appends their values.
+/// Adds the live associations of variables, by address.
 fn add_variables(
     inspector: &Inspector<'_>,
     texts: &mut Texts,
-    names: &mut ImageNames,
-    found: &mut Vec<Named>,
-    values: &mut Vec<Named>,
+    age: Age,
+    found: &mut Vec<Named<Name>>,
 ) -> Result<(), AllocError> {
     let mut last = None;
-    for name in inspector.names.variables() {
-        let association = name.association;
-        if last == Some(association) || !inspector.live.marks.has(association) {
+    for variable in inspector.names.variables() {
+        let object = variable.association;
+        if last == Some(object) || !inspector.live.marks.has(object) {
             continue;
         }
-        last = Some(association);
-        if let Some(variable) = inspector.names.variable(association)?
-            && let Some(label) = names.whole.variable(inspector, &mut texts.whole, *name)?
+        last = Some(object);
+        if inspector.names.variable(object)?.is_some()
+            && let Some(key) = texts.of_object(inspector, age, variable.key)?
         {
-            let number = texts.whole.number_of(label.into_bytes())?;
-            found.push((ObjectName::Variable(number), association))?;
-            if let Some(value) = variable.value {
-                values.push((ObjectName::Value(number), value))?;
-            }
+            let name = match variable.class {
+                Some(class) => { Name::ClassVariable(texts.of_class(inspector, age, class)?, key) }
+                None => Name::Global(key),
+            };
+            found.push(Named { name, object })?;
         }
     }
     Ok(())
 }
 
-/// Adds the live methods of live classes.
-fn add_methods(
+/// Returns the live methods of live classes, by the address of the class.
+fn named_methods(
     inspector: &Inspector<'_>,
     texts: &mut Texts,
-    names: &mut ImageNames,
-    found: &mut Vec<Named>,
-) -> Result<(), AllocError> {
+    age: Age,
+) -> Result<Vec<NamedMethod>, AllocError> {
     let marks = &inspector.live.marks;
-    for name in &inspector.names.methods_of_marked(marks)? {
-        if marks.has(name.method) {
-            let key = names.key(inspector, texts, name)?;
-            found.push((ObjectName::Method(key.class, key.selector), name.method))?;
+    let mut found = Vec::new(inspector.alloc);
+    for method in &inspector.names.methods_of_marked(marks)? {
+        let object = method.method;
+        if !marks.has(object) {
+            continue;
+        }
+        if let Some(selector) = texts.of_object(inspector, age, method.selector)? {
+            let class = texts.of_class(inspector, age, method.class)?;
+            let name = Name::Method(class, selector);
+            found.push(NamedMethod {
+                named: Named { name, object },
+                method: *method,
+            })?;
+        }
+    }
+    Ok(found)
+}
+
+/// Adds the live symbols, by address.
+fn add_symbols(
+    inspector: &Inspector<'_>,
+    texts: &mut Texts,
+    age: Age,
+    found: &mut Vec<Named<Name>>,
+) -> Result<(), AllocError> {
+    let graph = inspector.live.graph;
+    let classes = symbol_classes(inspector)?;
+    for object in 0..graph.heap.len() {
+        if !inspector.live.marks.has(object) || !has_class_in(inspector, object, &classes) {
+            continue;
+        }
+        if inspector.names.label_of(object)? == Label::Symbol
+            && let Some(text) = texts.of_object(inspector, age, object)?
+        {
+            let name = Name::Symbol(text);
+            found.push(Named { name, object })?;
         }
     }
     Ok(())
+}
+
+/// Returns whether the class of an object is marked.
+fn has_class_in(inspector: &Inspector<'_>, object: ObjectIndex, classes: &Marks) -> bool
+    requires { IsObjectOf inspector.now object }
+{
+    match inspector.live.graph.class_of(object) {
+        Some(class) => classes.has(class),
+        None => false,
+    }
+}
+
+/// Returns one mark per object: marked are the classes whose byte objects are symbols.
+fn symbol_classes(inspector: &Inspector<'_>) -> Result<Marks, AllocError> {
+    let heap = inspector.live.graph.heap;
+    let mut classes = Vec::new(inspector.alloc);
+    for class in 0..heap.len() {
+        if inspector.names.is_class(class) {
+            let name = inspector.names.name_of_class(class)?;
+            if name.as_str() == "Symbol" || name.as_str() == "ByteSymbol" {
+                classes.push(class)?;
+            }
+        }
+    }
+    Marks::listed(inspector.alloc, heap, &classes)
 }

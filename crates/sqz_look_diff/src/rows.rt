@@ -1,8 +1,7 @@
-//! The rows that say what differs.
+//! The rows about sizes.
 
-use crate::methods::MethodChange;
+use crate::keys::name_in;
 use crate::signed::signed_difference;
-use crate::values::ValueChange;
 use crate::variables::VariableChanges;
 use sqz_answers::{Change, Size, bytes_or_none, size_or_nothing};
 use sqz_image::Sink;
@@ -42,7 +41,7 @@ pub(crate) fn print_total<C: Sink>(old: Size, new: Size, out: &mut Out<'_, C>) {
 /// Prints a class whose live instances differ in number or size.
 pub(crate) fn print_class<C: Sink>(alloc: Global, change: &Change<Size>, out: &mut Out<'_, C>) {
     out.word("kind", "class");
-    out.word("name", change.name.as_str());
+    out.word("name", name_in(change.name.as_str()));
     if out.is_json() {
         add_size("old", change.old, out);
         add_size("new", change.new, out);
@@ -66,7 +65,7 @@ pub(crate) fn print_variable<C: Sink>(
 ) {
     let new_bytes = variables.new_bytes(change.name.as_str());
     out.word("kind", "retained");
-    out.word("name", change.name.as_str());
+    out.word("name", name_in(change.name.as_str()));
     out.amount_or_null("old", change.old);
     out.amount_or_null("new", change.new);
     out.amount_or_null("new_bytes", new_bytes);
@@ -84,28 +83,6 @@ pub(crate) fn print_variable<C: Sink>(
             "{difference:>11#byte} ({new_bytes} new) {name}{note}"
         }
         _ => "{difference:>11#byte} {share:<16} {name}{note}",
-    });
-}
-
-/// Prints a variable that has another value.
-pub(crate) fn print_value<C: Sink>(change: &ValueChange, out: &mut Out<'_, C>) {
-    out.word("kind", "value");
-    out.word("name", change.name.as_str());
-    out.word("old", change.old.as_str());
-    out.word("new", change.new.as_str());
-    out.line("  {name}: {old} -> {new}");
-}
-
-/// Prints a method that was added, removed or changed.
-pub(crate) fn print_method<C: Sink>(change: &MethodChange, out: &mut Out<'_, C>) {
-    out.word("kind", "method");
-    out.word("name", change.name.as_str());
-    out.amount_or_null("old", change.old.map(|method| method.bytes));
-    out.amount_or_null("new", change.new.map(|method| method.bytes));
-    out.line(match (change.old, change.new) {
-        (None, _) => "  added    {name}",
-        (_, None) => "  removed  {name}",
-        _ => "  changed  {name}",
     });
 }
 
@@ -128,11 +105,11 @@ fn share_text(
 /// Returns what the row of a variable ends with: whether it came or went, or its value was or is
 /// nil.
 fn note_of(variables: &VariableChanges, change: &Change<u64>) -> &'static str {
-    let name = change.name.as_str();
+    let key = change.name.as_str();
     match (change.old, change.new) {
         (None, _) => " (new)",
         (_, None) => " (gone)",
-        _ => match (variables.was_nil(name), variables.is_nil(name)) {
+        _ => match (variables.was_nil(key), variables.is_nil(key)) {
             (true, false) => " (was nil)",
             (false, true) => " (now nil)",
             _ => "",
