@@ -67,6 +67,8 @@ OLD_METHOD, NEW_METHOD = "ChangeSet>>superclasses", "ChangeSet>>ruperclasses"
 DEEP, WIDTHS = 4, (1000, 1001)
 # The copies in which one word was changed, and the random images that are compacted.
 CHANGED_COPIES, COMPACTED = 300, 300
+# How many copies of the known image are compared at once.
+AT_ONCE = 10
 
 
 class TrailerTest(unittest.TestCase):
@@ -171,7 +173,9 @@ class MadeImagesTest(DiffTest):
         files[OLD] = image.file()
         for name, file in files.items():
             self.write(name, file)
-        pairs = pairs_of(files, ((OLD, name) for name in files if name != OLD))
+        chosen = ((OLD, name) for name in files if name != OLD)
+        # a weak reference that is cleared can be changed without a difference
+        pairs = [pair for pair in pairs_of(files, chosen) if pair.options != CLEAR]
         for pair in pairs:
             self.assertEqual(Changes(pair.old, pair.new).status, 1)
         self.check_pairs(pairs)
@@ -405,22 +409,24 @@ class KnownDiffTest(DiffTest, KnownImageTest):
 
     def test_changed_words(self):
         """Each change of a word of a live object has a row of what owns the object."""
-        changes, generator = Changes(self.side, self.side), random.Random(SEED)
-        files, numbers = {}, {}
-        for at in range(CHANGED_COPIES):
-            image, numbers[at] = changed_word(self.image, generator)
-            files[at] = image.file()
-        found = 0
-        for at, file in files.items():
-            self.write(NEW, file)
-            outcome = look("diff", "--json", NAME, NEW, folder=self.folder)
-            self.assertEqual(outcome.status, 1)
-            total, *rows = rows_of(outcome.stdout)
-            self.assertTrue(rows or total["old"] != total["new"])
-            owner = changes.owner_text(changes.differences.owner_of(numbers[at]))
-            found += owner in {row.get("name") for row in rows if "differences" in row}
-        # the other words are in symbols and other names, or in what only holds methods or variables
-        self.assertGreater(found, CHANGED_COPIES * 9 // 10)
+        changes, generator, found = Changes(self.side, self.side), random.Random(SEED), []
+        for _ in range(CHANGED_COPIES // AT_ONCE):
+            names, numbers = [f"{at}.image" for at in range(AT_ONCE)], []
+            for name in names:
+                image, number = changed_word(self.image, generator)
+                self.write(name, image.file())
+                numbers.append(number)
+            lines = [("diff", "--json", NAME, name) for name in names]
+            for number, outcome in zip(numbers, look_at_all(lines, self.folder)):
+                self.assertEqual(outcome.status, 1)
+                total, *rows = rows_of(outcome.stdout)
+                self.assertTrue(rows or total["old"] != total["new"])
+                # symbols are names, and what only holds methods or variables has no rows
+                if not self.side.is_symbol(number) and number not in self.side.quiet:
+                    owner = changes.owner_text(changes.differences.owner_of(number))
+                    found.append(owner in {row.get("name") for row in rows if "differences" in row})
+        # the other words are where something else has its name
+        self.assertGreater(found.count(True), len(found) * 19 // 20)
 
     def test_flipped_bytecode(self):
         number = self.names.method_named(CHANGED)
