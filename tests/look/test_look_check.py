@@ -277,4 +277,5 @@ class ShownNamesTest(LookTest):
         self.write("it", named_image().file())
         self.assert_prints(("why", "it", "x\x1b[2J"), 1, "it: no object is named x\\x1b[2J")
         self.assert_prints(("list", "it", "x\ny"), 1, "it: no class is named x\\x0ay")
-        self.assert_prints(("find", "it", "(\n"), 2, "not a regular expression: (\\x0a")
+        why = "regex parse error at 0..1: unclosed group"
+        self.assert_prints(("find", "it", "(\n"), 2, rf"not a regular expression: (\x0a: {why}")

@@ -4,7 +4,7 @@ it lists the names of classes in the order of their categories."""
 import functools
 
 from tests.reference.fields import AssociationField, ClassField, OrganizerField, SpecialField
-from tests.reference.names import STRINGS, SYMBOLS, escaped, shortened
+from tests.reference.names import STRINGS, SYMBOLS, shortened
 from tests.reference.values import signed
 
 # The global variable that lists the classes of each category.
@@ -87,7 +87,8 @@ class Categories:
         category = self.object_of(a_class)
         return None if category is None else shortened(self.image.text(category))
 
-    def whole(self, a_class):
-        """All bytes of the category of a class as text, if it has one."""
-        category = self.object_of(a_class)
-        return None if category is None else escaped(self.image.text(category))
+    def of_own_name(self, a_class):
+        """The first bytes of the category that lists the name of a class as text. A metaclass has
+        no name, and so none."""
+        category = self.objects.get(self.names.target(a_class, ClassField.NAME))
+        return None if category is None else shortened(self.image.text(category))
