@@ -264,7 +264,8 @@ class MadeImagesTest(DiffTest):
         line = self.line(*(it.file() for it in images), "  changed  Object>>yourself literal 1: ")
         one, other = (f"Smalltalk at: #{'y' * 60}{end}" for end in "ab")
         self.assertTrue(line.endswith(": ..a -> ..b"), line)
-        row = next(it for it in self.changes(*(it.file() for it in images)) if it["kind"] == "method")
+        rows = self.changes(*(it.file() for it in images))
+        row = next(it for it in rows if it["kind"] == "method")
         self.assertEqual((row["old_value"], row["new_value"]), (one, other))
 
     def long_variables(self):

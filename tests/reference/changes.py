@@ -200,7 +200,8 @@ class Changes:
         elif kind in ("class", "metaclass"):
             before |= {"kind": "definition", "part": self.part(change)}
             rows, verb = self.definitions, "  changed  "
-        rows.append(Row({**before, **after, "differences": change.count}, verb + self.line_of(change)))
+        members = {**before, **after, "differences": change.count}
+        rows.append(Row(members, verb + self.line_of(change)))
 
     def part(self, change):
         """Which part of the definition of a class a difference is in."""

@@ -249,7 +249,8 @@ class Differences:
             return "hash", *(str(self.hash(*it)) for it in objects)
         are_methods = self.are_methods(pair)
         if place.part == "trailer":
-            return self.fact(objects, TRAILER_FACTS) or self.byte(objects, self.untraced, self.first_untraced)
+            fact = self.fact(objects, TRAILER_FACTS)
+            return fact or self.byte(objects, self.untraced, self.first_untraced)
         if not are_methods:
             texts = [side.words_of(it) for side, it in objects]
             if None not in texts and texts[0] != texts[1]:
