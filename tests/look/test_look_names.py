@@ -16,6 +16,7 @@ from tests.reference.fields import ClassField
 from tests.reference.image import Image
 from tests.reference.objects import ZERO, Format
 from tests.reference.sites import site_text
+from tests.reference.tree import Tree
 
 FILE = "it.image"
 # The objects that are asked about in a copy with random words.
@@ -249,7 +250,8 @@ class ArrowsTest(LookTest):
     """The first `>>` of a name ends the name of the class; a label may have more of them."""
 
     def asked(self, *methods):
-        """The address that a name with two `>>` stands for, and those of these methods by class."""
+        """How it ends to ask about a name with two `>>`, and the addresses of these methods, by
+        class."""
         image = NamedImage()
         for a_class, selector in methods:
             image.add_class(a_class, "Object", selectors=(selector,))
@@ -257,17 +259,110 @@ class ArrowsTest(LookTest):
         self.write(FILE, data)
         names = Asking(Image.read(data)[0], FILE).answers.names
         outcome = look("show", "--json", FILE, "Odd>>at>>put:", folder=self.folder)
-        (row,) = rows_of(self.printed_by(outcome))
         its = {names.name(a_class): it for it, (a_class, _) in names.methods.items()}
-        return row["address"], {name: names.address(it) for name, it in its.items()}
+        return outcome, {name: names.address(it) for name, it in its.items()}
+
+    def assert_found(self, outcome, address):
+        (row,) = rows_of(self.printed_by(outcome))
+        self.assertEqual(row["address"], address)
 
     def test_the_class_before_the_first_arrows(self):
-        found, methods = self.asked(("Odd>>at", "put:"), ("Odd", "at>>put:"))
-        self.assertEqual(found, methods["Odd"])
+        outcome, methods = self.asked(("Odd", "at>>put:"))
+        self.assert_found(outcome, methods["Odd"])
 
     def test_only_a_label(self):
-        found, methods = self.asked(("Odd>>at", "put:"))
-        self.assertEqual(found, methods["Odd>>at"])
+        outcome, methods = self.asked(("Odd>>at", "put:"))
+        self.assert_found(outcome, methods["Odd>>at"])
+
+    def test_a_name_that_is_another_label(self):
+        outcome, methods = self.asked(("Odd>>at", "put:"), ("Odd", "at>>put:"))
+        both = ", ".join(sorted((methods["Odd"], methods["Odd>>at"])))
+        self.assert_refused(outcome, FILE, f"Odd>>at>>put: is ambiguous: {both}")
+
+
+class SpellingsTest(LookTest):
+    """What words stand for if several objects are named by them; how names are spelled."""
+
+    def write_with(self, *classes, strings=()):
+        """Writes the image with live classes and live strings, and returns its names."""
+        image = NamedImage()
+        for name in classes:
+            image.add_class(name, "Object")
+        its = [image.classes[name] for name in classes]
+        its += [image.add_bytes("String", text) for text in strings]
+        image.fields_of(image.special).append(image.add_array(*its))
+        data = image.file()
+        self.write(FILE, data)
+        return Asking(Image.read(data)[0], FILE).answers.names
+
+    def labelled(self, names, label):
+        """The addresses of the objects with a label, sorted."""
+        every = range(len(names.image.objects))
+        return sorted(names.address(it) for it in every if names.label(it) == label)
+
+    def assert_stands_for(self, words, *addresses, commands=("show", "why")):
+        """These words stand for the object with an address, or for several, in text and JSON."""
+        for command in commands:
+            for form in ((), ("--json",)):
+                with self.subTest(command, words=words, form=form):
+                    outcome = look(command, *form, FILE, "--", words, folder=self.folder)
+                    if len(addresses) > 1:
+                        message = f"{words} is ambiguous: {', '.join(addresses)}"
+                        self.assert_refused(outcome, FILE, message)
+                    else:
+                        self.assertIn(addresses[0], self.printed_by(outcome).decode())
+
+    def test_classes_named_as_labels(self):
+        for name in ("nil", "false", "true", "Smalltalk"):
+            names = self.write_with(name)
+            (a_class,) = self.labelled(names, f"class {name}")
+            (known,) = self.labelled(names, name)
+            self.assert_stands_for(name, *sorted((a_class, known)))
+            self.assert_stands_for(f"class {name}", a_class)
+
+    def test_a_class_named_class(self):
+        names = self.write_with("class")
+        both = self.labelled(names, "class class")
+        self.assertEqual(len(both), 2)
+        self.assert_stands_for("class class", *both)
+        self.assert_stands_for("class class class", both[1])
+
+    def test_long_names(self):
+        """Names are compared as a whole, and cut where they are printed."""
+        front = "ALongNameOfAClassThatHasMoreThanFortyByt"
+        names = self.write_with(f"{front}es", f"{front}esInAll")
+        both = self.labelled(names, f"class {front}..")
+        self.assertEqual(len(both), 2)
+        for name in (f"{front}es", f"{front}esInAll"):
+            self.assert_stands_for(name, names.address(names.class_named(name)))
+            outcome = look("code", "--json", FILE, name, folder=self.folder)
+            (row,) = rows_of(self.printed_by(outcome))
+            self.assertEqual(row["class"], f"{front}..")
+        self.assert_stands_for(f"class {front}..", *both)
+
+    def test_odd_bytes(self):
+        """The bytes of a name are spelled as those of all texts, and the spelling is accepted."""
+        spelled = r"Gr\xc3\xb6\xc3\x9fe\\"
+        names = self.write_with("Größe\\")
+        (address,) = self.labelled(names, f"class {spelled}")
+        for words in (spelled, f"class {spelled}", f"class {spelled} {address}"):
+            self.assert_stands_for(words, address)
+        outcome = look("census", "--all", FILE, folder=self.folder)
+        self.assertIn(f" {spelled} class\n", self.printed_by(outcome).decode())
+
+    def test_labels_of_several_objects(self):
+        names = self.write_with(strings=(b"twice", b"once", b"twice"))
+        self.assert_stands_for("'twice'", *self.labelled(names, "'twice'"))
+        self.assert_stands_for("'once'", *self.labelled(names, "'once'"))
+
+    def test_labels_with_addresses(self):
+        """A label stands for its object also with the address after it."""
+        names = self.write_with(strings=(b"twice", b"twice"))
+        tree = Tree(Asking(names.image, FILE).answers)
+        for number in range(len(names.image.objects)):
+            address = names.address(number)
+            words = f"{tree.short_label(number)} {address}"
+            self.assert_stands_for(words, address, commands=["show"])
 
 
 def integer(number):

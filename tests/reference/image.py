@@ -249,20 +249,23 @@ class Image:
         data = bytes_of(self.words[it.base + 1 : it.end], self.order)
         return data[: max(0, len(data) - (format_of(self.header_of(number)) - Format.BYTES))]
 
+    def naming(self, number, clear_weak=False):
+        """The bytes of the name of a class, or None, and what is printed after them."""
+        text = self.text(self.strong_field(number, ClassField.NAME, clear_weak))
+        if text is not None:
+            return text, ""
+        instance = self.strong_field(number, ClassField.INSTANCE, clear_weak)
+        if instance is None:
+            return None, ""
+        return self.text(self.strong_field(instance, ClassField.NAME, clear_weak)), " class"
+
     def name(self, number, clear_weak=False):
-        """The name of a class, as the programs print it."""
-        text, suffix = self.text(self.strong_field(number, ClassField.NAME, clear_weak)), ""
-        if text is None:
-            instance = self.strong_field(number, ClassField.INSTANCE, clear_weak)
-            if instance is not None:
-                text = self.text(self.strong_field(instance, ClassField.NAME, clear_weak))
-            suffix = " class"
+        """The name of a class, as `sqzcompact` prints it."""
+        text, suffix = self.naming(number, clear_weak)
         if text is None:
             return "?"
-        return (
-            "".join(chr(byte) if 32 <= byte <= 126 else "?" for byte in text[:LONGEST_NAME])
-            + suffix
-        )
+        characters = (chr(byte) if 32 <= byte <= 126 else "?" for byte in text[:LONGEST_NAME])
+        return "".join(characters) + suffix
 
     def rows(self):
         """The rows of the class histogram, in no order, if all objects are live."""

@@ -64,7 +64,15 @@ class Names:
 
     @functools.cache
     def name(self, a_class):
-        return self.image.name(a_class, self.clear_weak)
+        """The name of a class as it is printed."""
+        text, suffix = self.image.naming(a_class, self.clear_weak)
+        return "?" if text is None else shortened(text) + suffix
+
+    @functools.cache
+    def whole_name(self, a_class):
+        """The whole name of a class."""
+        text, suffix = self.image.naming(a_class, self.clear_weak)
+        return "?" if text is None else escaped(text) + suffix
 
     def target(self, number, *fields):
         """The object at the end of a path of fields, if there is one."""
@@ -107,12 +115,12 @@ class Names:
         return {
             number: name if self.is_metaclass(number) else f"class {name}"
             for number, name in names.items()
-            if name != "?"
+            if self.image.naming(number, self.clear_weak)[0] is not None
         }
 
     def class_named(self, name):
         """The only class of this name."""
-        (number,) = (number for number in self.classes if self.name(number) == name)
+        (number,) = (number for number in self.classes if self.whole_name(number) == name)
         return number
 
     def method_named(self, name):

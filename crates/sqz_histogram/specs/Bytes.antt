@@ -1,11 +1,16 @@
 -- The bytes of byte objects.
-use Rattle.std.specs.Prelude.{ℕ, ◌-◌, ◌*◌, List, length, take, Option, Some, None}
+use Rattle.std.specs.Prelude.{ℕ, ◌-◌, ◌*◌, Bool, true, false, List, length, take, Option, Some, None}
 use Rattle.sqz_object.specs.declared.order.Order.{Order}
 use Rattle.sqz_object.specs.declared.layout.Layout.{Layout}
 use Rattle.sqz_object.specs.declared.layout.Layout.TheVariants.{Bytes}
 use Rattle.sqz_object.specs.Bytes.{spelling_of}
 use Rattle.sqz_object.specs.Chunk.{fields}
 use Rattle.sqz_object.specs.Layout.{layout}
+
+-- whether the fields of an object with this layout are bytes
+abbrev pub is_byte_layout : Layout → Bool
+is_byte_layout (Bytes unused) = true
+is_byte_layout _ = false
 
 -- the bytes in these fields, as the file has them, without the unused ones at the end of the last
 -- word

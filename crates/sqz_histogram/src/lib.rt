@@ -14,6 +14,6 @@ mod totals;
 
 pub use bytes::first_bytes;
 pub use group::{Group, GroupTotal};
-pub use names::{class_name, compact_name, known_class_name, shown_byte};
+pub use names::{ClassName, class_name, compact_name, naming};
 pub use object_classes::ObjectClasses;
 pub use totals::histogram;

@@ -1,17 +1,13 @@
-//! The names of classes, as printed.
+//! The names of classes.
 
-ghost use Rattle.std.specs.Prelude.{◌≡◌, ◌++◌, ◌<◌, ◌*◌, ◌≤◌, codes, decimal, length, map, take};
-ghost use Rattle.std.specs.Prelude.{IfOk, option_and_then, option_map};
-ghost use Rattle.sqz_object.specs.Bytes.{spelling_of};
-ghost use Rattle.sqz_image.specs.declared.slot.Slot.TheVariants.{Field};
+ghost use Rattle.std.specs.Prelude.{◌≡◌, ◌++◌, ◌<◌, codes, decimal, map, IfOk, IfSome};
 ghost use Rattle.sqz_image.specs.Objects.{object_count};
-ghost use Rattle.sqz_trace.specs.Edges.{strong_target};
-ghost use Rattle.sqz_histogram.specs.Names.{shown_byte, text_in, held_name, class_name};
-ghost use Rattle.sqz_histogram.specs.Names.{known_class_name};
+ghost use Rattle.sqz_histogram.specs.Names.{shown_byte, shown_text, name_object, naming};
+ghost use Rattle.sqz_histogram.specs.Names.{class_name, text_object};
 
 use crate::bytes::first_bytes;
-use sqz_image::{Object, Slot};
-use sqz_object::{ObjectIndex, Order};
+use sqz_image::{Heap, Slot};
+use sqz_object::{Layout, ObjectIndex};
 use sqz_trace::ObjectGraph;
 use std::alloc::{AllocError, Global};
 
@@ -21,10 +17,37 @@ const NAME: u32 = 6;
 /// The field of a metaclass that points to its only instance.
 const INSTANCE: u32 = 5;
 
-/// The greatest number of bytes of a name that is printed.
+/// The greatest number of bytes of a name that a class histogram prints.
 const MOST_BYTES: usize = 40;
 
-/// Returns the name of a class as a class histogram prints it: a question mark if it is not known.
+/// The name of a class: a byte object.
+#[derive(Clone, Copy, PartialEq, Eq)]
+pub enum ClassName {
+    /// The name of the class itself.
+    Own(ObjectIndex),
+    /// The name of the only instance of a metaclass, which is printed with ` class` after it.
+    OfInstance(ObjectIndex),
+}
+
+/// Returns the name of a class: its own, or else that of its only instance. None if neither has
+/// one.
+pub fn naming(graph: ObjectGraph<'_>, class: ObjectIndex) -> Option<ClassName>
+    requires { class < object_count graph.heap.now }
+    ensures name { result ≡ naming graph.entry.heap.now graph.entry.weak class }
+    ensures inside { IfSome result (λ name.
+        text_object name < object_count graph.entry.heap.now) }
+{
+    if let Some(own) = name_object(graph, class) {
+        return Some(ClassName::Own(own));
+    }
+    match graph.edges(class).target(Slot::Field(INSTANCE)) {
+        Some(instance) => Some(ClassName::OfInstance(name_object(graph, instance)?)),
+        None => None,
+    }
+}
+
+/// Returns the name of a class as a class histogram prints it: its first 40 bytes, with a question
+/// mark for each that is no printable ASCII character; only a question mark if it has no name.
 pub fn class_name(
     alloc: Global,
     graph: ObjectGraph<'_>,
@@ -34,32 +57,14 @@ pub fn class_name(
     ensures { IfOk result (λ name.
         name.items ≡ class_name graph.entry.heap.now graph.entry.weak class) }
 {
-    match known_class_name(alloc, graph, class)? {
-        Some(name) => Ok(name),
-        None => Vec::from_slice(alloc, b"?"),
-    }
-}
-
-/// Returns the name of a class: its own, or that of its only instance followed by ` class`. None if
-/// neither has a name. A byte that is no printable ASCII character is a question mark.
-pub fn known_class_name(
-    alloc: Global,
-    graph: ObjectGraph<'_>,
-    class: ObjectIndex,
-) -> Result<Option<Vec<u8>>, AllocError>
-    requires { class < object_count graph.heap.now }
-    ensures { IfOk result (λ name. option_map (λ text. text.items) name
-        ≡ known_class_name graph.entry.heap.now graph.entry.weak class) }
-{
-    if let Some(own) = held_name(alloc, graph, class)? {
-        return Ok(Some(own));
-    }
-    match name_of_instance(alloc, graph, class)? {
-        Some(mut name) => {
-            name.extend_from_slice(b" class")?;
-            Ok(Some(name))
+    match naming(graph, class) {
+        Some(ClassName::Own(name)) => shown_text(alloc, graph.heap, name),
+        Some(ClassName::OfInstance(name)) => {
+            let mut text = shown_text(alloc, graph.heap, name)?;
+            text.extend_from_slice(b" class")?;
+            Ok(text)
         }
-        None => Ok(None),
+        None => Vec::from_slice(alloc, b"?"),
     }
 }
 
@@ -72,47 +77,25 @@ pub fn compact_name(alloc: Global, compact: u32) -> Result<Vec<u8>, AllocError>
     Ok(name.into_bytes())
 }
 
-/// Returns the name that an object has, if its field 6 points to a byte object.
-fn held_name(
-    alloc: Global,
-    graph: ObjectGraph<'_>,
-    object: ObjectIndex,
-) -> Result<Option<Vec<u8>>, AllocError>
+/// Returns the byte object that field 6 of an object points to.
+fn name_object(graph: ObjectGraph<'_>, object: ObjectIndex) -> Option<ObjectIndex>
     requires { object < object_count graph.heap.now }
-    ensures { IfOk result (λ name. option_map (λ text. text.items) name
-        ≡ held_name graph.entry.heap.now graph.entry.weak object) }
+    ensures name { result ≡ name_object graph.entry.heap.now graph.entry.weak object }
+    ensures inside { IfSome result (λ name. name < object_count graph.entry.heap.now) }
 {
-    match graph.edges(object).target(Slot::Field(NAME)) {
-        Some(name) => text_in(alloc, graph.heap.order(), &graph.heap.object(name)),
-        None => Ok(None),
-    }
+    let name = graph.edges(object).target(Slot::Field(NAME))?;
+    let is_bytes = matches!(graph.heap.object(name).layout(), Layout::Bytes { .. });
+    is_bytes.then_some(name)
 }
 
-/// Returns the name of the instance of a metaclass, if it has one.
-fn name_of_instance(
-    alloc: Global,
-    graph: ObjectGraph<'_>,
-    class: ObjectIndex,
-) -> Result<Option<Vec<u8>>, AllocError>
-    requires { class < object_count graph.heap.now }
-    ensures { IfOk result (λ name. option_map (λ text. text.items) name
-        ≡ option_and_then (held_name graph.entry.heap.now graph.entry.weak)
-        (strong_target graph.entry.heap.now graph.entry.weak class (Field 5))) }
+/// Returns the first bytes of a byte object, as a class histogram prints them.
+fn shown_text(alloc: Global, heap: &Heap, object: ObjectIndex) -> Result<Vec<u8>, AllocError>
+    requires { object < object_count heap.now }
+    ensures { IfOk result (λ text. text.items ≡ shown_text heap.now object) }
 {
-    match graph.edges(class).target(Slot::Field(INSTANCE)) {
-        Some(instance) => held_name(alloc, graph, instance),
-        None => Ok(None),
-    }
-}
-
-/// Returns the first bytes of a byte object, as printed; None for any other object.
-fn text_in(alloc: Global, order: Order, object: &Object<'_>) -> Result<Option<Vec<u8>>, AllocError>
-    ensures { IfOk result (λ text.
-        option_map (λ text. text.items) text ≡ text_in order object.now) }
-{
-    match first_bytes(alloc, order, object, MOST_BYTES)? {
-        Some(bytes) => Ok(Some(shown_bytes(alloc, &bytes)?)),
-        None => Ok(None),
+    match first_bytes(alloc, heap.order(), &heap.object(object), MOST_BYTES)? {
+        Some(bytes) => shown_bytes(alloc, &bytes),
+        None => Ok(Vec::new(alloc)),
     }
 }
 
@@ -127,8 +110,9 @@ fn shown_bytes(alloc: Global, bytes: &[u8]) -> Result<Vec<u8>, AllocError>
     Ok(text)
 }
 
-/// Returns a byte as it is printed: a question mark if it is not a printable ASCII character.
-pub fn shown_byte(byte: u8) -> u8
+/// Returns a byte as a class histogram prints it: a question mark if it is not a printable ASCII
+/// character.
+fn shown_byte(byte: u8) -> u8
     ensures { result ≡ shown_byte byte }
 {
     if byte >= 32 && byte <= 126 {

@@ -5,7 +5,7 @@ use Rattle.std.proofs.Common.{refl, sym, ap, ◌∙◌, inl, inr, true≢false}
 use Rattle.std.proofs.Math.Logic.{∥∥₁_map}
 use Rattle.std.proofs.lemmas.List.{length-replicate, length-set}
 use Rattle.std.proofs.lemmas.Option.{none-some, option_and_then_some}
-use Rattle.std.specs.Prelude.{replicate, is_some, option_and_then, option_map}
+use Rattle.std.specs.Prelude.{replicate, is_some, option_and_then, if◌then◌else◌}
 use Rattle.sqz_object.specs.Chunk.{fields}
 use Rattle.sqz_object.specs.Layout.{layout, is_weak_layout}
 use Rattle.sqz_image.specs.declared.slot.Slot.{Slot}
@@ -20,12 +20,17 @@ use Rattle.sqz_trace.specs.Slots.{traced}
 use Rattle.sqz_trace.specs.Strong.{class_of, fixed_by, is_weak, strong}
 use Rattle.sqz_trace.specs.Targets.{target}
 use Rattle.sqz_trace.proofs.TargetLemmas.{named_among-more}
-use Rattle.sqz_histogram.specs.Names.{held_name, known_class_name, name_by, text_in}
+use Rattle.sqz_histogram.specs.Names.{name_by, name_object, naming}
 use Rattle.sqz_names.specs.Fields.{instance_field, name_field}
-use Rattle.sqz_names.specs.Structures.{has_bytes, has_own_name, IsClass, IsMetaclass, IsNamedInstanceOf}
+use Rattle.sqz_names.specs.Structures.{has_bytes, has_own_name, is_bytes, IsClass, IsMetaclass, IsNamedInstanceOf}
 use Rattle.sqz_names.specs.ClassSets.{IsClassSet}
 use Rattle.sqz_trace.proofs.MarkingLemmas.{is_marked-more}
-use Rattle.sqz_names.proofs.LayoutLemmas.{is_byte_layout-text, strong-le}
+use Rattle.sqz_names.proofs.LayoutLemmas.{strong-le}
+
+-- what is there only if a test passes
+some_only_if : (test : Bool) (x y : ℕ) → (if test then Some x else None) ≡ Some y → test ≡ true
+some_only_if true x y is = refl
+some_only_if false x y is = absurd (none-some y is)
 
 -- the empty set has no object
 pub is_marked-none : (count object : ℕ) → is_marked (replicate count false) object ≡ false
@@ -88,47 +93,31 @@ module _ (memory : Memory) (weak : Weak) where
       is
 
   -- an object that has a name has one of its own
-  has_own_name-held : (object : ℕ) (text : List ℕ) → held_name memory weak object ≡ Some text
-      → has_own_name memory object ≡ true
-  has_own_name-held object text held =
-      option_and_then_some (λ (name : ℕ). text_in memory.order (chunk_words memory name))
-      (strong_target memory weak object (Field name_field)) text held
-      (λ name is its.
-      ap (has_bytes memory) (target-strong object (Field name_field) name is)
-      ∙ is_byte_layout-text memory.order 40 (layout (chunk_words memory name)) (fields (chunk_words memory name)) text its)
+  has_own_name-object : (object name : ℕ) → name_object memory weak object ≡ Some name → has_own_name memory object ≡ true
+  has_own_name-object object name is =
+      option_and_then_some (λ (it : ℕ). if is_bytes memory it then Some it else None)
+      (strong_target memory weak object (Field name_field)) name is
+      (λ it held its.
+      ap (has_bytes memory) (target-strong object (Field name_field) it held) ∙ some_only_if (is_bytes memory it) it name its)
 
   -- a class that has a name, but none of its own
-  IsMetaclass-named : (class : ℕ) (name : List ℕ) → known_class_name memory weak class ≡ Some name
+  pub IsMetaclass-known : (class : ℕ) → is_some (naming memory weak class) ≡ true
       → has_own_name memory class ≡ false → IsMetaclass memory class
-  IsMetaclass-named class name known unnamed =
-      by_names (held_name memory weak class)
-      (option_and_then (held_name memory weak) (strong_target memory weak class (Field instance_field))) refl refl known
+  IsMetaclass-known class known unnamed =
+      by_names (name_object memory weak class)
+      (option_and_then (name_object memory weak) (strong_target memory weak class (Field instance_field))) refl refl known
     where
-      by_names : (own instance : Option (List ℕ)) → held_name memory weak class ≡ own
-          → option_and_then (held_name memory weak) (strong_target memory weak class (Field instance_field)) ≡ instance
-          → name_by own instance ≡ Some name → IsMetaclass memory class
-      by_names (Some text) instance own other is =
-          absurd (true≢false (sym (has_own_name-held class text own) ∙ unnamed))
-      by_names None (Some text) own other is =
-          option_and_then_some (held_name memory weak) (strong_target memory weak class (Field instance_field)) text other
+      by_names : (own instance : Option ℕ) → name_object memory weak class ≡ own
+          → option_and_then (name_object memory weak) (strong_target memory weak class (Field instance_field)) ≡ instance
+          → is_some (name_by own instance) ≡ true → IsMetaclass memory class
+      by_names (Some name) instance own other is =
+          absurd (true≢false (sym (has_own_name-object class name own) ∙ unnamed))
+      by_names None (Some name) own other is =
+          option_and_then_some (name_object memory weak) (strong_target memory weak class (Field instance_field)) name other
           (λ instance held its. record {
             instance = instance;
             is_instance = target-strong class (Field instance_field) instance held;
-            is_named = has_own_name-held instance text its;
+            is_named = has_own_name-object instance name its;
             is_unnamed = unnamed;
           })
-      by_names None None own other is = absurd (none-some name is)
-
-  pub IsMetaclass-known : (class : ℕ) → is_some (known_class_name memory weak class) ≡ true
-      → has_own_name memory class ≡ false → IsMetaclass memory class
-  IsMetaclass-known class known unnamed = by_name (known_class_name memory weak class) refl known
-    where
-      by_name : (name : Option (List ℕ)) → known_class_name memory weak class ≡ name → is_some name ≡ true
-          → IsMetaclass memory class
-      by_name None is known = absurd (true≢false (sym known))
-      by_name (Some name) is known = IsMetaclass-named class name is unnamed
-
--- a name is there if its list is
-pub is_some-map : {X Y : Type 0} (f : X → Y) (name : Option X) → is_some (option_map f name) ≡ is_some name
-is_some-map f None = refl
-is_some-map f (Some name) = refl
+      by_names None None own other is = absurd (true≢false (sym is))

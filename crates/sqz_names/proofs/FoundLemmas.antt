@@ -1,15 +1,12 @@
 -- What is known of the objects that have a name, of what is found by it.
--- Serves `objects`, `classes` and `labelled`.
+-- Serves `objects` and `classes`.
 use Rattle.std.proofs.Common.{◌<◌, ℕ, List, All, Contains, get_or}
 use Rattle.std.proofs.lemmas.List.Elements.{All-contains}
 use Rattle.sqz_image.specs.Objects.{Memory, object_count}
-use Rattle.sqz_trace.specs.declared.weak.Weak.{Weak}
-use Rattle.sqz_names.specs.Texts.{HasLabel}
 use Rattle.sqz_names.specs.declared.words.found.Found.{Found}
 use Rattle.sqz_names.specs.declared.words.found.Found.TheVariants.{One, Nothing}
 use Rattle.sqz_names.specs.declared.words.found.Missing.TheVariants.{NoObjectAt, NoClassAt, NoSpecialObject, Ambiguous, NoObjectNamed, NoClassNamed}
 use Rattle.sqz_names.specs.Found.{IsAbout, IsFoundIn}
-use Rattle.sqz_names.specs.Words.{IsByLabel}
 
 module _ (P : ℕ → Type 0) (objects : List ℕ) (all : All P objects) where
   -- a fact about each object of a list, about what is found in it
@@ -33,26 +30,8 @@ inside_by memory (Nothing (NoSpecialObject field)) is = absurd is
 inside_by memory (Nothing NoObjectNamed) is = absurd is
 inside_by memory (Nothing NoClassNamed) is = absurd is
 
--- and it has a label
-labelled_by : (memory : Memory) (weak : Weak) (words : List ℕ) (found : Found ℕ)
-    → IsAbout (λ object. HasLabel memory weak object words) found → IsByLabel memory weak words found
-labelled_by memory weak words (One object) is = is
-labelled_by memory weak words (Nothing (Ambiguous objects)) are = are
-labelled_by memory weak words (Nothing (NoObjectAt address)) is = absurd is
-labelled_by memory weak words (Nothing (NoClassAt address)) is = absurd is
-labelled_by memory weak words (Nothing (NoSpecialObject field)) is = absurd is
-labelled_by memory weak words (Nothing NoObjectNamed) is = absurd is
-labelled_by memory weak words (Nothing NoClassNamed) is = absurd is
-
 -- what is found among objects of the image
 pub IsFoundIn-about : (memory : Memory) (objects : List ℕ) → All (λ object. object < object_count memory) objects
     → (found : Found ℕ) → IsAbout (Contains objects) found → IsFoundIn memory found
 IsFoundIn-about memory objects all found is =
     inside_by memory found (IsAbout-all (λ object. object < object_count memory) objects all found is)
-
--- and among objects with a label
-pub IsByLabel-about : (memory : Memory) (weak : Weak) (words : List ℕ) (objects : List ℕ)
-    → All (λ object. HasLabel memory weak object words) objects
-    → (found : Found ℕ) → IsAbout (Contains objects) found → IsByLabel memory weak words found
-IsByLabel-about memory weak words objects all found is =
-    labelled_by memory weak words found (IsAbout-all (λ object. HasLabel memory weak object words) objects all found is)

@@ -3,8 +3,6 @@
 use Rattle.std.proofs.Common.{◌≡◌, ℕ, ◌+◌, ◌≤◌, Bool, true, false, cond, List, length, take, Option, Some, refl, sym, ap, ◌∙◌, arith}
 use Rattle.std.proofs.lemmas.List.{length-take, take_all}
 use Rattle.std.proofs.lemmas.Option.{none-some, same_Some}
-use Rattle.std.specs.Prelude.{map, option_map}
-use Rattle.sqz_object.specs.declared.order.Order.{Order}
 use Rattle.sqz_object.specs.declared.layout.Layout.{Layout}
 use Rattle.sqz_object.specs.declared.layout.Layout.TheVariants.{Fields, Weak, Context, Words, Bytes, Method}
 use Rattle.sqz_object.specs.Chunk.{fields}
@@ -14,18 +12,7 @@ use Rattle.sqz_trace.specs.Slots.{traced_of}
 use Rattle.sqz_trace.specs.Strong.{unless_above}
 use Rattle.sqz_trace.proofs.StrongLemmas.{unless_above-le}
 use Rattle.sqz_histogram.specs.Bytes.{bytes_in, first_bytes, first_bytes_by}
-use Rattle.sqz_histogram.specs.Names.{shown_byte}
-use Rattle.sqz_names.specs.Structures.{is_byte_layout, HasText}
-
--- what has a text is a byte object
-pub is_byte_layout-text : (order : Order) (most : ℕ) (laid : Layout) (fields text : List ℕ)
-    → option_map (map shown_byte) (first_bytes_by order most laid fields) ≡ Some text → is_byte_layout laid ≡ true
-is_byte_layout-text order most Fields fields text is = absurd (none-some text is)
-is_byte_layout-text order most Weak fields text is = absurd (none-some text is)
-is_byte_layout-text order most Context fields text is = absurd (none-some text is)
-is_byte_layout-text order most Words fields text is = absurd (none-some text is)
-is_byte_layout-text order most (Bytes unused) fields text is = refl
-is_byte_layout-text order most Method fields text is = absurd (none-some text is)
+use Rattle.sqz_names.specs.Structures.{HasText}
 
 -- strong fields are traced ones
 pub strong-le : (test : Bool) (laid : Layout) (fields : List ℕ) (stated : Option ℕ)

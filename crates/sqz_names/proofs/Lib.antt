@@ -9,6 +9,7 @@ pub mod VariableLemmas
 pub mod MethodLemmas
 mod NumberLemmas
 mod OnlyLemmas
+mod WordLemmas
 mod FoundLemmas
 mod PositionLemmas
 mod CategoryLemmas

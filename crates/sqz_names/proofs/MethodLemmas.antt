@@ -18,11 +18,11 @@ use Rattle.sqz_trace.specs.Slots.{traced}
 use Rattle.sqz_trace.specs.Targets.{target}
 use Rattle.sqz_trace.proofs.SlotLemmas.{traced_inside}
 use Rattle.sqz_trace.proofs.TargetLemmas.{named_among-cases}
-use Rattle.sqz_histogram.specs.Names.{class_name}
+use Rattle.sqz_names.specs.ByteTexts.{whole_name}
 use Rattle.sqz_names.specs.declared.method_name.MethodName.{MethodName}
 use Rattle.sqz_names.specs.Fields.{first_selector_field, method_dictionary_field, methods_field}
 use Rattle.sqz_names.specs.Structures.{HasText, IsMethodIn}
-use Rattle.sqz_names.specs.Names.{IsMethodName, IsMethodUnder, IsMethodNamed, ListsMethod, ListsMethodsOf}
+use Rattle.sqz_names.specs.Names.{AreMethodsNamed, IsMethodName, IsMethodUnder, IsMethodNamed, ListsMethod, ListsMethodsOf}
 use Rattle.sqz_names.specs.NameLists.{ListsDictionaries, ListsDictionary}
 use Rattle.sqz_names.proofs.ClassLemmas.{is_marked-none}
 use Rattle.sqz_trace.proofs.MarkingLemmas.{is_marked-more}
@@ -151,7 +151,7 @@ same_parts between xs ys zs ws same all =
 module _ (memory : Memory) (weak : Weak) where
   -- a method of a class with this name under this selector
   pub IsMethodUnder-listed : (class_text selector_text : List ℕ) (name : MethodName) → IsMethodName memory weak name
-      → bytes_eq (class_name memory weak name.class) class_text ≡ true → HasText memory selector_text name.selector
+      → bytes_eq (whole_name memory weak name.class) class_text ≡ true → HasText memory selector_text name.selector
       → IsMethodUnder memory weak class_text selector_text name.method
   IsMethodUnder-listed class_text selector_text name is of_class spelled = record {
     class = name.class;
@@ -159,10 +159,19 @@ module _ (memory : Memory) (weak : Weak) where
     of_class = record {
       inside = is.class_inside;
       is_class = is.of_class;
-      named = (bytes_eq-Decides (class_name memory weak name.class) class_text).0 of_class;
+      named = (bytes_eq-Decides (whole_name memory weak name.class) class_text).0 of_class;
     };
     spelled = spelled;
     is = is.is;
+  }
+
+  -- a name without `>>` is that of no method
+  pub AreMethodsNamed-none : (name : List ℕ)
+      → ((before after : List ℕ) → name ≡ before ++ (codes ">>" ++ after) → ⊥)
+      → (count : ℕ) → AreMethodsNamed memory weak name (replicate count false)
+  AreMethodsNamed-none name never count = record {
+    sound = λ method marked. absurd (true≢false (sym marked ∙ is_marked-none count method));
+    complete = λ method is. absurd (never is.class_text is.selector_text is.split);
   }
 
   -- the methods with a name are those under the parts of the name at the first `>>`

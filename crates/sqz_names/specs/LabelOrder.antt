@@ -1,15 +1,15 @@
 -- The order of labels: what an object is not, if it has a label.
-use Rattle.std.specs.Prelude.{◌≡◌, ◌<◌, ℕ, true, codes, Option, Some, is_some}
+use Rattle.std.specs.Prelude.{◌≡◌, ◌<◌, ℕ, Bool, true, false, codes, Option, Some, is_some}
 use Rattle.sqz_image.specs.Objects.{Memory, object_count, find}
 use Rattle.sqz_trace.specs.declared.weak.Weak.{Weak}
-use Rattle.sqz_histogram.specs.Names.{known_class_name}
+use Rattle.sqz_histogram.specs.Names.{naming}
 use Rattle.sqz_names.specs.declared.known.Known.{Known as Kind}
 use Rattle.sqz_names.specs.declared.label.Label.{Label}
 use Rattle.sqz_names.specs.declared.label.Label.TheVariants.{SpecialObjects, Known, Class, Metaclass, Method, Global}
 use Rattle.sqz_names.specs.declared.label.Label.TheVariants.{ClassVariable, String, Symbol, Other}
 use Rattle.sqz_names.specs.Structures.{IsClass, IsMethodOf, IsVariable}
 use Rattle.sqz_names.specs.Known.{IsKnown}
-use Rattle.sqz_names.specs.Labels.{IsText}
+use Rattle.sqz_names.specs.Labels.{IsLabel, IsText}
 use Rattle.sqz_names.specs.Names.{IsOwner}
 
 -- an object is not the special objects array
@@ -22,7 +22,7 @@ IsNotKnown memory weak object = (known : Kind) → IsKnown memory weak known obj
 
 -- an object is no class that has a name
 abbrev pub IsNoNamedClass : Memory → Weak → ℕ → Type 0
-IsNoNamedClass memory weak object = IsClass memory weak object → is_some (known_class_name memory weak object) ≡ true → ⊥
+IsNoNamedClass memory weak object = IsClass memory weak object → is_some (naming memory weak object) ≡ true → ⊥
 
 -- an object is no method of a class
 abbrev pub IsNoMethod : Memory → Weak → ℕ → Type 0
@@ -46,6 +46,14 @@ IsTextLabel memory weak object Symbol = Unit {0}
 IsTextLabel memory weak object Other = IsNoText memory weak object
 IsTextLabel memory weak object _ = ⊥
 
+-- an object is nothing that has a name by its place in the image
+pub record IsUnplaced (memory : Memory) (weak : Weak) (object : ℕ) : Type 0 where
+  pub not_special : IsNotSpecial memory object
+  pub not_known : IsNotKnown memory weak object
+  pub no_class : IsNoNamedClass memory weak object
+  pub no_method : IsNoMethod memory weak object
+  pub no_variable : IsNoVariable memory weak object
+
 -- an object is none of the things whose labels come before this one. So one without a label is none
 -- of those that have one
 abbrev pub IsFirst : Memory → Weak → ℕ → Label → Type 0
@@ -68,3 +76,16 @@ IsFirst memory weak object Symbol =
 IsFirst memory weak object Other =
     IsNotSpecial memory object × IsNotKnown memory weak object × IsNoNamedClass memory weak object × IsNoMethod memory weak object
     × IsNoVariable memory weak object × IsNoText memory weak object
+
+-- whether a label is that of a variable
+abbrev pub is_of_variable : Label → Bool
+is_of_variable (Global key) = true
+is_of_variable (ClassVariable class key) = true
+is_of_variable _ = false
+
+-- an object has another label than that of a variable
+pub record HasOtherLabel (memory : Memory) (weak : Weak) (object : ℕ) : Type 0 where
+  pub label : Label
+  pub is_label : IsLabel memory weak object label
+  pub is_first : IsFirst memory weak object label
+  pub is_other : is_of_variable label ≡ false

@@ -1,5 +1,6 @@
 pub mod Fields
 pub mod Structures
+pub mod ByteTexts
 pub mod ClassSets
 pub mod Known
 pub mod Labels

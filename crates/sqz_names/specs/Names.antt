@@ -5,11 +5,11 @@ use Rattle.sqz_image.specs.Objects.{Memory, object_count}
 use Rattle.sqz_trace.specs.declared.weak.Weak.{Weak}
 use Rattle.sqz_trace.specs.Graph.{is_marked}
 use Rattle.sqz_trace.specs.Targets.{target}
-use Rattle.sqz_histogram.specs.Names.{class_name}
 use Rattle.sqz_names.specs.declared.method_name.MethodName.{MethodName}
 use Rattle.sqz_names.specs.declared.variable_name.VariableName.{VariableName}
 use Rattle.sqz_names.specs.declared.variable_name.Variable.{Variable}
 use Rattle.sqz_names.specs.Fields.{associations_field, value_field}
+use Rattle.sqz_names.specs.ByteTexts.{whole_name}
 use Rattle.sqz_names.specs.Structures.{is_bytes, HasText, dictionary_of, IsClass, IsMethodOf, IsVariable}
 
 -- a method of a class under a selector, all three of them objects
@@ -90,11 +90,11 @@ pub record AreObjects (count : ℕ) (variable : Variable) : Type 0 where
   pub array : variable.array < count
   pub value : IfSome variable.value (λ value. value < count)
 
--- a class with this name, as a class histogram prints it
+-- a class with this name
 pub record IsClassNamed (memory : Memory) (weak : Weak) (name : List ℕ) (class : ℕ) : Type 0 where
   pub inside : class < object_count memory
   pub is_class : IsClass memory weak class
-  pub named : class_name memory weak class ≡ name
+  pub named : whole_name memory weak class ≡ name
 
 -- a byte object
 pub record IsTextObject (memory : Memory) (object : ℕ) : Type 0 where
@@ -121,3 +121,8 @@ pub record IsMethodNamed (memory : Memory) (weak : Weak) (name : List ℕ) (meth
   pub split : name ≡ class_text ++ (codes ">>" ++ selector_text)
   pub is_first : (before after : List ℕ) → name ≡ before ++ (codes ">>" ++ after) → length class_text ≤ length before
   pub is : IsMethodUnder memory weak class_text selector_text method
+
+-- the objects of this set are the methods with a name
+pub record AreMethodsNamed (memory : Memory) (weak : Weak) (name : List ℕ) (set : List Bool) : Type 0 where
+  pub sound : (method : ℕ) → is_marked set method ≡ true → ∥ IsMethodNamed memory weak name method ∥₁
+  pub complete : (method : ℕ) → IsMethodNamed memory weak name method → is_marked set method ≡ true

@@ -12,17 +12,12 @@ use Rattle.sqz_trace.specs.Graph.{IsReachable, is_marked}
 use Rattle.sqz_trace.specs.Reachability.{graph_from}
 use Rattle.sqz_trace.specs.Strong.{class_of}
 use Rattle.sqz_trace.specs.Targets.{target}
-use Rattle.sqz_histogram.specs.Bytes.{bytes_in}
+use Rattle.sqz_histogram.specs.Bytes.{bytes_in, is_byte_layout}
 use Rattle.sqz_histogram.specs.Names.{class_name}
 use Rattle.sqz_names.specs.Fields.{globals_field, method_dictionary_field, instance_field, name_field, class_variables_field}
 use Rattle.sqz_names.specs.Fields.{associations_field, methods_field, first_selector_field, key_field}
 
 -- ---- objects
-
--- whether the fields of an object with this layout are bytes
-abbrev pub is_byte_layout : Layout → Bool
-is_byte_layout (Bytes unused) = true
-is_byte_layout _ = false
 
 -- whether an object with this layout is a compiled method
 abbrev pub is_method_layout : Layout → Bool

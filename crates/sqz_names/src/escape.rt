@@ -2,7 +2,7 @@
 
 ghost use Rattle.std.specs.Prelude.{◌≡◌, ◌++◌, IfOk};
 ghost use Rattle.std.specs.String.{string_bytes};
-ghost use Rattle.sqz_names.specs.Texts.{escaped, escaped_byte};
+ghost use Rattle.sqz_names.specs.ByteTexts.{escaped, escaped_byte};
 
 use std::alloc::{AllocError, Global};
 use std::fmt::Write;

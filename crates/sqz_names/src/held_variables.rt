@@ -1,7 +1,8 @@
 //! What holds a variable, and what it holds.
 
-ghost use Rattle.std.specs.Prelude.{◌<◌, IfOk, IfSome};
+ghost use Rattle.std.specs.Prelude.{◌≡◌, ◌⊎◌, ◌<◌, IfOk, IfSome, None};
 ghost use Rattle.sqz_image.specs.Objects.{object_count};
+ghost use Rattle.sqz_names.specs.LabelOrder.{HasOtherLabel, IsNoVariable};
 ghost use Rattle.sqz_names.specs.Names.{AreObjects, IsHeld, IsVariableName};
 
 use crate::fields::VALUE;
@@ -22,6 +23,9 @@ impl Names<'_> {
             (IsHeld self.now.graph.heap.now self.now.graph.weak association)) }
         ensures inside { IfOk result (λ found. IfSome found
             (AreObjects (object_count self.now.graph.heap.now))) }
+        ensures none { IfOk result (λ found. found ≡ None
+            → IsNoVariable self.now.graph.heap.now self.now.graph.weak association
+            ⊎ HasOtherLabel self.now.graph.heap.now self.now.graph.weak association) }
     {
         let Some(name) = self.variable_name(association) else {
             return Ok(None);

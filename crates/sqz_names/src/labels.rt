@@ -6,6 +6,7 @@ ghost use Rattle.sqz_names.specs.Known.{IsKnown};
 ghost use Rattle.sqz_names.specs.Labels.{IsInside, IsLabel};
 ghost use Rattle.sqz_names.specs.LabelOrder.{IsFirst, IsNoMethod, IsNoNamedClass};
 ghost use Rattle.sqz_names.specs.LabelOrder.{IsNoVariable, IsNotKnown, IsNotSpecial, IsTextLabel};
+ghost use Rattle.sqz_names.specs.LabelOrder.{IsUnplaced};
 
 use crate::bytes::is_bytes;
 use crate::class_names::class_name_of;
@@ -14,7 +15,7 @@ use crate::known::Known;
 use crate::label::Label;
 use crate::names::Names;
 use crate::targets::field_target;
-use sqz_histogram::known_class_name;
+use sqz_histogram::naming;
 use sqz_object::ObjectIndex;
 use std::alloc::AllocError;
 
@@ -31,19 +32,35 @@ impl Names<'_> {
         ensures first { IfOk result
             (IsFirst self.now.graph.heap.now self.now.graph.weak object) }
     {
+        match self.placed_label(object)? {
+            Some(label) => Ok(label),
+            None => self.text_label(object),
+        }
+    }
+
+    /// Returns the label of an object that has a name by its place in the image, and not by what it
+    /// is.
+    pub(crate) fn placed_label(&self, object: ObjectIndex) -> Result<Option<Label>, AllocError>
+        requires { object < object_count self.now.graph.heap.now }
+        ensures label { IfOk result (λ label. IfSome label
+            (IsLabel self.now.graph.heap.now self.now.graph.weak object)) }
+        ensures inside { IfOk result (λ label. IfSome label
+            (IsInside (object_count self.now.graph.heap.now))) }
+        ensures first { IfOk result (λ label. IfSome label
+            (IsFirst self.now.graph.heap.now self.now.graph.weak object)) }
+        ensures none { IfOk result (λ label. label ≡ None
+            → IsUnplaced self.now.graph.heap.now self.now.graph.weak object) }
+    {
         if object == self.graph.heap.special() {
-            return Ok(Label::SpecialObjects);
+            return Ok(Some(Label::SpecialObjects));
         }
         if let Some(known) = self.known(object)? {
-            return Ok(Label::Known(known));
+            return Ok(Some(Label::Known(known)));
         }
         if let Some(label) = self.class_label(object)? {
-            return Ok(label);
+            return Ok(Some(label));
         }
-        if let Some(label) = self.named_label(object) {
-            return Ok(label);
-        }
-        self.text_label(object)
+        Ok(self.named_label(object))
     }
 
     /// Returns which of the objects that every image has an object is.
@@ -97,7 +114,7 @@ impl Names<'_> {
         if !self.is_class(object) {
             return Ok(None);
         }
-        if known_class_name(self.alloc, self.graph, object)?.is_none() {
+        if naming(self.graph, object).is_none() {
             return Ok(None);
         }
         if has_own_name(self.graph.heap, object) {
@@ -134,7 +151,7 @@ impl Names<'_> {
     }
 
     /// Returns the label of a string, a symbol or any other object.
-    fn text_label(&self, object: ObjectIndex) -> Result<Label, AllocError>
+    pub(crate) fn text_label(&self, object: ObjectIndex) -> Result<Label, AllocError>
         requires { object < object_count self.now.graph.heap.now }
         ensures label { IfOk result (λ label.
             IsLabel self.now.graph.heap.now self.now.graph.weak object label) }

@@ -3,6 +3,7 @@
 //! structures. A structure that is not as expected gives no name, and never a failure.
 #![tactic(auto)]
 
+mod byte_texts;
 mod bytes;
 mod categories;
 mod class_names;

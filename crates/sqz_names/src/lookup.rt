@@ -1,56 +1,93 @@
 //! What a name stands for.
 
 ghost use Rattle.std.specs.Prelude.{◌≡◌, ◌<◌, ℕ, length, All, IfOk, IfSome, IsSome, IsTrue, Option};
+ghost use Rattle.std.specs.Prelude.{true};
 ghost use Rattle.std.specs.Str.{bytes_eq};
 ghost use Rattle.sqz_image.specs.Objects.{object_count};
-ghost use Rattle.sqz_histogram.specs.Names.{class_name};
-ghost use Rattle.sqz_names.specs.Names.{AreMethodsUnder, AreOfClasses, IsClassNamed};
-ghost use Rattle.sqz_names.specs.Names.{IsMethodName, IsMethodNamed, IsOwner, IsVariableName};
+ghost use Rattle.sqz_trace.specs.Graph.{is_marked};
+ghost use Rattle.sqz_names.specs.ByteTexts.{whole_name};
+ghost use Rattle.sqz_names.specs.Names.{AreMethodsNamed, AreMethodsUnder, AreOfClasses};
+ghost use Rattle.sqz_names.specs.Names.{IsClassNamed, IsMethodName, IsOwner, IsVariableName};
 ghost use Rattle.sqz_names.specs.Names.{ListsMethodsOf};
 ghost use Rattle.sqz_names.specs.Picks.{AreObjectsThat};
 ghost use Rattle.sqz_names.specs.Structures.{IsClass, IsMethodOf, IsVariable};
+ghost use Rattle.sqz_names.specs.Words.{IsClassCalled};
 
 use crate::bytes::spells;
+use crate::class_names::is_class_named;
 use crate::method_name::MethodName;
 use crate::methods::MethodsFound;
 use crate::names::Names;
 use crate::object_set::ObjectSet;
 use crate::variable_name::VariableName;
-use sqz_histogram::class_name;
+use crate::words::class_in;
 use sqz_object::ObjectIndex;
 use std::alloc::AllocError;
 
 impl Names<'_> {
-    /// Returns the classes with this name, by address. A metaclass is named `NAME class`.
-    pub fn classes_named(&self, name: &str) -> Result<Vec<ObjectIndex>, AllocError>
-        ensures named { IfOk result (λ found. All (IsClassNamed self.now.graph.heap.now
-            self.now.graph.weak name.now) found.items) }
+    /// Returns the classes with this name, by address. `class` may precede it, and a metaclass is
+    /// named `NAME class`.
+    pub(crate) fn classes_called(&self, words: &str) -> Result<Vec<ObjectIndex>, AllocError>
+        ensures named { IfOk result (λ found. All (IsClassCalled self.now.graph.heap.now
+            self.now.graph.weak words.now) found.items) }
         ensures all { IfOk result (λ found. AreObjectsThat self.now.graph.heap.now
-            (IsClassNamed self.now.graph.heap.now self.now.graph.weak name.now) found.items) }
+            (IsClassCalled self.now.graph.heap.now self.now.graph.weak words.now) found.items) }
     {
         let mut found = Vec::new(self.alloc);
         for class in 0..self.graph.heap.len() {
-            if self.is_class(class) && self.has_name(class, name)? {
+            if self.is_class_called(class, words)? {
                 found.push(class)?;
             }
         }
         Ok(found)
     }
 
-    /// Returns the methods with this name, as `Point>>x:y:`, by address. The first `>>` ends the
-    /// name of the class.
-    pub fn methods_named(&self, name: &str) -> Result<Vec<ObjectIndex>, AllocError>
-        ensures inside { IfOk result (λ found.
-            All (λ method. method < object_count self.now.graph.heap.now) found.items) }
-        ensures named { IfOk result (λ found. AreObjectsThat self.now.graph.heap.now
-            (λ method. ∥ IsMethodNamed self.now.graph.heap.now self.now.graph.weak name.now method ∥₁)
-            found.items) }
+    /// Returns whether an object is a class with this name. `class` may precede it.
+    pub(crate) fn is_class_called(
+        &self,
+        object: ObjectIndex,
+        words: &str,
+    ) -> Result<bool, AllocError>
+        requires { object < object_count self.now.graph.heap.now }
+        ensures sound { IfOk result (λ is. IsTrue is
+            → IsClassCalled self.now.graph.heap.now self.now.graph.weak words.now object) }
+        ensures complete { IfOk result (λ is.
+            IsClassCalled self.now.graph.heap.now self.now.graph.weak words.now object
+            → IsTrue is) }
     {
-        let Some((class, selector)) = name.split_once(">>") else {
-            return Ok(Vec::new(self.alloc));
-        };
-        let named = self.methods_under(class, selector)?;
-        named.objects(self.alloc, self.graph.heap)
+        if self.is_class_named(object, words)? {
+            return Ok(true);
+        }
+        self.is_class_named(object, class_in(words))
+    }
+
+    /// Returns whether an object is a class with this name.
+    fn is_class_named(&self, object: ObjectIndex, name: &str) -> Result<bool, AllocError>
+        requires { object < object_count self.now.graph.heap.now }
+        ensures sound { IfOk result (λ is. IsTrue is
+            → IsClassNamed self.now.graph.heap.now self.now.graph.weak name.now object) }
+        ensures complete { IfOk result (λ is.
+            IsClassNamed self.now.graph.heap.now self.now.graph.weak name.now object
+            → IsTrue is) }
+    {
+        if !self.is_class(object) {
+            return Ok(false);
+        }
+        is_class_named(self.alloc, self.graph, object, name)
+    }
+
+    /// Returns the methods with this name, as `Point>>x:y:`. The first `>>` ends the name of the
+    /// class.
+    pub(crate) fn methods_named(&self, name: &str) -> Result<ObjectSet, AllocError>
+        ensures one_each { IfOk result (λ named.
+            length named ≡ object_count self.now.graph.heap.now) }
+        ensures named { IfOk result (λ named. AreMethodsNamed self.now.graph.heap.now
+            self.now.graph.weak name.now named) }
+    {
+        match name.split_once(">>") {
+            Some((class, selector)) => self.methods_under(class, selector),
+            None => ObjectSet::empty(self.alloc, self.graph.heap),
+        }
     }
 
     /// Returns the methods of the classes with a name under a selector.
@@ -83,26 +120,18 @@ impl Names<'_> {
         ensures methods { IfOk result (λ found.
             All (IsMethodName self.now.graph.heap.now self.now.graph.weak) found.items) }
         ensures classes { IfOk result (λ found. AreOfClasses (λ class. bytes_eq
-            (class_name self.now.graph.heap.now self.now.graph.weak class) name.now) found.items) }
+            (whole_name self.now.graph.heap.now self.now.graph.weak class) name.now) found.items) }
         ensures all { IfOk result (λ found. (class : ℕ)
             → IsClassNamed self.now.graph.heap.now self.now.graph.weak name.now class
             → ListsMethodsOf self.now.graph.heap.now found.items class) }
     {
         let mut methods = MethodsFound::none(self.alloc, self.graph)?;
-        for class in &self.classes_named(name)? {
-            methods.add(*class)?;
+        for class in 0..self.graph.heap.len() {
+            if self.is_class_named(class, name)? {
+                methods.add(class)?;
+            }
         }
         Ok(methods.names)
-    }
-
-    /// Returns whether a class has this name.
-    fn has_name(&self, class: ObjectIndex, name: &str) -> Result<bool, AllocError>
-        requires { class < object_count self.now.graph.heap.now }
-        ensures { IfOk result (λ is. is ≡ bytes_eq
-            (class_name self.now.graph.heap.now self.now.graph.weak class) name.now) }
-    {
-        let printed = class_name(self.alloc, self.graph, class)?;
-        Ok(printed.as_slice() == name.as_bytes())
     }
 
     /// Returns the first name of a method.

@@ -6,7 +6,7 @@ ghost use Rattle.std.proofs.Props.{props};
 ghost use Rattle.sqz_image.specs.Objects.{object_count};
 ghost use Rattle.std.specs.String.{string_bytes};
 ghost use Rattle.sqz_trace.specs.Graph.{is_marked};
-ghost use Rattle.sqz_histogram.specs.Names.{class_name};
+ghost use Rattle.sqz_names.specs.ByteTexts.{name_of_class};
 ghost use Rattle.sqz_names.specs.Texts.{shown_class_name};
 ghost use Rattle.sqz_names.specs.Structures.{AreClasses, IsClass};
 ghost use Rattle.sqz_names.specs.Names.{AreOfClasses, IsMethodName, IsVariableName, ListsMethods};
@@ -116,8 +116,8 @@ impl<'a> Names<'a> {
         self.classes.contains(object)
     }
 
-    /// Returns the name of an object's class as a class histogram prints it, and `compact K` with
-    /// the compact index if the object has no class.
+    /// Returns the name of an object's class as it is printed, and `compact K` with the compact
+    /// index if the object has no class.
     pub fn name_of_class_of(&self, object: ObjectIndex) -> Result<String, AllocError>
         requires { object < object_count self.now.graph.heap.now }
         ensures { IfOk result (λ name. string_bytes name
@@ -126,11 +126,11 @@ impl<'a> Names<'a> {
         name_of_class_of(self.alloc, self.graph, object)
     }
 
-    /// Returns the name of a class as a class histogram prints it.
+    /// Returns the name of a class as it is printed.
     pub fn name_of_class(&self, class: ObjectIndex) -> Result<String, AllocError>
         requires { class < object_count self.now.graph.heap.now }
         ensures { IfOk result (λ name. string_bytes name
-            ≡ class_name self.now.graph.heap.now self.now.graph.weak class) }
+            ≡ name_of_class self.now.graph.heap.now self.now.graph.weak class) }
     {
         name_of_class(self.alloc, self.graph, class)
     }

@@ -5,10 +5,12 @@ mod addresses;
 mod classes;
 mod found;
 mod labelled;
+mod named;
 mod numbers;
 mod objects;
 mod only;
 
 pub use classes::find_class;
 pub use found::{Found, Missing};
+pub(crate) use numbers::class_in;
 pub use objects::find_object;

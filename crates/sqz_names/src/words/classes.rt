@@ -7,7 +7,7 @@ ghost use Rattle.sqz_names.specs.Words.{IsClassAt, IsGroup, IsClassMeant};
 use crate::Names;
 use crate::words::addresses::object_at;
 use crate::words::found::{Found, Missing};
-use crate::words::numbers::{address_in, class_in, compact_index, explicit_address};
+use crate::words::numbers::{address_in, compact_index, explicit_address};
 use crate::words::only::the_one;
 use sqz_histogram::Group;
 use sqz_object::{Address, ObjectIndex};
@@ -43,7 +43,7 @@ fn the_class(
     if let Some(address) = explicit_address(words) {
         return Ok(class_with(names, address));
     }
-    let classes = names.classes_named(class_in(words))?;
+    let classes = names.classes_called(words)?;
     if !classes.is_empty() {
         return Ok(the_one(marks, classes));
     }

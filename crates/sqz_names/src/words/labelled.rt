@@ -1,98 +1,106 @@
 //! Objects by their labels.
 
-ghost use Rattle.std.specs.Prelude.{All, IfOk, IfSome, IsTrue, ◌<◌};
+ghost use Rattle.std.specs.Prelude.{◌≡◌, ◌<◌, IfOk, IfSome, IsTrue, None};
 ghost use Rattle.sqz_image.specs.Objects.{object_count};
-ghost use Rattle.sqz_names.specs.Texts.{HasLabel};
-ghost use Rattle.sqz_names.specs.Found.{IsFoundIn};
-ghost use Rattle.sqz_names.specs.Words.{IsByLabel};
+ghost use Rattle.sqz_names.specs.Labels.{IsInside, IsLabel};
+ghost use Rattle.sqz_names.specs.LabelOrder.{IsFirst};
+ghost use Rattle.sqz_names.specs.Texts.{begins_as_text, HasLabel, HasOnlyLabel};
+ghost use Rattle.sqz_names.specs.Words.{IsIn, IsNamed};
 
 use crate::words::addresses::object_at;
-use crate::words::found::{Found, Missing};
 use crate::words::numbers::address_in;
-use crate::words::only::the_one;
 use crate::{Label, Names};
 use sqz_object::ObjectIndex;
-use sqz_trace::Marks;
-use std::alloc::{AllocError, Global};
-
-/// Returns the object with a label as it is printed.
-pub(crate) fn find_labelled(
-    alloc: Global,
-    names: &Names<'_>,
-    marks: &Marks,
-    label: &str,
-) -> Result<Found<ObjectIndex>, AllocError>
-    ensures found { IfOk result
-        (IsByLabel names.now.graph.heap.now names.now.graph.weak label.now) }
-    ensures inside { IfOk result (IsFoundIn names.now.graph.heap.now) }
-{
-    if let Some(object) = object_with_address(names, label)? {
-        return Ok(Found::One(object));
-    }
-    let objects = objects_labelled(alloc, names, label)?;
-    if objects.is_empty() {
-        return Ok(Found::Nothing(Missing::NoObjectNamed));
-    }
-    Ok(the_one(marks, objects))
-}
-
-/// Returns the objects with this label, by address. Those whose labels are only the names of their
-/// classes and their addresses are left out.
-fn objects_labelled(
-    alloc: Global,
-    names: &Names<'_>,
-    label: &str,
-) -> Result<Vec<ObjectIndex>, AllocError>
-    ensures inside { IfOk result (λ found.
-        All (λ object. object < object_count names.now.graph.heap.now) found.items) }
-    ensures labelled { IfOk result (λ found. All (λ object.
-        HasLabel names.now.graph.heap.now names.now.graph.weak object label.now) found.items) }
-{
-    let mut found = Vec::new(alloc);
-    for object in 0..names.graph.heap.len() {
-        if is_labelled(names, object, label)? {
-            found.push(object)?;
-        }
-    }
-    Ok(found)
-}
+use std::alloc::AllocError;
 
 /// Returns whether an object has this label, and not only the name of its class and its address.
-fn is_labelled(names: &Names<'_>, object: ObjectIndex, label: &str) -> Result<bool, AllocError>
+pub(crate) fn is_labelled(
+    names: &Names<'_>,
+    object: ObjectIndex,
+    words: &str,
+) -> Result<bool, AllocError>
     requires { object < object_count names.now.graph.heap.now }
-    ensures { IfOk result (λ is. IsTrue is
-        → HasLabel names.now.graph.heap.now names.now.graph.weak object label.now) }
+    ensures sound { IfOk result (λ is. IsTrue is
+        → HasLabel names.now.graph.heap.now names.now.graph.weak object words.now) }
+    ensures complete { IfOk result (λ is.
+        HasOnlyLabel names.now.graph.heap.now names.now.graph.weak object words.now
+        → IsTrue is) }
 {
-    match names.label_of(object)? {
-        Label::Other => Ok(false),
-        _ => has_label(names, object, label),
+    match possible_label(names, object, words)? {
+        Some(label) => Ok(names.label_text(object, label)?.as_str() == words),
+        None => Ok(false),
     }
 }
 
-/// Returns the object whose label is the name of its class and its address.
-fn object_with_address(names: &Names<'_>, label: &str) -> Result<Option<ObjectIndex>, AllocError>
-    ensures inside { IfOk result (λ found. IfSome found (λ object.
-        object < object_count names.now.graph.heap.now)) }
-    ensures labelled { IfOk result (λ found. IfSome found (λ object.
-        HasLabel names.now.graph.heap.now names.now.graph.weak object label.now)) }
+/// Returns the label of an object, and None if the words cannot be its label. Most objects have no
+/// name by their place in the image, and are read only for words that begin as a string or a symbol.
+fn possible_label(
+    names: &Names<'_>,
+    object: ObjectIndex,
+    words: &str,
+) -> Result<Option<Label>, AllocError>
+    requires { object < object_count names.now.graph.heap.now }
+    ensures label { IfOk result (λ label. IfSome label
+        (IsLabel names.now.graph.heap.now names.now.graph.weak object)) }
+    ensures inside { IfOk result (λ label. IfSome label
+        (IsInside (object_count names.now.graph.heap.now))) }
+    ensures first { IfOk result (λ label. IfSome label
+        (IsFirst names.now.graph.heap.now names.now.graph.weak object)) }
+    ensures none { IfOk result (λ label. label ≡ None
+        → HasOnlyLabel names.now.graph.heap.now names.now.graph.weak object words.now → ⊥) }
 {
-    let Some(word) = label.split_whitespace().last() else {
+    if let Some(label) = names.placed_label(object)? {
+        return Ok(Some(label));
+    }
+    if !begins_as_text(words) {
         return Ok(None);
-    };
-    let Some(address) = address_in(word) else {
-        return Ok(None);
-    };
-    let Some(object) = object_at(names.graph.heap, address) else {
-        return Ok(None);
-    };
-    Ok(has_label(names, object, label)?.then_some(object))
+    }
+    match names.text_label(object)? {
+        Label::Other => Ok(None),
+        label => Ok(Some(label)),
+    }
 }
 
-/// Returns whether an object has this label.
-fn has_label(names: &Names<'_>, object: ObjectIndex, label: &str) -> Result<bool, AllocError>
-    requires { object < object_count names.now.graph.heap.now }
-    ensures { IfOk result (λ is. IsTrue is
-        → HasLabel names.now.graph.heap.now names.now.graph.weak object label.now) }
+/// Returns whether words begin as the label of a string or a symbol.
+fn begins_as_text(words: &str) -> bool
+    ensures { result ≡ begins_as_text words.now }
 {
-    Ok(names.label(object)?.as_str() == label)
+    matches!(words.as_bytes().first(), Some(b'\'' | b'#'))
+}
+
+/// Returns the object whose address ends the words, if its label precedes it, as rows have it.
+pub(crate) fn object_with_address(
+    names: &Names<'_>,
+    words: &str,
+) -> Result<Option<ObjectIndex>, AllocError>
+    ensures inside { IfOk result (λ found. IfSome found (λ object.
+        object < object_count names.now.graph.heap.now)) }
+    ensures named { IfOk result (λ found. IfSome found
+        (IsNamed names.now.graph.heap.now names.now.graph.weak words.now)) }
+{
+    let Some(digits) = words.split_whitespace().last() else {
+        return Ok(None);
+    };
+    let Some(object) = object_in(names, digits) else {
+        return Ok(None);
+    };
+    if names.label(object)?.as_str() == words {
+        return Ok(Some(object));
+    }
+    let mut label = names.short_label(object)?;
+    label.push_str(" ")?;
+    label.push_str(digits)?;
+    if label.as_str() == words {
+        return Ok(Some(object));
+    }
+    Ok(None)
+}
+
+/// Returns the object with the address that digits write.
+fn object_in(names: &Names<'_>, digits: &str) -> Option<ObjectIndex>
+    ensures inside { IfSome result (λ object.
+        object < object_count names.now.graph.heap.now) }
+    ensures at { IfSome result (IsIn names.now.graph.heap.now digits.now) }
+{
+    object_at(names.graph.heap, address_in(digits)?)
 }

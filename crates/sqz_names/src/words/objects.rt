@@ -7,18 +7,18 @@ ghost use Rattle.sqz_names.specs.Words.{IsNamedObject, IsObject};
 use crate::Names;
 use crate::words::addresses::object_at;
 use crate::words::found::{Found, Missing};
-use crate::words::labelled::find_labelled;
-use crate::words::numbers::{address_in, class_in, explicit_address, special_field};
+use crate::words::named::objects_named;
+use crate::words::numbers::{address_in, explicit_address, special_field};
 use crate::words::only::the_one;
 use sqz_image::{Heap, Slot};
 use sqz_object::{Address, ObjectIndex};
 use sqz_trace::{Marks, target};
 use std::alloc::{AllocError, Global};
 
-/// Returns the object that words stand for. They are the first of these that fits: an address in
-/// hexadecimal digits after `0x`, a field of the special objects array, the name of a class, the
-/// name of a method, an address without `0x`, and the label of an object as it is printed. If
-/// several objects have the name, the one that is live is meant.
+/// Returns the object that words stand for. An address in hexadecimal digits after `0x` and a field
+/// of the special objects array come first. Other digits stand for the class with this name, or
+/// else for an address, and other words for the class, the method or the object with this name or
+/// label. If several objects have it, the one that is live is meant.
 pub fn find_object(
     alloc: Global,
     names: &Names<'_>,
@@ -38,7 +38,7 @@ pub fn find_object(
     }
 }
 
-/// Returns the class or the method that words name, or what else they stand for.
+/// Returns the object with a name, a label or an address.
 fn find_named(
     alloc: Global,
     names: &Names<'_>,
@@ -49,18 +49,18 @@ fn find_named(
         (IsNamedObject names.now.graph.heap.now names.now.graph.weak marks.now words.now) }
     ensures inside { IfOk result (IsFoundIn names.now.graph.heap.now) }
 {
-    let classes = names.classes_named(class_in(words))?;
-    if !classes.is_empty() {
+    if let Some(address) = address_in(words) {
+        let classes = names.classes_called(words)?;
+        if classes.is_empty() {
+            return Ok(object_with(names.graph.heap, address));
+        }
         return Ok(the_one(marks, classes));
     }
-    let methods = names.methods_named(words)?;
-    if !methods.is_empty() {
-        return Ok(the_one(marks, methods));
+    let objects = objects_named(alloc, names, words)?;
+    if objects.is_empty() {
+        return Ok(Found::Nothing(Missing::NoObjectNamed));
     }
-    match address_in(words) {
-        Some(address) => Ok(object_with(names.graph.heap, address)),
-        None => find_labelled(alloc, names, marks, words),
-    }
+    Ok(the_one(marks, objects))
 }
 
 /// Returns the object with an address.

@@ -1,5 +1,5 @@
 use Rattle.std.proofs.Common.{◌∙◌, ◌++◌, ℕ, List, get_or, sym, ap, arith}
-use Rattle.sqz_names.specs.Texts.{escaped_byte}
+use Rattle.sqz_names.specs.ByteTexts.{escaped_byte}
 use Rattle.sqz_names.proofs.TextLemmas.{concat_map-more}
 use Rattle.sqz_names.proofs.escape.escaped.Goals as goal
 

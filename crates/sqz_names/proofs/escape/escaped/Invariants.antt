@@ -1,6 +1,6 @@
 use Rattle.std.proofs.Common.{◌≡◌, take}
 use Rattle.std.specs.String.{string_bytes}
-use Rattle.sqz_names.specs.Texts.{escaped}
+use Rattle.sqz_names.specs.ByteTexts.{escaped}
 use Rattle.sqz_names.proofs.escape.escaped.Given as goal
 
 abbrev pub invariant-loop-byte : goal.invariant-loop-byte

@@ -1,41 +1,44 @@
-use Rattle.std.proofs.Common.{◌≡◌, ◌<◌, ℕ, List, length, get_or, All, ap, subst, ◌∙◌, arith}
-use Rattle.std.proofs.lemmas.List.{get_or_default}
-use Rattle.std.proofs.lemmas.List.Elements.{All-same}
-use Rattle.std.proofs.lemmas.Slice.Eq.{bytes_eq-Decides}
+use Rattle.std.proofs.Common.{◌≡◌, ◌<◌, ℕ, true≢false, sym, ◌∙◌, arith}
 use Rattle.std.specs.Str.{bytes_eq}
-use Rattle.sqz_histogram.specs.Names.{class_name}
+use Rattle.std.proofs.lemmas.Slice.Eq.{bytes_eq-Decides}
+use Rattle.sqz_image.specs.Objects.{object_count}
+use Rattle.sqz_names.specs.ByteTexts.{whole_name}
 use Rattle.sqz_names.specs.Names.{IsClassNamed, ListsMethodsOf}
 use Rattle.sqz_names.proofs.MethodLemmas.{below-more, ListsMethodsOf-keeps}
-use Rattle.sqz_names.proofs.PickLemmas.{Contains-picked, Contains-range}
 use Rattle.sqz_names.proofs.names.Names.methods_of_classes.Goals as goal
+use Rattle.sqz_names.proofs.names.Names.methods_of_classes.Goals.{then-branch+in_ok-add, else-branch}
 
 pub loop-class-preserved : goal.loop-class-preserved
 loop-class-preserved c =
-    let all : All (IsClassNamed c.args.self.now.graph.heap.now c.args.self.now.graph.weak c.args.name.now) c.deref-class-items.result.now =
-    All-same (IsClassNamed c.args.self.now.graph.heap.now c.args.self.now.graph.weak c.args.name.now) _ _
-    c.deref-class-items.ensures.value c.in_ok-classes_named.ensures.named
-    in
-    let lt : c.loop-class.class-index < length c.deref-class-items.result.now = omega (arith, c.loop-class-test.true) in
     let memory = c.args.self.now.graph.heap.now in
-    let its = rw c.loop-class.invariant.graph at c.in_ok-add.ensures.all in
-    record {
-      graph = c.in_ok-add.ensures.graph ∙ c.loop-class.invariant.graph;
-      named =
-          c.in_ok-add.ensures.classes
-          (λ class. bytes_eq (class_name c.args.self.now.graph.heap.now c.args.self.now.graph.weak class) c.args.name.now)
-          ((bytes_eq-Decides _ _).1 (all c.loop-class.class-index 0 lt).named) c.loop-class.invariant.named;
-      all = below-more (λ (k : ℕ). ListsMethodsOf memory _ (get_or c.deref-class-items.result.now k 0)) c.loop-class.class-index
-          (λ k before. ListsMethodsOf-keeps memory _ _ c.in_ok-add.ensures.keeps _ (c.loop-class.invariant.all k before)) its;
-    }
+    let weak = c.args.self.now.graph.weak in
+    let name = c.args.name.now in
+    let class = c.loop-class.class in
+    let so_far = c.loop-class.invariant in
+    elim c.if-branch.branch [
+      | then-branch+in_ok-add w ↦
+          let its = rw so_far.graph at w.in_ok-add.ensures.all in
+          let is = c.in_ok-is_class_named.ensures.sound w.if-branch.true in
+          rw w.methods-is
+          (record {
+            graph = w.in_ok-add.ensures.graph ∙ so_far.graph;
+            named = w.in_ok-add.ensures.classes (λ (it : ℕ). bytes_eq (whole_name memory weak it) name)
+                ((bytes_eq-Decides (whole_name memory weak class) name).1 is.named) so_far.named;
+            all = below-more
+                (λ (it : ℕ). IsClassNamed memory weak name it → ListsMethodsOf memory _ it) class
+                (λ it lt is. ListsMethodsOf-keeps memory _ _ w.in_ok-add.ensures.keeps it (so_far.all it lt is))
+                (λ is. its);
+          })
+      | else-branch w ↦
+          rw w.methods-is
+          (record {
+            graph = so_far.graph;
+            named = so_far.named;
+            all = below-more
+                (λ (it : ℕ). IsClassNamed memory weak name it → ListsMethodsOf memory c.loop-class.methods.names.items it) class so_far.all
+                (λ is. absurd (true≢false (sym (c.in_ok-is_class_named.ensures.complete is) ∙ w.if-branch.false)));
+          })
+    ]
 
 pub returns-clause-all : goal.returns-clause-all
-returns-clause-all c class is =
-    let IsNamed = IsClassNamed c.args.self.now.graph.heap.now c.args.self.now.graph.weak c.args.name.now in
-    let found = Contains-picked IsNamed _ _ c.in_ok-classes_named.ensures.all class (Contains-range _ class is.inside) is in
-    let index : ℕ = found.0 in
-    let before : found.0 < c.loop-class.class-index =
-    omega (arith, found.1, c.loop-class-test.false, ap length c.deref-class-items.ensures.value) in
-    let at : get_or c.deref-class-items.result.now found.0 0 ≡ class =
-    ap (λ (l : List ℕ). get_or l index 0) c.deref-class-items.ensures.value ∙ get_or_default _ index 0 class found.1 ∙ found.2 in
-    subst (λ (it : ℕ). ListsMethodsOf c.args.self.now.graph.heap.now c.loop-class.methods.names.items it) at
-    (c.loop-class.invariant.all index before)
+returns-clause-all c class is = c.loop-class.invariant.all class (omega (arith, is.inside, c.loop-class-test.false, c.len-class-end.ensures.objects)) is

@@ -8,7 +8,7 @@ use mathlib.Core.Bool.{Bool-set}
 use Rattle.sqz_image.specs.Objects.{object_count}
 use Rattle.sqz_trace.specs.Graph.{is_marked}
 use Rattle.sqz_trace.proofs.MarkingLemmas.{is_marked-keeps, is_marked-set}
-use Rattle.sqz_histogram.specs.Names.{class_name}
+use Rattle.sqz_names.specs.ByteTexts.{whole_name}
 use Rattle.sqz_names.specs.declared.method_name.MethodName.{MethodName}
 use Rattle.sqz_names.specs.Structures.{HasText}
 use Rattle.sqz_names.specs.Names.{AreOfClasses, IsMethodName, IsMethodUnder}
@@ -47,10 +47,10 @@ loop-method-preserved c =
     c.deref-method-items.ensures.value c.in_ok-methods.ensures.methods
     in
     let of_classes : AreOfClasses
-    (λ class. bytes_eq (class_name c.args.self.now.graph.heap.now c.args.self.now.graph.weak class) c.args.class.now)
+    (λ class. bytes_eq (whole_name c.args.self.now.graph.heap.now c.args.self.now.graph.weak class) c.args.class.now)
     c.deref-method-items.result.now =
     All-same
-    (λ name. bytes_eq (class_name c.args.self.now.graph.heap.now c.args.self.now.graph.weak name.class) c.args.class.now ≡ true)
+    (λ name. bytes_eq (whole_name c.args.self.now.graph.heap.now c.args.self.now.graph.weak name.class) c.args.class.now ≡ true)
     _ _ c.deref-method-items.ensures.value c.in_ok-methods.ensures.classes
     in
     let lt : c.loop-method.method-index < length c.deref-method-items.result.now = omega (arith, c.loop-method-test.true) in
