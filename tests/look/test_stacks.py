@@ -3,10 +3,10 @@
 from tests.harness.json_rows import rows_of
 from tests.harness.look_checks import Asking, LookTest
 from tests.harness.sqzlook import CLEAR, look
-from tests.making.process_image import ProcessImage
+from tests.making.process_image import ProcessImage, small
 from tests.reference.fields import SpecialField
 from tests.reference.image import Image
-from tests.reference.objects import ZERO
+from tests.reference.objects import CONTEXT_INDEXES, ZERO
 
 NAME = "it.image"
 
@@ -47,6 +47,22 @@ class StacksTest(LookTest):
         for head, end in zip(heads, ends, strict=True):
             self.assertIn(f", {end}", head)
         self.assertTrue(lines[2].endswith(" at 5, self 7"), lines[2])
+
+    def test_no_method(self):
+        """What is no compiled method is not printed as one, nor what another object than a context
+        holds in place of it."""
+        it = ProcessImage()
+        text = it.add_bytes("String", b"no method")
+        array = it.add_array(*[text] * 6)
+        block = it.add_frame(CONTEXT_INDEXES[0], ZERO, small(0), array, pc=1)
+        context = it.add_frame(CONTEXT_INDEXES[1], block, text, small(7), pc=2)
+        it.keep(it.add_process("suspended", context, 2, ZERO))
+        self.check(it)
+        rows = rows_of(self.printed_by(look("stacks", "--json", NAME, folder=self.folder)))
+        self.assertEqual([context["method"] for context in rows[-1]["contexts"]], [None, None])
+        lines = self.printed_by(look("stacks", NAME, folder=self.folder)).decode().splitlines()
+        self.assertIn("  no method at 2, self 7", lines[-2])
+        self.assertIn("  [] in no method at 1", lines[-1])
 
     def test_no_process(self):
         for broken in (SpecialField.SCHEDULER, SpecialField.COMPACT_CLASSES):

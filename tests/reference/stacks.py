@@ -3,7 +3,7 @@
 import enum
 
 from tests.reference.fields import AssociationField, SpecialField
-from tests.reference.objects import is_context
+from tests.reference.objects import is_context, is_method
 from tests.reference.values import signed
 
 
@@ -103,10 +103,13 @@ class Stacks:
 
     def context(self, number):
         is_block = self.integer(number, ContextField.METHOD) is not None
-        home = self.image.field(number, ContextField.HOME) if is_block else number
+        home = self.context_in(number, ContextField.HOME) if is_block else number
+        method = self.names.target(home, ContextField.METHOD)
+        if method is not None and not is_method(self.image.header_of(method)):
+            method = None
         return {
             "address": self.names.address(number),
-            "method": self.label(self.names.target(home, ContextField.METHOD)),
+            "method": self.label(method),
             "block": is_block,
             "pc": self.integer(number, ContextField.PC),
             "receiver": self.receiver(home),

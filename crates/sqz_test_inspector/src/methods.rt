@@ -111,6 +111,8 @@ const TRAILERS: &[Case] = &[
         0,
         &[0x70, 0x20, 0x7C, 0x78],
     ),
+    // four zeros, and no bytecodes
+    (METHOD, &[NO_LITERALS, 0], 0, &[]),
     // with five zeros the last one stands alone
     (
         METHOD,

@@ -19,8 +19,8 @@ pub(crate) fn code_end(bytes: &[u8]) -> usize
 
 /// Returns the number of bytes of the trailer, as Squeak finds it. The last byte says how long the
 /// trailer is: four bytes from 252 on, else that many and itself; but with 0 the trailer also has
-/// the zeros before it, up to the nearest of the four bytes before it that is not 0. It is longer
-/// than the bytes if they do not have that many.
+/// the zeros before it, unless they are more than three. It is longer than the bytes if they do not
+/// have that many.
 fn trailer_length(bytes: &[u8]) -> usize
     ensures { result ≡ trailer_length (reverse bytes.now) }
 {
@@ -34,12 +34,15 @@ fn trailer_length(bytes: &[u8]) -> usize
     }
 }
 
-/// Returns the number of zeros after the nearest byte to the end that is not 0, and 0 if the last
-/// four bytes are zeros.
+/// Returns the number of zeros at the end, and 0 if the last four bytes are zeros.
 fn zeros_at_end(bytes: &[u8]) -> usize
     ensures zeros { result ≡ zeros_before (reverse bytes.now) }
     ensures few { result < 4 }
 {
     let mut last = bytes.iter().rev().take(SOURCE_BYTES);
-    last.position(|byte| *byte != 0).unwrap_or(0)
+    match last.position(|byte| *byte != 0) {
+        Some(zeros) => zeros,
+        None if bytes.len() < SOURCE_BYTES => bytes.len(),
+        None => 0,
+    }
 }

@@ -2,14 +2,13 @@
 
 ghost use Rattle.std.specs.Prelude.{◌≡◌, ◌<◌, IfSome, option_and_then};
 ghost use Rattle.sqz_image.specs.Objects.{object_count};
-ghost use Rattle.sqz_code.specs.FieldValues.{along};
-ghost use Rattle.sqz_code.specs.Fields.{method_field};
-ghost use Rattle.sqz_code.specs.Frames.{ReceiverBelow, frame, home, receiver};
+ghost use Rattle.sqz_code.specs.Frames.{ReceiverBelow, frame, method_of, receiver};
 
 use crate::stacks::field_values::{field_of, integer_in};
 use crate::stacks::fields::{HOME, METHOD, PROGRAM_COUNTER, RECEIVER};
+use crate::stacks::senders::context_in;
 use sqz_image::Heap;
-use sqz_object::ObjectIndex;
+use sqz_object::{Layout, ObjectIndex};
 
 /// The receiver of a method.
 #[derive(Clone, Copy)]
@@ -42,7 +41,7 @@ pub fn frame_of(heap: &Heap, context: ObjectIndex) -> Frame
 {
     let is_block = integer_in(heap, context, METHOD).is_some();
     let home = if is_block {
-        field_of(heap, context, HOME)
+        context_in(heap, context, HOME)
     } else {
         Some(context)
     };
@@ -54,13 +53,18 @@ pub fn frame_of(heap: &Heap, context: ObjectIndex) -> Frame
     }
 }
 
-/// Returns the method of a context. None also if there is no context.
+/// Returns the compiled method that the method field of a context points to. None also if there is
+/// no context.
 fn method_in(heap: &Heap, home: Option<ObjectIndex>) -> Option<ObjectIndex>
     requires { IfSome home (λ context. context < object_count heap.now) }
-    ensures along { result ≡ along heap.now method_field home }
+    ensures method { result ≡ option_and_then (method_of heap.now) home }
     ensures inside { IfSome result (λ found. found < object_count heap.now) }
 {
-    field_of(heap, home?, METHOD)
+    let found = field_of(heap, home?, METHOD)?;
+    match heap.object(found).layout() {
+        Layout::Method => Some(found),
+        _ => None,
+    }
 }
 
 /// Returns the receiver of a method, given its context. None also if there is no context.

@@ -11,7 +11,7 @@ use sqz_object::{Layout, ObjectIndex};
 
 /// Returns the context that a traced field of an object points to, given its number from 0. None if
 /// the object has no such field, or if it points to no context.
-fn context_in(heap: &Heap, object: ObjectIndex, field: u32) -> Option<ObjectIndex>
+pub(crate) fn context_in(heap: &Heap, object: ObjectIndex, field: u32) -> Option<ObjectIndex>
     requires { object < object_count heap.now }
     ensures context { result ≡ context_in heap.now object field }
     ensures inside { IfSome result (λ context. context < object_count heap.now) }
