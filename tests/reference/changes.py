@@ -14,8 +14,6 @@ from tests.reference.sides import MOST, Name, Size, shown
 SHOWN = 20
 # A path with more steps than twice this is cut in the middle, as text.
 HALF = 10
-# The maximum number of characters of the name of a method that is printed.
-LONGEST = 80
 # The parts of the definition of a class, by slot; slot 0 is the class word.
 PARTS = {ClassField.SUPERCLASS + 1: "superclass", ClassField.VARIABLES + 1: "instance_variables"}
 # What is said of what only one of the images has: of the old, and of the new.
@@ -134,7 +132,7 @@ class Changes:
         """The row of a method that only one image has."""
         size = side.answers.reach.sizes[number]
         old, new = (size, None) if verb == REMOVED else (None, size)
-        text = self.method_text(name)
+        text = name.text(MOST)
         members = {
             "kind": "method",
             "name": text,
@@ -146,11 +144,6 @@ class Changes:
             "differences": None,
         }
         return Row(members, f"  {verb:7}  {text}")
-
-    def method_text(self, name):
-        """The name of a method as it is printed."""
-        text = name.text()
-        return text if len(text) <= LONGEST else text[:LONGEST] + ".."
 
     def owner_name(self, pair):
         """The name of an owner by the label of its old object. None if that is not of a class, a
@@ -173,7 +166,7 @@ class Changes:
         name = self.owner_name(pair)
         if name is None:
             return self.sides[0].names.label(self.differences.pairs[pair][0])
-        return self.method_text(name) if name.kind == "method" else name.text(MOST)
+        return name.text(MOST)
 
     def line_of(self, change):
         """The name, the path and the values of a difference as text."""

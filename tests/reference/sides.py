@@ -6,6 +6,7 @@ import typing
 
 from tests.reference.categories import Categories
 from tests.reference.fields import AssociationField, ClassField, DictionaryField, SpecialField
+from tests.reference.image import LONGEST_NAME as MOST
 from tests.reference.names import SYMBOLS, escaped
 from tests.reference.objects import (
     Format,
@@ -21,8 +22,6 @@ from tests.reference.values import signed, value_of
 
 # The maximum number of fields of an array whose elements are printed.
 SHORT = 5
-# The maximum number of bytes of each text in a name that is printed.
-MOST = 255
 
 
 class Size(typing.NamedTuple):
@@ -109,19 +108,17 @@ class Side:
     # ---- names
 
     def own_name(self, a_class):
-        """The whole name of a class or a metaclass that its structures state."""
+        """The whole name of a class or a metaclass that is labelled by it."""
         names = self.names
         if a_class in names.constants or a_class not in names.class_labels:
             return None
-        is_meta = names.is_metaclass(a_class)
-        path = (ClassField.INSTANCE, ClassField.NAME) if is_meta else (ClassField.NAME,)
-        data = self.image.text(names.target(a_class, *path))
-        return None if data is None else ClassName(data, is_meta)
+        return self.class_name(a_class)
 
     @functools.cache
     def class_name(self, a_class):
-        """The whole name of a class; if nothing states one, what a class histogram prints."""
-        return self.own_name(a_class) or ClassName(self.names.name(a_class).encode())
+        """The whole name of a class; if nothing states one, what is printed."""
+        data, suffix = self.image.naming(a_class, self.answers.clear_weak)
+        return ClassName(b"?") if data is None else ClassName(data, bool(suffix))
 
     @functools.cache
     def name_of_class_of(self, number):

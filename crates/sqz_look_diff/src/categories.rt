@@ -4,7 +4,6 @@ ghost use Rattle.std.specs.Prelude.{◌≡◌, IfOk, IsTrue};
 ghost use Rattle.sqz_look_view.specs.Inspectors.{IsObjectOf};
 
 use crate::keys::class_key;
-use crate::names::text_of;
 use crate::texts::{Age, Texts};
 use sqz_alike::Pair;
 use sqz_look_view::{Inspector, field_of};
@@ -77,7 +76,7 @@ fn category_of(
     match category {
         Some(category) => Ok((
             texts.of_object(inspector, age, category)?,
-            Some(text_of(inspector, category)?),
+            Some(inspector.names.text(category)?),
         )),
         None => Ok((None, None)),
     }

@@ -2,7 +2,6 @@
 
 use crate::changed::Changed;
 use crate::compared::Compared;
-use crate::names::short_name;
 use sqz_changes::Change;
 use sqz_image::{Sink, Slot};
 use sqz_look_view::{Out, SlotNames};
@@ -75,7 +74,7 @@ fn print_method<C: Sink>(
     let pair = compared.pair(owner);
     let (old, new) = (compared.old, compared.new);
     out.word("kind", "method");
-    out.text("name", short_name(old.alloc, changed.name.as_str()));
+    out.word("name", changed.name.as_str());
     changed.add_path(out);
     out.amount("old", old.bytes(pair.old));
     out.amount("new", new.bytes(pair.new));

@@ -7,7 +7,6 @@ use crate::changed_rows::{Kind, print_owners};
 use crate::compared::Compared;
 use crate::found::Found;
 use crate::keys::name_in;
-use crate::names::class_text;
 use sqz_image::Sink;
 use sqz_look_view::{Inspector, Out, field_of};
 use sqz_names::fields::SUPERCLASS;
@@ -65,7 +64,7 @@ fn print_class<C: Sink>(
         return;
     }
     out.word("kind", "definition");
-    out.text("name", class_text(inspector, class));
+    out.text("name", inspector.names.name_of_class(class));
     out.word("part", "superclass");
     out.texts("slots", &[]);
     if is_added {
@@ -121,7 +120,7 @@ fn superclass_text(inspector: &Inspector<'_>, class: ObjectIndex) -> Result<Stri
 {
     match field_of(inspector, class, SUPERCLASS) {
         Some(superclass) if inspector.names.is_class(superclass) => {
-            class_text(inspector, superclass)
+            inspector.names.name_of_class(superclass)
         }
         _ => String::from_str(inspector.alloc, "nil"),
     }

@@ -3,7 +3,6 @@
 ghost use Rattle.std.specs.Prelude.{IfSome};
 ghost use Rattle.sqz_look_view.specs.Inspectors.{IsObjectOf};
 
-use crate::names::{class_text, variable_text};
 use crate::texts::{Age, Texts};
 use sqz_changes::ClassName;
 use sqz_look_view::Inspector;
@@ -22,7 +21,7 @@ pub(crate) fn class_key(
     requires { IsObjectOf inspector.now class }
 {
     let ClassName { name, .. } = texts.of_class(inspector, age, class)?;
-    let text = class_text(inspector, class)?;
+    let text = inspector.names.name_of_class(class)?;
     format!(in inspector.alloc; "{text}\0{name}")
 }
 
@@ -46,6 +45,25 @@ pub(crate) fn variable_key(
     };
     let text = variable_text(inspector, variable.class, variable.key)?;
     Ok(Some(format!(in inspector.alloc; "{text}\0{owner} {key}")?))
+}
+
+/// Returns the name of a variable, given the class of a class variable.
+fn variable_text(
+    inspector: &Inspector<'_>,
+    class: Option<ObjectIndex>,
+    key: ObjectIndex,
+) -> Result<String, AllocError>
+    requires class { IfSome class (λ class. IsObjectOf inspector.now class) }
+    requires key { IsObjectOf inspector.now key }
+{
+    let key = inspector.names.text(key)?;
+    match class {
+        None => format!(in inspector.alloc; "Smalltalk at: #{key}"),
+        Some(class) => {
+            let class = inspector.names.name_of_class(class)?;
+            format!(in inspector.alloc; "{class} class variable {key}")
+        }
+    }
 }
 
 /// Returns the name in a key.

@@ -5,11 +5,10 @@ ghost use Rattle.sqz_look_view.specs.Inspectors.{IsObjectOf};
 use crate::changed_rows::{Kind, print_owners};
 use crate::compared::Compared;
 use crate::found::Found;
-use crate::names::{method_text, short_name};
+use crate::names::method_text;
 use sqz_image::Sink;
 use sqz_look_view::{Inspector, Out};
 use sqz_names::MethodName;
-use std::alloc::AllocError;
 
 /// Returns the number of rows.
 pub(crate) fn method_count(found: &Found) -> usize {
@@ -64,7 +63,7 @@ fn print_method<C: Sink>(
         return;
     }
     out.word("kind", "method");
-    out.text("name", name_text(inspector, name));
+    out.text("name", method_text(inspector, name.class, name.selector));
     out.texts("slots", &[]);
     let bytes = inspector.bytes(name.method);
     out.amount_or_null("old", (!is_added).then_some(bytes));
@@ -77,13 +76,4 @@ fn print_method<C: Sink>(
     } else {
         "  removed  {name}"
     });
-}
-
-/// Returns the name of a method as its row has it.
-fn name_text(inspector: &Inspector<'_>, name: MethodName) -> Result<String, AllocError>
-    requires class { IsObjectOf inspector.now name.class }
-    requires selector { IsObjectOf inspector.now name.selector }
-{
-    let text = method_text(inspector, name.class, name.selector)?;
-    short_name(inspector.alloc, text.as_str())
 }

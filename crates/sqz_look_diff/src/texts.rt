@@ -2,11 +2,9 @@
 
 ghost use Rattle.sqz_look_view.specs.Inspectors.{IsObjectOf};
 
-use crate::names::name_object;
 use sqz_changes::ClassName;
-use sqz_histogram::first_bytes;
+use sqz_histogram::{ClassName as TextObject, first_bytes, naming};
 use sqz_look_view::Inspector;
-use sqz_names::Label;
 use sqz_object::ObjectIndex;
 use std::alloc::{AllocError, Global};
 use std::collections::BTreeMap;
@@ -58,8 +56,7 @@ impl Texts {
         Ok(Some(number))
     }
 
-    /// Returns the name of a class. A class whose name is no byte object has the name that the
-    /// class histogram prints.
+    /// Returns the name of a class. One without a name has the name that is printed.
     pub(crate) fn of_class(
         &mut self,
         inspector: &Inspector<'_>,
@@ -68,14 +65,15 @@ impl Texts {
     ) -> Result<ClassName, AllocError>
         requires { IsObjectOf inspector.now class }
     {
-        let label = inspector.names.label_of(class)?;
-        if let Some(object) = name_object(inspector, class, label)
-            && let Some(name) = self.of_object(inspector, age, object)?
-        {
-            let is_meta = label == Label::Metaclass;
-            return Ok(ClassName { name, is_meta });
+        let (object, is_meta) = match naming(inspector.live.graph, class) {
+            Some(TextObject::Own(object)) => (object, false),
+            Some(TextObject::OfInstance(object)) => (object, true),
+            None => return self.of_text(inspector.names.name_of_class(class)?),
+        };
+        match self.of_object(inspector, age, object)? {
+            Some(name) => Ok(ClassName { name, is_meta }),
+            None => self.of_text(inspector.names.name_of_class(class)?),
         }
-        self.of_text(inspector.names.name_of_class(class)?)
     }
 
     /// Returns the name of a class that has this text.

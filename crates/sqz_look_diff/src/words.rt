@@ -3,7 +3,6 @@
 ghost use Rattle.sqz_look_view.specs.Inspectors.{IsObjectOf};
 
 use crate::bytes::Bytes;
-use crate::names::{class_text, name_of};
 use sqz_alike::seen_target;
 use sqz_image::Slot;
 use sqz_look_view::{Hex, Inspector, value_text};
@@ -38,10 +37,7 @@ pub(crate) fn words_in_slot(
         return Ok(words);
     }
     let bytes = inspector.bytes(held);
-    let class = match inspector.live.graph.class_of(held) {
-        Some(class) => class_text(inspector, class)?,
-        None => inspector.names.name_of_class_of(held)?,
-    };
+    let class = inspector.names.name_of_class_of(held)?;
     format!(in inspector.alloc; "{class}, {bytes} bytes")
 }
 
@@ -60,13 +56,9 @@ pub(crate) fn words_of(
     let words = match inspector.names.label_of(object)? {
         Label::String => text_from(inspector, object, "'", start)?,
         Label::Symbol => text_from(inspector, object, "", start)?,
-        Label::Class => {
-            let name = name_of(inspector, object)?;
-            format!(in inspector.alloc; "class {name}")?
-        }
         Label::Other if has_few_elements(inspector, object) => elements_text(inspector, object)?,
         Label::Other => return Ok(None),
-        _ => name_of(inspector, object)?,
+        _ => inspector.names.label(object)?,
     };
     Ok(Some(words))
 }
