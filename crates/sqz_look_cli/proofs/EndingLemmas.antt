@@ -2,7 +2,7 @@
 -- Serves `printed`, `outcome_of` and `answer_request`.
 use Rattle.std.proofs.Common.{◌≡◌, ◌≢◌, ◌⊎◌, ◌∙◌, ◌≤◌, ◌||◌, ℕ, Bool, true, false, List, Option, Result, Ok, Err, IfOk, OnOk}
 use Rattle.std.proofs.Common.{length, codes, refl, sym, ap, subst, inl, inr, arith}
-use Rattle.std.specs.Prelude.{vec_len}
+use Rattle.std.specs.Prelude.{map, string_bytes, vec_len}
 use Rattle.std.specs.Borrow.{Bor}
 use Rattle.std.proofs.lemmas.List.{length-map}
 use Rattle.clap.specs.Words.{Row, Text}
@@ -10,7 +10,7 @@ use Rattle.sqz_image.specs.Devices.{SinkState, WritesWhole}
 use Rattle.sqz_trace.specs.declared.weak.Weak.{Weak}
 use Rattle.sqz_trace.specs.WeakSlots.{weak_of}
 use Rattle.sqz_look_args.specs.declared.question.Question.{Question}
-use Rattle.sqz_look_args.specs.declared.question.Question.TheVariants.{Check, Diff, Mend}
+use Rattle.sqz_look_args.specs.declared.question.Question.TheVariants.{Check, Diff, Mend, Refs, Show, Why}
 use Rattle.sqz_look_args.specs.declared.requests.Request.{Request}
 use Rattle.sqz_look_args.specs.Requests.{AsksSoundness, IsCheckOf, given, has_flag}
 use Rattle.sqz_look_files.specs.declared.failure.Failure.{Failure}
@@ -18,6 +18,7 @@ use Rattle.sqz_look_files.specs.declared.failure.Failure.TheVariants.{NotPrinted
 use Rattle.sqz_look_files.specs.Verdicts.{AreChecked, EndsChecks}
 use Rattle.sqz_look_cli.specs.Comparison.{EndsComparison, IfDiff}
 use Rattle.sqz_look_cli.specs.Endings.{IfCheck, IfMend, HasPassedOn, looks_past}
+use Rattle.sqz_look_cli.specs.Objects.{AreThere, IfObjects}
 use Rattle.sqz_look_files.specs.Failures.{exit_of_failure, exit_of_outcome, IsAnswerExit}
 use Rattle.sqz_look_files.proofs.CheckLemmas.{exit_of_failure-range}
 
@@ -113,6 +114,42 @@ pub compared_past : {F : Type 0} (left : F → Option (List ℕ)) (weak : Weak) 
 compared_past left weak (Diff old new) past outcome ends =
     subst (λ (p : Bool). EndsComparison left weak p outcome) (or-false past) ends
 compared_past left weak _ past outcome ends = tt
+
+-- ---- questions about objects
+
+IfObjects-weaker : (question : Question) (P Q : List (List ℕ) → Type 0) → ((words : List (List ℕ)) → P words → Q words)
+    → IfObjects question P → IfObjects question Q
+IfObjects-weaker (Show image objects) P Q weaker holds = weaker _ holds
+IfObjects-weaker (Why image objects raw) P Q weaker holds = weaker _ holds
+IfObjects-weaker (Refs image objects) P Q weaker holds = weaker _ holds
+IfObjects-weaker _ P Q weaker holds = tt
+
+-- the outcome after the rest of the answer was written, or could not be written
+pub objects_passed : (answered outcome : Result ℕ Failure) → (outcome ≡ answered) ⊎ (outcome ≡ Err NotPrinted) → (question : Question)
+    → (P : List (List ℕ) → ℕ → Type 0) → IfObjects question (λ words. IfOk answered (P words))
+    → IfObjects question (λ words. IfOk outcome (P words))
+objects_passed answered outcome passed question P =
+    IfObjects-weaker question _ _ (λ words holds. IfOk-passed answered outcome passed (P words) holds)
+
+-- exit 0 of an outcome is that of its answer; an image that is asked about is not mended
+there_at_zero : {F : Type 0} (left : F → Option (List ℕ)) (weak : Weak) (past : Bool) (words : List (List ℕ)) (outcome : Result ℕ Failure)
+    (exit : ℕ) → exit ≡ exit_of_outcome outcome → IfOk outcome (λ exit. exit ≡ 0 → AreThere left weak (past || false) words)
+    → exit ≡ 0 → AreThere left weak past words
+there_at_zero left weak past words outcome exit same holds zero =
+    subst (λ (p : Bool). AreThere left weak p words) (or-false past)
+    (silent_at_zero (AreThere left weak (past || false) words) outcome holds (sym same ∙ zero))
+
+pub objects_at_zero : {F : Type 0} (left : F → Option (List ℕ)) (weak : Weak) (question : Question) (past : Bool)
+    (outcome : Result ℕ Failure) (exit : ℕ) → exit ≡ exit_of_outcome outcome
+    → IfObjects question (λ words. IfOk outcome (λ exit. exit ≡ 0 → AreThere left weak (looks_past question past) words))
+    → IfObjects question (λ words. exit ≡ 0 → AreThere left weak past words)
+objects_at_zero left weak (Show image objects) past outcome exit same holds =
+    there_at_zero left weak past (map string_bytes objects.items) outcome exit same holds
+objects_at_zero left weak (Why image objects raw) past outcome exit same holds =
+    there_at_zero left weak past (map string_bytes objects.items) outcome exit same holds
+objects_at_zero left weak (Refs image objects) past outcome exit same holds =
+    there_at_zero left weak past (map string_bytes objects.items) outcome exit same holds
+objects_at_zero left weak _ past outcome exit same holds = tt
 
 -- ---- what words with the subcommand `check` ask
 

@@ -1,2 +1,3 @@
 mod ComparisonLemmas
 mod EndingLemmas
+mod ObjectLemmas

@@ -1,3 +1,4 @@
 pub mod Comparison
+pub mod Objects
 pub mod Endings
 pub mod Lines

@@ -10,6 +10,7 @@ ghost use Rattle.sqz_look_files.specs.Warnings.{IsSilent};
 ghost use Rattle.sqz_look_cli.specs.Comparison.{EndsComparison, IfDiff, IsCompared};
 ghost use Rattle.sqz_look_cli.specs.Endings.{EndsAnswer, HasPassedOn, IfCheck, IfMend};
 ghost use Rattle.sqz_look_cli.specs.Endings.{is_mend, looks_past};
+ghost use Rattle.sqz_look_cli.specs.Objects.{AreThere, IfObjects};
 ghost use Rattle.sqz_trace.specs.WeakSlots.{weak_of};
 
 use crate::answers::answer;
@@ -47,6 +48,9 @@ pub fn answer_request<T: Files + Threads + Sync, C: Sink, E: Sink>(
     ensures compared { IfDiff request.now.question (result ≤ 1
         → IsCompared T.File.remaining (weak_of request.now.clear_weak) request.now.past_damage
         result) }
+    ensures there { IfObjects request.now.question (λ words. result ≡ 0
+        → AreThere T.File.remaining (weak_of request.now.clear_weak) request.now.past_damage
+        words) }
     ensures mended { IfMend request.now.question (λ nil. result ≡ 0
         → WritesMended T.File.remaining (weak_of request.now.clear_weak) nil (C.state out.old)
         (C.state out.new)) }
@@ -81,6 +85,8 @@ fn outcome_of<T: Files + Threads + Sync, C: Sink, E: Sink>(
         session.now.past_damage strict files result) }
     ensures compared { IfDiff request.now.question (EndsComparison T.File.remaining
         session.now.weak session.now.past_damage result) }
+    ensures there { IfObjects request.now.question (λ words. IfOk result (λ exit. exit ≡ 0
+        → AreThere T.File.remaining session.now.weak session.now.past_damage words)) }
     ensures mended { IfMend request.now.question (λ nil. OnOk result
         (WritesMended T.File.remaining session.now.weak nil (C.state out.old) (C.state out.new))) }
     ensures silent { IfOk result (λ exit. exit ≡ 0
@@ -131,6 +137,8 @@ fn printed<T: Files + Threads + Sync, C: Sink, E: Sink>(
         session.now.past_damage strict files result) }
     ensures compared { IfDiff question.now (EndsComparison T.File.remaining session.now.weak
         session.now.past_damage result) }
+    ensures there { IfObjects question.now (λ words. IfOk result (λ exit. exit ≡ 0
+        → AreThere T.File.remaining session.now.weak session.now.past_damage words)) }
     ensures silent { IfOk result (λ exit. exit ≡ 0
         → IsSilent T.File.remaining session.now.weak
         session.now.past_damage err.old err.new) }

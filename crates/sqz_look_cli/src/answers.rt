@@ -6,6 +6,7 @@ ghost use Rattle.sqz_look_files.specs.Verdicts.{EndsChecks};
 ghost use Rattle.sqz_look_files.specs.Warnings.{IsSilent};
 ghost use Rattle.sqz_look_cli.specs.Comparison.{EndsComparison, IfDiff};
 ghost use Rattle.sqz_look_cli.specs.Endings.{IfCheck, is_mend};
+ghost use Rattle.sqz_look_cli.specs.Objects.{AreThere, IfObjects};
 
 use crate::comparison::compare;
 use crate::each::{EachQuestion, answer_each};
@@ -36,6 +37,8 @@ pub(crate) fn answer<T: Files + Threads + Sync, C: Sink, E: Sink>(
     ensures check { IfCheck question.now (λ strict files.
         EndsChecks T.File.remaining session.now.weak
         session.now.past_damage strict files result) }
+    ensures there { IfObjects question.now (λ words. IfOk result (λ exit. exit ≡ 0
+        → AreThere T.File.remaining session.now.weak session.now.past_damage words)) }
     ensures compared { IfDiff question.now (EndsComparison T.File.remaining session.now.weak
         session.now.past_damage result) }
     ensures silent { IfOk result (λ exit. exit ≡ 0

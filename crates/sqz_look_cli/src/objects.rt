@@ -1,7 +1,9 @@
 //! Questions about objects.
 
-ghost use Rattle.std.specs.Prelude.{◌≡◌, ◌≤◌, IfOk};
+ghost use Rattle.std.specs.Prelude.{◌≡◌, ◌≤◌, map, string_bytes, All, IfOk};
+ghost use Rattle.sqz_alike.specs.Seen.{seen};
 ghost use Rattle.sqz_look_files.specs.Warnings.{IsSilent};
+ghost use Rattle.sqz_look_cli.specs.Objects.{AreThere, StandsFor};
 ghost use Rattle.sqz_look_view.specs.Inspectors.{IsObjectOf};
 
 use crate::meant::the_object;
@@ -39,22 +41,43 @@ pub(crate) fn answer_about_objects<T: Files + Threads + Sync, C: Sink, E: Sink>(
     err: &mut E,
 ) -> Result<u8, Failure>
     ensures exit { IfOk result (λ exit. exit ≤ BAD_IMAGE) }
+    ensures there { IfOk result (λ exit. exit ≡ 0
+        → AreThere T.File.remaining session.now.weak session.now.past_damage
+        (map string_bytes objects.now)) }
     ensures silent { IfOk result (λ exit. exit ≡ 0
         → IsSilent T.File.remaining session.now.weak session.now.past_damage
         err.old err.new) }
 {
     let mut slot = None;
     let inspector = open(session, path, &mut slot, out, err)?;
+    answer_about_each(&inspector, path, objects, question, out, err)
+}
+
+/// Prints the answer to a question about each of some objects, with an empty line between two, and
+/// returns the exit: 1 if one of them is not there.
+fn answer_about_each<C: Sink, E: Sink>(
+    inspector: &Inspector<'_>,
+    path: &str,
+    objects: &[String],
+    question: ObjectQuestion,
+    out: &mut Out<'_, C>,
+    err: &mut E,
+) -> Result<u8, Failure>
+    ensures exit { IfOk result (λ exit. exit ≤ BAD_IMAGE) }
+    ensures silent { IfOk result (λ exit. exit ≡ 0 → err.new ≡ err.old) }
+    ensures there { IfOk result (λ exit. exit ≡ 0
+        → All (StandsFor (seen inspector.now.live)) (map string_bytes objects.now)) }
+{
     let mut exit = DONE;
     let mut is_first = true;
     for words in objects {
-        match the_object(&inspector, words.as_str()) {
+        match the_object(inspector, words.as_str()) {
             Ok(object) => {
                 if !is_first {
                     out.heading("");
                 }
                 is_first = false;
-                print_about(&inspector, object, question, out)?;
+                print_about(inspector, object, question, out)?;
             }
             Err(Failure::NotThere(message)) => {
                 print_message(Some(path), message.as_str(), err);

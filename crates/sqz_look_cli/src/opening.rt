@@ -1,7 +1,9 @@
 //! The image that a question is about.
 
 ghost use Rattle.std.specs.Prelude.{IfOk};
+ghost use Rattle.sqz_alike.specs.Seen.{seen};
 ghost use Rattle.sqz_look_files.specs.Warnings.{IsSilent};
+ghost use Rattle.sqz_look_cli.specs.Comparison.{ReadsSeen};
 
 use sqz_image::Sink;
 use sqz_look_files::{Failure, ReadFile, ReadImage, Session, warn};
@@ -19,7 +21,9 @@ pub(crate) fn open<'a, T: Files + Threads + Sync, C: Sink, E: Sink>(
     out: &mut Out<'_, C>,
     err: &mut E,
 ) -> Result<Inspector<'a>, Failure>
-    ensures { IfOk result (λ inspector. IsSilent T.File.remaining session.now.weak
+    ensures seen { IfOk result (λ inspector. ReadsSeen T.File.remaining session.now.weak
+        session.now.past_damage (seen inspector.live)) }
+    ensures silent { IfOk result (λ inspector. IsSilent T.File.remaining session.now.weak
         session.now.past_damage err.old err.new) }
 {
     match session.read(path, false, out, err)? {

@@ -4,8 +4,8 @@ use Rattle.sqz_look_files.specs.declared.session.ReadImage.{ReadImage}
 use Rattle.sqz_look_files.proofs.WarningLemmas.{IsSilent-read}
 use Rattle.sqz_look_cli.proofs.opening.open.Goals as goal
 
-pub returns-in_ok-of-in-Image : goal.returns-in_ok-of-in-Image
-returns-in_ok-of-in-Image g c =
+pub returns-in_ok-of-in-Image-clause-silent : goal.returns-in_ok-of-in-Image-clause-silent
+returns-in_ok-of-in-Image-clause-silent g c =
     let was_read = rw c.in-Image.is at c.in_ok-read.ensures.read in
     let known = c.in_ok-subject-in-Image in
     let live = known.subject.live in
