@@ -94,9 +94,16 @@ class CensusTest(unittest.TestCase):
         *rows, last = answers.census("")
         *lines, total = text.splitlines()
         stated = [LINE.fullmatch(line).group(1, 2, 4) for line in lines]
-        found = [(str(row["objects"]), str(row["bytes"]), row["class"]) for row in rows]
+        found = [(str(row["objects"]), str(row["bytes"]), self.name(answers, row)) for row in rows]
         self.assertEqual(found, stated)
         self.assertEqual(total.split(), [str(last["objects"]), str(last["bytes"]), "total"])
+
+    def name(self, answers, row):
+        """The name of the class of a row, as `sqzcompact` prints it."""
+        if row["address"] is None:
+            return row["class"]
+        number = answers.image.numbers[int(row["address"], 16)]
+        return answers.image.name(number, answers.clear_weak)
 
 
 class RetainedTest(unittest.TestCase):

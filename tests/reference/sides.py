@@ -20,6 +20,8 @@ from tests.reference.objects import (
 from tests.reference.tree import Tree
 from tests.reference.values import signed, value_of
 
+# The maximum number of bytes of each text in the name of a value.
+LONG = 255
 # The maximum number of fields of an array whose elements are printed.
 SHORT = 5
 
@@ -246,12 +248,12 @@ class Side:
             return names.constants[number]
         if number in names.class_labels:
             name = self.class_name(number)
-            return name.text(MOST) if name.is_meta else f"class {name.text(MOST)}"
+            return name.text(LONG) if name.is_meta else f"class {name.text(LONG)}"
         if number in names.methods:
             a_class, selector = names.methods[number]
-            return Name("method", self.class_name(a_class), selector).text(MOST)
+            return Name("method", self.class_name(a_class), selector).text(LONG)
         if number in names.variables:
-            return self.variable_name(number).text(MOST)
+            return self.variable_name(number).text(LONG)
         if not names.has_name(number):
             return None
         if self.is_symbol(number):
@@ -286,7 +288,7 @@ class Side:
         if target is None:
             return self.word_text(word)
         size = self.answers.reach.sizes[target]
-        name = self.name_of_class_of(target).text(MOST)
+        name = self.name_of_class_of(target).text(LONG)
         return self.words_of(target) or f"{name}, {size} bytes"
 
     def slot_text(self, number, slot):

@@ -31,6 +31,7 @@ mod rows;
 mod signed;
 mod texts;
 mod variables;
+mod whole_names;
 mod words;
 
 pub use diff::print_diff;

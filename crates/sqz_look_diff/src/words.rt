@@ -3,6 +3,7 @@
 ghost use Rattle.sqz_look_view.specs.Inspectors.{IsObjectOf};
 
 use crate::bytes::Bytes;
+use crate::whole_names::{whole_class_of, whole_label};
 use sqz_alike::seen_target;
 use sqz_image::Slot;
 use sqz_look_view::{Hex, Inspector, value_text};
@@ -37,7 +38,7 @@ pub(crate) fn words_in_slot(
         return Ok(words);
     }
     let bytes = inspector.bytes(held);
-    let class = inspector.names.name_of_class_of(held)?;
+    let class = whole_class_of(inspector, held)?;
     format!(in inspector.alloc; "{class}, {bytes} bytes")
 }
 
@@ -58,7 +59,7 @@ pub(crate) fn words_of(
         Label::Symbol => text_from(inspector, object, "", start)?,
         Label::Other if has_few_elements(inspector, object) => elements_text(inspector, object)?,
         Label::Other => return Ok(None),
-        _ => inspector.names.label(object)?,
+        _ => whole_label(inspector, object)?,
     };
     Ok(Some(words))
 }

@@ -8,7 +8,7 @@ use Rattle.sqz_trace.specs.Graph.{is_marked}
 use Rattle.sqz_trace.proofs.MarkingLemmas.{is_marked-keeps, is_marked-more}
 use Rattle.sqz_names.specs.Names.{IsMethodNamed}
 use Rattle.sqz_names.specs.Texts.{HasLabel, HasOnlyLabel, HasShortLabel}
-use Rattle.sqz_names.specs.Words.{AreNamed, IsAddressed, IsClassCalled, IsIn, IsNamed, IsSurelyNamed}
+use Rattle.sqz_names.specs.Words.{AreNamed, IsClassCalled, IsIn, IsNamed, IsSurelyNamed}
 
 module _ (memory : Memory) (weak : Weak) (words : List ℕ) where
   -- a class is an object

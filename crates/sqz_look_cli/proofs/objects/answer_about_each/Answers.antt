@@ -1,6 +1,5 @@
-use Rattle.std.proofs.Common.{◌≡◌, ◌<◌, ◌∙◌, ℕ, List, length, map, take, get_or, sym, ap, subst, rules, arith}
-use Rattle.std.specs.Prelude.{string_bytes, All}
-use Rattle.std.proofs.lemmas.List.{take_all}
+use Rattle.std.proofs.Common.{◌≡◌, ◌<◌, ◌∙◌, length, get_or, sym, ap, subst, rules, arith}
+use Rattle.std.specs.Prelude.{string_bytes}
 use Rattle.sqz_alike.specs.Seen.{seen}
 use Rattle.sqz_look_cli.specs.Objects.{StandsFor}
 use Rattle.sqz_look_cli.proofs.ObjectLemmas.{All-map-more, All-map-all}

@@ -1,7 +1,6 @@
-use Rattle.std.proofs.Common.{◌≡◌, ◌<◌, ℕ, true≢false, sym, ◌∙◌, arith}
+use Rattle.std.proofs.Common.{ℕ, true≢false, sym, ◌∙◌, arith}
 use Rattle.std.specs.Str.{bytes_eq}
 use Rattle.std.proofs.lemmas.Slice.Eq.{bytes_eq-Decides}
-use Rattle.sqz_image.specs.Objects.{object_count}
 use Rattle.sqz_names.specs.ByteTexts.{whole_name}
 use Rattle.sqz_names.specs.Names.{IsClassNamed, ListsMethodsOf}
 use Rattle.sqz_names.proofs.MethodLemmas.{below-more, ListsMethodsOf-keeps}

@@ -2,7 +2,6 @@ use Rattle.std.proofs.Common.{◌≡◌, ◌<◌, ℕ, length, true, true≢fals
 use Rattle.std.specs.Prelude.{IfSome, Option}
 use Rattle.std.proofs.lemmas.List.{length-set}
 use Rattle.std.proofs.lemmas.Result.{IfOk-weaker}
-use Rattle.sqz_image.specs.Objects.{object_count}
 use Rattle.sqz_trace.specs.Graph.{is_marked}
 use Rattle.sqz_trace.proofs.MarkingLemmas.{is_marked-added, is_marked-keeps, is_marked-more}
 use Rattle.sqz_names.specs.Texts.{HasOnlyLabel}
