@@ -7,8 +7,9 @@ import typing
 from tests.reference.alike import first_difference
 from tests.reference.differences import WHOLE, Differences
 from tests.reference.fields import ClassField
+from tests.reference.image import LONGEST_NAME
 from tests.reference.partners import Partners
-from tests.reference.sides import MOST, Name, Size, shown
+from tests.reference.sides import Name, Size, shown
 
 # The maximum number of rows of each kind in the text, unless all are requested.
 SHOWN = 20
@@ -40,7 +41,7 @@ def changes_of(old, new):
     for text in sorted(names[0].keys() | names[1].keys()):
         name = names[0].get(text) or names[1][text]
         its = (side.get(it.get(text)) for side, it in zip((old, new), names))
-        yield Change(name.text(MOST), *its)
+        yield Change(name.text(LONGEST_NAME), *its)
 
 
 def largest_first(changes):
@@ -89,7 +90,8 @@ class Changes:
         self.differences = Differences(self.partners)
         self.new_bytes = collections.Counter()
         for number in new.live_variables:
-            self.new_bytes[new.variable_name(number).text(MOST)] += self.partners.new_bytes[number]
+            name = new.variable_name(number).text(LONGEST_NAME)
+            self.new_bytes[name] += self.partners.new_bytes[number]
         self.holders = self.partners.holders
         self.values, self.definitions, self.methods = [], [], []
         self.verbs = collections.Counter()
@@ -115,24 +117,24 @@ class Changes:
         """The row of a class that only one image has."""
         superclass = side.names.target(number, ClassField.SUPERCLASS)
         is_class = superclass in set(side.names.classes)
-        text = side.class_name(superclass).text(MOST) if is_class else "nil"
+        text = side.class_name(superclass).text(LONGEST_NAME) if is_class else "nil"
         old, new = (text, None) if verb == REMOVED else (None, text)
         members = {
             "kind": "definition",
-            "name": name.text(MOST),
+            "name": name.text(LONGEST_NAME),
             "part": "superclass",
             "slots": [],
             "old": old,
             "new": new,
             "differences": None,
         }
-        return Row(members, f"  {verb:7}  {name.text(MOST)}: superclass {text}")
+        return Row(members, f"  {verb:7}  {name.text(LONGEST_NAME)}: superclass {text}")
 
     def only_method_row(self, verb, side, name, number):
         """The row of a method that only one image has."""
         size = side.answers.reach.sizes[number]
         old, new = (size, None) if verb == REMOVED else (None, size)
-        text = name.text(MOST)
+        text = name.text(LONGEST_NAME)
         members = {
             "kind": "method",
             "name": text,
@@ -166,7 +168,7 @@ class Changes:
         name = self.owner_name(pair)
         if name is None:
             return self.sides[0].names.label(self.differences.pairs[pair][0])
-        return name.text(MOST)
+        return name.text(LONGEST_NAME)
 
     def line_of(self, change):
         """The name, the path and the values of a difference as text."""
@@ -209,8 +211,8 @@ class Changes:
         for name in sorted(shared, key=lambda it: it.a_class.data):
             categories = old.category(old.unique[name]), new.category(new.unique[name])
             if categories[0] != categories[1]:
-                texts = (it if it is None else shown(it, MOST) for it in categories)
-                self.definitions.append(self.category_row(name.text(MOST), *texts))
+                texts = (it if it is None else shown(it, LONGEST_NAME) for it in categories)
+                self.definitions.append(self.category_row(name.text(LONGEST_NAME), *texts))
 
     def category_row(self, name, old, new):
         members = {

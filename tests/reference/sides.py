@@ -6,7 +6,6 @@ import typing
 
 from tests.reference.categories import Categories
 from tests.reference.fields import AssociationField, ClassField, DictionaryField, SpecialField
-from tests.reference.image import LONGEST_NAME as MOST
 from tests.reference.names import SYMBOLS, escaped
 from tests.reference.objects import (
     Format,
