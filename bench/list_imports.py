@@ -43,7 +43,7 @@ PROMISES = {
     "`diff`: the first objects": ["sqz_alike/FirstDifference"],
     "`diff`: what differs, by owner": ["sqz_changes/Changes"],
     "`diff`: the exit": ["sqz_look_cli/Comparison"],
-    "`digest`": ["sqz_digest/Written"],
+    "`digest`": ["sqz_alike/Written"],
     "`mend`": ["sqz_damage/Recovery"],
     "`mend --nil`": ["sqz_damage/Repairs"],
     "instructions of `code`": ["sqz_code/Parts", "sqz_code/Instructions"],

@@ -1,5 +1,5 @@
 -- When a walk has ended, its pairs are a correspondence.
--- Serves `alikeness::compare`; `ConverseLemmas` of `sqz_digest`.
+-- Serves `alikeness::compare` and `ConverseLemmas`.
 use Rattle.std.proofs.Common.{◌≡◌, ℕ, Bool, true, if◌then◌else◌, List, [], ◌∷◌, length, Option, Some, None, refl, sym, ap, subst, ◌∙◌}
 use Rattle.std.specs.Prelude.{Contains}
 use Rattle.std.proofs.lemmas.List.{get_or_default}

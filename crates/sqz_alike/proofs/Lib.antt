@@ -5,3 +5,12 @@ pub mod StepLemmas
 pub mod WalkLemmas
 pub mod CorrespondenceLemmas
 pub mod PartnerLemmas
+pub mod PlaceLemmas
+pub mod NumberingLemmas
+pub mod HashingLemmas
+pub mod OrderLemmas
+pub mod FoundLemmas
+pub mod AlikeLemmas
+pub mod ReadLemmas
+pub mod ClosureLemmas
+pub mod ConverseLemmas

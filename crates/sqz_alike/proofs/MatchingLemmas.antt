@@ -1,6 +1,6 @@
 -- One more pair.
--- Serves `matching::Matching::new` and `::join`, `WalkLemmas` and `CorrespondenceLemmas`;
--- `AlikeLemmas` and `ConverseLemmas` of `sqz_digest`.
+-- Serves `matching::Matching::new` and `::join`, `WalkLemmas` , `CorrespondenceLemmas`,
+-- `AlikeLemmas` and `ConverseLemmas`.
 use Rattle.std.proofs.Common.{◌≡◌, ◌≢◌, ℕ, zero, suc, ◌+◌, ◌<◌, Bool, true, false, List, [], ◌∷◌, ◌++◌, length, set, replicate}
 use Rattle.std.proofs.Common.{Option, Some, None, refl, sym, ap, subst, ◌∙◌, arith, inl, inr}
 use Rattle.std.specs.Prelude.{Contains}

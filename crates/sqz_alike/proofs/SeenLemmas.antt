@@ -1,5 +1,5 @@
 -- What slots lead to is live.
--- Serves `seen::seen_target` and `WalkLemmas`; `FoundLemmas` of `sqz_digest`.
+-- Serves `seen::seen_target` and `WalkLemmas`, `FoundLemmas`.
 use Rattle.std.proofs.Common.{◌≡◌, ℕ, Bool, true, List, [], Option, Some, None, refl, sym, ap, ◌∙◌, IfSome}
 use Rattle.std.specs.Prelude.{option_and_then}
 use mathlib.Core.Bool.{Bool-set}

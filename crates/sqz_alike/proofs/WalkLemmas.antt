@@ -1,6 +1,6 @@
 -- The walk through two images.
 -- Serves `objects::slot_matches`, `::slots_match`, `::objects_match` and `alikeness::compare`;
--- `ConverseLemmas` of `sqz_digest`.
+-- `ConverseLemmas`.
 use Rattle.std.proofs.Common.{◌≡◌, ℕ, ◌+◌, ◌<◌, ◌≤◌, Bool, true, false, List, [], ◌∷◌, length, Some, None}
 use Rattle.std.proofs.Common.{Result, Ok, Err, IfOk, OnOk, refl, sym, ap, subst, ◌∙◌, arith, inl, inr}
 use Rattle.std.specs.Prelude.{Contains}

@@ -6,3 +6,7 @@ pub mod FirstDifference
 pub mod Walk
 pub mod NewObjects
 pub mod Holders
+pub mod Found
+pub mod Written
+pub mod Numbering
+pub mod Hashing

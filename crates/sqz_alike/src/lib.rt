@@ -1,11 +1,14 @@
 //! Two images side by side: whether they are alike, that is, whether their live objects correspond
-//! one to one; if not, which objects are partners, and what grew from one image to the other.
+//! one to one; if not, which objects are partners, and what grew from one image to the other. Alike
+//! images have the same digest.
 #![tactic(auto)]
 
 mod alikeness;
 mod growth;
+mod hashing;
 mod holder;
 mod holders;
+pub mod laws;
 mod matching;
 mod new_objects;
 mod objects;
@@ -16,6 +19,7 @@ mod words;
 
 pub use alikeness::{Alikeness, compare};
 pub use growth::Growth;
+pub use hashing::digest;
 pub use holder::{Holder, objects_of};
 pub use holders::find_holders;
 pub use matching::{Matching, Pair};

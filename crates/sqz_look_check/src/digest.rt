@@ -1,6 +1,6 @@
 //! The digest of an image.
 
-use sqz_digest::digest;
+use sqz_alike::digest;
 use sqz_image::Sink;
 use sqz_look_view::{Out, PrintError, Subject};
 use std::alloc::{AllocError, Global};

@@ -1,9 +1,0 @@
-pub mod PlaceLemmas
-pub mod NumberingLemmas
-pub mod HashingLemmas
-pub mod OrderLemmas
-pub mod FoundLemmas
-pub mod AlikeLemmas
-pub mod ReadLemmas
-pub mod ClosureLemmas
-pub mod ConverseLemmas

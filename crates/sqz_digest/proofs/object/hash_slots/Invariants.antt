@@ -1,5 +1,0 @@
-use Rattle.sqz_digest.specs.Hashing.{AreSlotsHashed}
-use Rattle.sqz_digest.proofs.object.hash_slots.Given as goal
-
-abbrev pub invariant-loop-index : goal.invariant-loop-index
-invariant-loop-index l = AreSlotsHashed l.live l.object l.index l.fn.walk l.walk l.fn.hasher l.hasher

@@ -1,7 +1,0 @@
-use Rattle.std.proofs.Common.{take}
-use Rattle.sqz_object.specs.Bytes.{spelling_of}
-use Rattle.sqz_digest.specs.Hashing.{Takes}
-use Rattle.sqz_digest.proofs.words.hash_words.Given as goal
-
-abbrev pub invariant-loop-k : goal.invariant-loop-k
-invariant-loop-k g l = Takes l.initial.hasher l.hasher (spelling_of l.order (take l.k (g.W.WordList.words l.words)))
