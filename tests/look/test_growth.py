@@ -49,8 +49,7 @@ def lines_about(it):
     lines += [("stacks",), ("dump",), ("explore",)]
     lines += [("census", "--dead"), ("census", "--retained"), ("census", "--by", "category")]
     lines += [("top", *form) for form in (("--json",), ("--folded", "--min", "0"))]
-    lines += [("show", "--json"), ("why", "--raw")]
-    lines = [(*line, NAME, *((first,) if line[0] in ("show", "why") else ())) for line in lines]
+    lines = [(*line, NAME) for line in lines]
     for form in ((), ("--all",), ("--json",)):
         lines.append(("list", *form, NAME, it.a_class))
         lines += [("refs", *form, NAME, first), ("why", *form, NAME, first)]
@@ -58,6 +57,9 @@ def lines_about(it):
         lines += [("diff", *form, OTHER, NAME), ("diff", *form, NAME, NAME)]
     lines += [(command, NAME, "go") for command in ("senders", "implementors")]
     lines += [("find", "--json", NAME, "."), ("code", NAME, it.a_class)]
+    lines.append(("why", "--raw", NAME, first))
+    of_one = ("show", "code") if ">>" in first else ("show",)
+    lines += [(name, form, NAME, first) for name in of_one for form in ("--all", "--json")]
     for word in others:
         lines += [(command, NAME, word) for command in ("show", "why", "refs")]
     return lines
@@ -142,6 +144,9 @@ class GrowthTest(ProgramTest):
 
     def test_one_method(self):
         self.check_growth("one_method")
+
+    def test_long_method(self):
+        self.check_growth("long_method")
 
     def test_shared_stack(self):
         self.check_growth("shared_stack")

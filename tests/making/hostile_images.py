@@ -10,6 +10,8 @@ from tests.reference.objects import CONTEXT_INDEXES, ZERO, Format
 
 # The bytes of a selector or a literal for each class or method that has it.
 BYTES_EACH = 64
+# The bytecode that sends `+`.
+PLUS = 0xB0
 
 
 class Hostile(typing.NamedTuple):
@@ -50,6 +52,10 @@ class HostileImage(NamedImage):
         return self.add(
             Format.METHOD, "CompiledMethod", len(literals) << 10 | 1, *literals, BYTECODES
         )
+
+    def add_long_method(self, words):
+        """Adds a method without literals that sends `+` four times for each of these words."""
+        return self.add(Format.METHOD, "CompiledMethod", 1, *[PLUS * 0x01010101] * words, BYTECODES)
 
     def add_context(self, sender):
         """Adds a context that returns to another one."""
@@ -226,6 +232,14 @@ def one_method(n):
     return it.hostile("K1", "K1>>go", literals)
 
 
+def long_method(n):
+    """A method of many instructions, which two classes have."""
+    it = HostileImage()
+    method, selector = it.add_long_method(BYTES_EACH // 4 * n), it.add_symbol("go")
+    it.add_many(2, lambda _: {ClassField.METHODS: it.add_method_dictionary(selector, method)})
+    return it.hostile("K1", "K1>>go", method)
+
+
 def shared_stack(n):
     """Processes that share a stack, each of which begins at another context."""
     it = HostileImage()
@@ -258,6 +272,7 @@ HOSTILE = {
         shared_literals,
         nested_literals,
         one_method,
+        long_method,
         shared_stack,
         stack_in_a_cycle,
     )

@@ -52,8 +52,13 @@ impl JsonRow {
 
     /// Takes all members away.
     pub(crate) fn clear(&mut self) {
-        self.text.clear();
+        self.clear_text();
         self.lead = Lead::Brace;
+    }
+
+    /// Takes away what was made of the row, which goes on.
+    pub(crate) fn clear_text(&mut self) {
+        self.text.clear();
     }
 
     /// Adds a member whose value is written as it is.

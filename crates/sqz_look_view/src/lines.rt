@@ -1,7 +1,7 @@
 //! The ends of rows, and the lines of the text form.
 
 use crate::cell::cell_of;
-use crate::out::Out;
+use crate::out::{Out, PIECE};
 use crate::template::{push_word, write_template};
 use sqz_image::Sink;
 use std::alloc::AllocError;
@@ -49,6 +49,8 @@ impl<'a, C: Sink> Out<'a, C> {
         self.cells.truncate(self.first_cell);
         if self.lists.is_empty() {
             self.print_row();
+        } else {
+            self.print_piece();
         }
     }
 
@@ -93,23 +95,44 @@ impl<'a, C: Sink> Out<'a, C> {
         self.lines.push('\n')
     }
 
-    /// Prints a row that has ended, unless there was an error: all its lines, or none.
+    /// Prints a row that has ended, unless there was an error.
     fn print_row(&mut self) {
         if !self.has_failed() {
             let done = self.push_row();
             self.need(done);
             self.end_line();
+            self.is_begun = false;
         }
         self.row.clear();
         self.lines.clear();
     }
 
-    /// Appends a row to the printed text.
-    fn push_row(&mut self) -> Result<(), AllocError> {
-        if !self.is_json() {
-            return self.text.extend_from_slice(self.lines.as_bytes());
+    /// Prints what was made of a row that goes on, if it is much, unless there was an error.
+    fn print_piece(&mut self) {
+        if self.has_failed() || self.row.text().len() + self.lines.len() < PIECE {
+            return;
         }
-        self.row.end_line()?;
-        self.text.extend_from_slice(self.row.text().as_bytes())
+        let done = self.push_made();
+        self.need(done);
+        self.end_line();
+        self.is_begun = true;
+        self.row.clear_text();
+        self.lines.clear();
+    }
+
+    /// Appends the rest of a row that has ended to the printed text.
+    fn push_row(&mut self) -> Result<(), AllocError> {
+        if self.is_json() {
+            self.row.end_line()?;
+        }
+        self.push_made()
+    }
+
+    /// Appends what was made of a row to the printed text.
+    fn push_made(&mut self) -> Result<(), AllocError> {
+        if self.is_json() {
+            return self.text.extend_from_slice(self.row.text().as_bytes());
+        }
+        self.text.extend_from_slice(self.lines.as_bytes())
     }
 }

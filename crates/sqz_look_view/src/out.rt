@@ -15,7 +15,7 @@ use std::alloc::{AllocError, Global};
 const MOST_ROWS: u32 = 20;
 
 /// The size in bytes at which buffered text is written to the sink.
-const PIECE: usize = 65536;
+pub(crate) const PIECE: usize = 65536;
 
 /// The form in which answers are printed.
 #[derive(Clone, Copy)]
@@ -35,9 +35,11 @@ pub struct Out<'a, C> {
     pub(crate) format: Format,
     /// What was printed and is not yet written.
     pub(crate) text: Vec<u8>,
-    /// The row in the JSON form.
+    /// Whether a piece of the row was printed.
+    pub(crate) is_begun: bool,
+    /// The row in the JSON form, or what follows the piece.
     pub(crate) row: JsonRow,
-    /// The lines of the row in the text form.
+    /// The lines of the row in the text form, or what follows the piece.
     pub(crate) lines: String,
     /// The cells of the row in the text form.
     pub(crate) cells: Vec<Cell>,
@@ -60,6 +62,7 @@ impl<'a, C: Sink> Out<'a, C> {
             sink,
             format,
             text: Vec::new(alloc),
+            is_begun: false,
             row: JsonRow::new(alloc),
             lines: String::new(alloc),
             cells: Vec::new(alloc),

@@ -7,7 +7,8 @@ use std::alloc::AllocError;
 
 /// A row is made of named cells, in the order of its JSON members, and ends with `line`, whose
 /// template says which cells its text has. The first error is kept until `end` returns it, and
-/// nothing is printed after it.
+/// nothing is printed after it. A row is printed when it has ended, and a long one with lists in
+/// pieces, as these rows end.
 impl<'a, C: Sink> Out<'a, C> {
     /// Returns the first error since the last call, if there was one.
     pub fn end(&mut self) -> Result<(), PrintError> {
@@ -17,7 +18,8 @@ impl<'a, C: Sink> Out<'a, C> {
         }
     }
 
-    /// Drops what was added to a row that did not end, and the error that was kept.
+    /// Drops what was added to a row that did not end, and the error that was kept. Ends the line if
+    /// a piece of the row was printed.
     pub fn drop_row(&mut self) {
         self.row.clear();
         self.lines.clear();
@@ -25,6 +27,11 @@ impl<'a, C: Sink> Out<'a, C> {
         self.lists.clear();
         self.first_cell = 0;
         self.failed = None;
+        if self.is_begun {
+            self.is_begun = false;
+            let done = self.text.push(b'\n').map_err(|_| AllocError);
+            self.need(done);
+        }
     }
 
     /// Returns whether there was an error. What prints many rows stops then.
