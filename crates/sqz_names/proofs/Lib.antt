@@ -14,3 +14,4 @@ mod FoundLemmas
 mod PositionLemmas
 mod CategoryLemmas
 mod OrganizationLemmas
+pub mod InstanceVariableLemmas

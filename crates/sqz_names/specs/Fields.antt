@@ -21,9 +21,17 @@ globals_field = 8
 
 -- ---- a class
 
+-- its superclass
+abbrev pub superclass_field : ℕ
+superclass_field = 0
+
 -- its method dictionary
 abbrev pub method_dictionary_field : ℕ
 method_dictionary_field = 1
+
+-- the array of the names of the instance variables that it adds to those of its superclass
+abbrev pub instance_variables_field : ℕ
+instance_variables_field = 3
 
 -- the only instance of a metaclass
 abbrev pub instance_field : ℕ

@@ -1,5 +1,6 @@
 pub mod Fields
 pub mod Structures
+pub mod InstanceVariables
 pub mod ByteTexts
 pub mod ClassSets
 pub mod Known

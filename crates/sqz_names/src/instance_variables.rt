@@ -1,8 +1,12 @@
 //! The names of instance variables.
 
-ghost use Rattle.std.specs.Prelude.{◌≡◌, ◌<◌, ◌∷◌, length, All, IfOk, IfSome, IsTrue, Some};
+ghost use Rattle.std.specs.Prelude.{◌≡◌, ◌<◌, ◌∷◌, ◌++◌, length, option_map};
+ghost use Rattle.std.specs.Prelude.{All, IfOk, IfSome, IsTrue, None, Some};
+ghost use Rattle.std.specs.Bool.{then_some};
 ghost use Rattle.sqz_image.specs.Objects.{object_count};
 ghost use Rattle.sqz_trace.specs.Strong.{fixed_by};
+ghost use Rattle.sqz_names.specs.InstanceVariables.{all_some, instance_variables, name_arrays};
+ghost use Rattle.sqz_names.specs.InstanceVariables.{name_count, names_in};
 ghost use Rattle.sqz_names.specs.Names.{IsTextObject};
 
 use crate::bytes::is_bytes;
@@ -25,6 +29,8 @@ impl Names<'_> {
         class: ObjectIndex,
     ) -> Result<Option<Vec<ObjectIndex>>, AllocError>
         requires { class < object_count self.now.graph.heap.now }
+        ensures names { IfOk result (λ names. option_map (λ names. names.items) names
+            ≡ instance_variables self.now.graph.heap.now class) }
         ensures texts { IfOk result (λ names. IfSome names (λ names.
             All (IsTextObject self.now.graph.heap.now) names.items)) }
         ensures one_each { IfOk result (λ names. IfSome names (λ names.
@@ -54,13 +60,18 @@ impl Names<'_> {
         most: u32,
     ) -> Result<Option<Vec<ObjectIndex>>, AllocError>
         requires { class < object_count self.now.graph.heap.now }
-        ensures { IfOk result (λ arrays. IfSome arrays (λ arrays.
+        ensures inside { IfOk result (λ arrays. IfSome arrays (λ arrays.
             All (λ array. array < object_count self.now.graph.heap.now) arrays.items)) }
+        ensures arrays { IfOk result (λ arrays. IfSome arrays (λ arrays.
+            arrays.items ≡ name_arrays self.now.graph.heap.now class)) }
+        ensures many { IfOk result (λ arrays. arrays ≡ None
+            → most < name_count self.now.graph.heap.now
+            (name_arrays self.now.graph.heap.now class)) }
     {
         let mut arrays = Vec::new(self.alloc);
         let mut count = 0u32;
         let mut next = Some(class);
-        for _ in 0..MOST_CLASSES {
+        for seen in 0..MOST_CLASSES {
             let Some(class) = next else {
                 break;
             };
@@ -84,7 +95,10 @@ impl Names<'_> {
     ) -> Result<bool, AllocError>
         requires inside { array < object_count self.now.graph.heap.now }
         requires texts { All (IsTextObject self.now.graph.heap.now) names.old.items }
-        ensures { All (IsTextObject self.now.graph.heap.now) names.new.items }
+        ensures texts { All (IsTextObject self.now.graph.heap.now) names.new.items }
+        ensures names { IfOk result (λ are. then_some are names.new.items
+            ≡ option_map (λ its. names.old.items ++ its)
+            (all_some (names_in self.now.graph.heap.now array))) }
     {
         for field in 0..self.graph.heap.fields(array) {
             match field_target(self.graph.heap, array, field) {
