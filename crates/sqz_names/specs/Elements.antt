@@ -1,7 +1,7 @@
 -- How many elements objects have.
-use Rattle.std.specs.Prelude.{◌≡◌, ◌⊎◌, ◌==◌, ◌||◌, nat_le, ℕ, ◌-◌, ℤ, pos, negsuc, ◌+ℤ◌, ◌-ℤ◌, Bool, true, false, if◌then◌else◌}
-use Rattle.std.specs.Prelude.{List, length, codes, position, slice_get, All, Option, Some, None, option_and_then}
-use Rattle.std.specs.Option.{option_or}
+use Rattle.std.specs.Prelude.{◌==◌, ◌||◌, nat_le, ℕ, ◌-◌, ℤ, pos, negsuc, ◌+ℤ◌, ◌-ℤ◌, Bool, true, false, if◌then◌else◌}
+use Rattle.std.specs.Prelude.{List, length, codes, position, slice_get, Option, Some, None, option_and_then}
+use Rattle.std.specs.Option.{option_map_or, option_or}
 use Rattle.std.specs.Str.{bytes_eq}
 use Rattle.sqz_object.specs.declared.order.Order.{Order}
 use Rattle.sqz_object.specs.declared.layout.Layout.{Layout}
@@ -17,7 +17,7 @@ use Rattle.sqz_trace.specs.Strong.{class_of, fixed_by}
 use Rattle.sqz_histogram.specs.Bytes.{bytes_in}
 use Rattle.sqz_names.specs.declared.elements.Counter.{Counter}
 use Rattle.sqz_names.specs.declared.elements.Counter.TheVariants.{Tally, Ends, Fields}
-use Rattle.sqz_names.specs.Names.{IsTextObject}
+use Rattle.sqz_names.specs.InstanceVariables.{instance_variables}
 
 -- ---- what the elements of the instances of a class are counted by
 
@@ -49,27 +49,14 @@ counter_by memory variables =
     counter_at (place_of memory (codes "array") variables) (place_of memory (codes "tally") variables)
     (place_of memory (codes "firstIndex") variables) (place_of memory (codes "lastIndex") variables)
 
--- the counter by the names of the instance variables of a class: as many byte objects as the class
--- states fixed fields
-pub record IsByVariables (memory : Memory) (class : ℕ) (counter : Counter) : Type 0 where
-  pub variables : List ℕ
-  pub texts : All (IsTextObject memory) variables
-  pub one_each : fixed_by memory (Some class) ≡ Some (length variables)
-  pub is : counter ≡ counter_by memory variables
+-- the counter of the instances of a class, by the names of its instance variables; that of the
+-- fields if they are not known
+abbrev pub counter_in : Memory → ℕ → Counter
+counter_in memory class = option_map_or (counter_by memory) (instance_variables memory class) Fields
 
--- the counter of the instances of a class; that of the fields if the names of its instance variables
--- are not known
-abbrev pub IsCounterIn : Memory → ℕ → Counter → Type 0
-IsCounterIn memory class counter = IsByVariables memory class counter ⊎ (counter ≡ Fields)
-
--- the counter of the instances of a class, if there is one, else that of the fields
-abbrev pub IsCounterBy : Memory → Option ℕ → Counter → Type 0
-IsCounterBy memory None counter = counter ≡ Fields
-IsCounterBy memory (Some class) counter = IsCounterIn memory class counter
-
--- the counter of an object
-abbrev pub IsCounterOf : Memory → Weak → ℕ → Counter → Type 0
-IsCounterOf memory weak object counter = IsCounterBy memory (class_of memory weak (chunk_words memory object)) counter
+-- the counter of an object, by its class; that of the fields if it has no class
+abbrev pub counter_of : Memory → Weak → ℕ → Counter
+counter_of memory weak object = option_map_or (counter_in memory) (class_of memory weak (chunk_words memory object)) Fields
 
 -- ---- the number that an object states
 

@@ -2,9 +2,9 @@
 
 ghost use Rattle.std.specs.Prelude.{◌≡◌, ◌<◌, ◌-ℤ◌, ◌≤ℤ◌, ◌<ℤ◌, All, IfOk, IfSome, negsuc, pos};
 ghost use Rattle.sqz_image.specs.Objects.{object_count};
-ghost use Rattle.sqz_names.specs.Elements.{count_between, counter_by, element_count};
-ghost use Rattle.sqz_names.specs.Elements.{indexed_fields, integer_in, is_named, natural, place_of};
-ghost use Rattle.sqz_names.specs.Elements.{stated_by, stated_count, IsCounterIn, IsCounterOf};
+ghost use Rattle.sqz_names.specs.Elements.{count_between, counter_by, counter_in, counter_of};
+ghost use Rattle.sqz_names.specs.Elements.{element_count, indexed_fields, integer_in, is_named};
+ghost use Rattle.sqz_names.specs.Elements.{natural, place_of, stated_by, stated_count};
 
 use crate::bytes::spells;
 use crate::formats::{FIXED_AND_INDEXED, FIXED_AND_WEAK, INDEXED};
@@ -30,8 +30,8 @@ impl Counter {
     /// its class. Fails only if out of memory.
     pub fn of(names: &Names<'_>, object: ObjectIndex) -> Result<Self, AllocError>
         requires { object < object_count names.now.graph.heap.now }
-        ensures { IfOk result
-            (IsCounterOf names.now.graph.heap.now names.now.graph.weak object) }
+        ensures { IfOk result (λ counter.
+            counter ≡ counter_of names.now.graph.heap.now names.now.graph.weak object) }
     {
         match names.graph.class_of(object) {
             Some(class) => Counter::in_class(names, class),
@@ -44,7 +44,8 @@ impl Counter {
     /// classes use the names of its numbers for something else. Fails only if out of memory.
     pub fn in_class(names: &Names<'_>, class: ObjectIndex) -> Result<Self, AllocError>
         requires { class < object_count names.now.graph.heap.now }
-        ensures { IfOk result (IsCounterIn names.now.graph.heap.now class) }
+        ensures { IfOk result (λ counter.
+            counter ≡ counter_in names.now.graph.heap.now class) }
     {
         match names.instance_variables(class)? {
             Some(variables) => counter_by(names, &variables),
