@@ -1,5 +1,6 @@
 pub mod Seen
 pub mod Alike
+pub mod Untraced
 pub mod Matching
 pub mod Partners
 pub mod FirstDifference

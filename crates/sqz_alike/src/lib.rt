@@ -27,4 +27,4 @@ pub use new_objects::mark_new;
 pub use partners::partners_of;
 pub use seen::seen_target;
 pub use sides::Sides;
-pub use words::untraced;
+pub use words::{bytes_match, untraced, untraced_match};

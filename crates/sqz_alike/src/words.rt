@@ -1,9 +1,9 @@
 //! Whether two objects have the same words, but for those of their slots.
 
-ghost use Rattle.std.specs.Prelude.{◌≡◌, ◌↔◌, IsTrue, map};
-ghost use Rattle.sqz_object.specs.Bytes.{bytes_of};
+ghost use Rattle.std.specs.Prelude.{◌≡◌, ◌↔◌, IsTrue};
 ghost use Rattle.sqz_object.specs.Layout.{layout};
 ghost use Rattle.sqz_alike.specs.Alike.{HeadersMatch, UntracedMatch, WordsMatch, untraced};
+ghost use Rattle.sqz_alike.specs.Untraced.{same_bytes, same_untraced, same_words};
 
 use sqz_image::Object;
 use sqz_object::{Layout, Order, Words, base_of, put_word};
@@ -22,13 +22,7 @@ pub(crate) fn words_match(
     if !headers_match(object, other) || traced_fields(object) != traced_fields(other) {
         return false;
     }
-    let (words, others) = (untraced(object), untraced(other));
-    match object.layout() {
-        Layout::Bytes { .. } | Layout::Method => bytes_match(order, &words, other_order, &others),
-        Layout::Fields | Layout::Weak | Layout::Context | Layout::Words => {
-            same_words(&words, &others)
-        }
-    }
+    untraced_match(order, object, other_order, other)
 }
 
 /// Returns whether two objects have the same kind of header, size, format, compact class index and
@@ -53,9 +47,31 @@ pub fn untraced<'a>(object: &Object<'a>) -> Words<'a>
     rest
 }
 
+/// Returns whether the words of two objects after their traced fields are the same: as bytes, if
+/// `object` is a byte object or a method.
+pub fn untraced_match(
+    order: Order,
+    object: &Object<'_>,
+    other_order: Order,
+    other: &Object<'_>,
+) -> bool
+    ensures matches { IsTrue result ↔ UntracedMatch (layout object.now) order other_order
+        (untraced object.now) (untraced other.now) }
+    ensures same { result ≡ same_untraced (layout object.now) order other_order
+        (untraced object.now) (untraced other.now) }
+{
+    let (words, others) = (untraced(object), untraced(other));
+    match object.layout() {
+        Layout::Bytes { .. } | Layout::Method => bytes_match(order, &words, other_order, &others),
+        Layout::Fields | Layout::Weak | Layout::Context | Layout::Words => {
+            same_words(&words, &others)
+        }
+    }
+}
+
 /// Returns whether two lists of words are the same.
 fn same_words(words: &Words<'_>, others: &Words<'_>) -> bool
-    ensures { IsTrue result ↔ (words.now ≡ others.now) }
+    ensures { result ≡ same_words words.now others.now }
 {
     if words.len() != others.len() {
         return false;
@@ -69,9 +85,8 @@ fn same_words(words: &Words<'_>, others: &Words<'_>) -> bool
 }
 
 /// Returns whether two lists of words are the same bytes, each in its byte order.
-fn bytes_match(order: Order, words: &Words<'_>, other_order: Order, others: &Words<'_>) -> bool
-    ensures { IsTrue result
-        ↔ (map (bytes_of order) words.now ≡ map (bytes_of other_order) others.now) }
+pub fn bytes_match(order: Order, words: &Words<'_>, other_order: Order, others: &Words<'_>) -> bool
+    ensures { result ≡ same_bytes order other_order words.now others.now }
 {
     if words.len() != others.len() {
         return false;
