@@ -15,3 +15,4 @@ mod PositionLemmas
 mod CategoryLemmas
 mod OrganizationLemmas
 pub mod InstanceVariableLemmas
+pub mod MethodOrderLemmas

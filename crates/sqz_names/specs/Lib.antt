@@ -8,6 +8,7 @@ pub mod Labels
 pub mod Names
 pub mod LabelOrder
 pub mod NameLists
+pub mod MethodOrder
 pub mod Picks
 pub mod Texts
 pub mod Numbers

@@ -1,12 +1,15 @@
 //! The methods that classes have.
 
-ghost use Rattle.std.specs.Prelude.{◌≡◌, ◌<◌, ℕ, [], length, All, Bool, Contains, IfOk, Some, true};
+ghost use Rattle.std.specs.Prelude.{◌≡◌, ◌<◌, ◌++◌, ◌||◌, ℕ, [], length, replicate};
+ghost use Rattle.std.specs.Prelude.{All, Bool, Contains, IfOk, Some, true, false};
 ghost use Rattle.sqz_image.specs.declared.slot.Slot.TheVariants.{Field};
 ghost use Rattle.sqz_image.specs.Objects.{object_count};
+ghost use Rattle.sqz_trace.specs.Graph.{is_marked};
 ghost use Rattle.sqz_trace.specs.Targets.{target};
 ghost use Rattle.sqz_names.specs.Fields.{method_dictionary_field};
 ghost use Rattle.sqz_names.specs.Structures.{IsClass};
 ghost use Rattle.sqz_names.specs.declared.method_name.MethodName.{MethodName};
+ghost use Rattle.sqz_names.specs.MethodOrder.{has_dictionary, methods_in, new_methods};
 ghost use Rattle.sqz_names.specs.NameLists.{ListsDictionaries, ListsDictionary};
 ghost use Rattle.sqz_names.specs.Names.{AreOfClasses, IsMethodName, ListsMethodsOf};
 
@@ -37,6 +40,8 @@ impl<'a> MethodsFound<'a> {
     pub(crate) fn none(alloc: Global, graph: ObjectGraph<'a>) -> Result<Self, AllocError>
         ensures graph { IfOk result (λ found. found.graph ≡ graph.entry) }
         ensures empty { IfOk result (λ found. found.names.items ≡ []) }
+        ensures none { IfOk result (λ found. found.dictionaries
+            ≡ replicate (object_count graph.entry.heap.now) false) }
     {
         Ok(MethodsFound {
             graph,
@@ -57,6 +62,12 @@ impl<'a> MethodsFound<'a> {
             → Contains self.new.names.items name }
         ensures all { IfOk result (λ unit.
             ListsMethodsOf self.old.graph.heap.now self.new.names.items class) }
+        ensures listed { IfOk result (λ unit. self.new.names.items ≡ self.old.names.items
+            ++ new_methods self.old.graph.heap.now (is_marked self.old.dictionaries) class) }
+        ensures dictionaries { IfOk result (λ unit. (dictionary : ℕ)
+            → is_marked self.new.dictionaries dictionary
+            ≡ is_marked self.old.dictionaries dictionary
+            || has_dictionary self.old.graph.heap.now dictionary class) }
     {
         let Some(dictionary) = field_target(self.graph.heap, class, METHOD_DICTIONARY) else {
             return Ok(());
@@ -89,6 +100,8 @@ fn push_methods(
         → Contains found.new.items name }
     ensures all { IfOk result (λ unit.
         ListsDictionary graph.entry.heap.now dictionary found.new.items) }
+    ensures listed { IfOk result (λ unit. found.new.items
+        ≡ found.old.items ++ methods_in graph.entry.heap.now class dictionary) }
 {
     let heap = graph.heap;
     let Some(methods) = field_target(heap, dictionary, METHODS) else {

@@ -1,6 +1,7 @@
 //! The names of an image.
 
-ghost use Rattle.std.specs.Prelude.{◌≡◌, ◌<◌, ℕ, length, All, IfOk, IsTrue, true};
+ghost use Rattle.std.specs.Prelude.{◌≡◌, ◌<◌, ◌&&◌, ℕ, length, All, Bool, IfOk, IsTrue};
+ghost use Rattle.std.specs.Prelude.{List, true};
 ghost use Rattle.std.specs.List.Sorted.{IsNonDecreasingBy};
 ghost use Rattle.std.proofs.Props.{props};
 ghost use Rattle.sqz_image.specs.Objects.{object_count};
@@ -9,6 +10,7 @@ ghost use Rattle.sqz_trace.specs.Graph.{is_marked};
 ghost use Rattle.sqz_names.specs.ByteTexts.{name_of_class};
 ghost use Rattle.sqz_names.specs.Texts.{shown_class_name};
 ghost use Rattle.sqz_names.specs.Structures.{AreClasses, IsClass};
+ghost use Rattle.sqz_names.specs.MethodOrder.{methods_by_class};
 ghost use Rattle.sqz_names.specs.Names.{AreOfClasses, IsMethodName, IsVariableName, ListsMethods};
 ghost use Rattle.sqz_names.specs.Names.{ListsMethodsOf, ListsVariables};
 
@@ -74,8 +76,9 @@ impl<'a> Names<'a> {
         })
     }
 
-    /// Returns the methods of the marked classes, sorted by the address of the class. The methods
-    /// of a shared dictionary are listed once, for the first class that has it.
+    /// Returns the methods of the marked classes, sorted by the address of the class, and those of
+    /// a class in the order of its method dictionary, one for each place. The methods of a shared
+    /// dictionary are listed once, for the first marked class that has it.
     pub fn methods_of_marked(&self, marks: &Marks) -> Result<Vec<MethodName>, AllocError>
         ensures methods { IfOk result (λ found.
             All (IsMethodName self.now.graph.heap.now self.now.graph.weak) found.items) }
@@ -85,6 +88,11 @@ impl<'a> Names<'a> {
             → IsClass self.now.graph.heap.now self.now.graph.weak class
             → is_marked marks.now class ≡ true
             → ListsMethodsOf self.now.graph.heap.now found.items class) }
+        ensures listed { IfOk result (λ found. (classes : List Bool)
+            → AreClasses self.now.graph.heap.now self.now.graph.weak classes
+            → found.items ≡ methods_by_class self.now.graph.heap.now
+            (λ class. is_marked classes class && is_marked marks.now class)
+            (object_count self.now.graph.heap.now)) }
     {
         let mut methods = MethodsFound::none(self.alloc, self.graph)?;
         for class in 0..self.graph.heap.len() {
