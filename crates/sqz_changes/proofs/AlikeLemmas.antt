@@ -28,7 +28,9 @@ use Rattle.sqz_alike.specs.Alike.{IsCorrespondence, ObjectsMatch, SlotsMatch, Un
 use Rattle.sqz_alike.specs.FirstDifference.{AreAmong}
 use Rattle.sqz_alike.specs.Partners.{pair_at}
 use Rattle.sqz_alike.specs.Seen.{seen_target}
+use Rattle.sqz_alike.specs.Untraced.{same_bytes, same_untraced}
 use Rattle.sqz_alike.proofs.MatchingLemmas.{pair_of}
+use Rattle.sqz_alike.proofs.WordLemmas.{same_bytes-is, same_untraced-is}
 use Rattle.sqz_changes.specs.declared.place.Difference.{Difference}
 use Rattle.sqz_changes.specs.declared.place.Place.{Place}
 use Rattle.sqz_changes.specs.declared.place.Place.TheVariants.{Header, Hash, Words as WordsPlace, Trailer, Slot as At}
@@ -36,7 +38,7 @@ use Rattle.sqz_changes.specs.Compared.{Compared, common_fields, is_pair, new_chu
 use Rattle.sqz_changes.specs.Differences.{at_places, common_slots, differences, differs, first_places, places_of, slot_differs, slot_places, slots_differ, slots_to}
 use Rattle.sqz_changes.specs.Headers.{are_methods, class_differs, compact, format, hash, hash_differs, header_differs, is_method, same_kind, shape_differs}
 use Rattle.sqz_changes.specs.Laws.{AreAllPaired}
-use Rattle.sqz_changes.specs.Words.{bytecodes_differ, same_bytes, same_untraced, same_word, same_words, trailer_differs, words_differ}
+use Rattle.sqz_changes.specs.Words.{bytecodes_differ, trailer_differs, words_differ}
 use Rattle.sqz_changes.proofs.PairLemmas.{is_pair-of}
 
 no-or : (one other : Bool) → one ≡ false → other ≡ false → (one || other) ≡ false
@@ -46,10 +48,6 @@ no-or false other e f = f
 no-and : (one other : Bool) → other ≡ false → (one && other) ≡ false
 no-and true other e = e
 no-and false other e = refl
-
-and-true : (one other : Bool) → one ≡ true → other ≡ true → (one && other) ≡ true
-and-true true other e f = f
-and-true false other e f = e
 
 numbers : (one other : ℕ) → one ≡ other → not (eqb one other) ≡ false
 numbers one other e = ap not (eq-eqb one other e)
@@ -71,36 +69,6 @@ options one other e = subst (λ (o : Option ℕ). not (option_eq nat_eq one o) �
     own None = refl
 
 -- ---- words
-
-same_words-of : (words others : List ℕ) → words ≡ others → not (same_words words others) ≡ false
-same_words-of words others e = ap not ((bytes_decides words others).1 e)
-
-same_bytes-of : (order other_order : Order) (words others : List ℕ) → map (bytes_of order) words ≡ map (bytes_of other_order) others
-    → same_bytes order other_order words others ≡ true
-same_bytes-of order other_order [] [] e = refl
-same_bytes-of order other_order [] (other ∷ others) e = absurd cc
-same_bytes-of order other_order (word ∷ words) [] e = absurd cc
-same_bytes-of order other_order (word ∷ words) (other ∷ others) e =
-    and-true (same_word order other_order word other) (same_bytes order other_order words others)
-    ((bytes_decides (bytes_of order word) (bytes_of other_order other)).1 (first e))
-    (same_bytes-of order other_order words others (rest e))
-  where
-    first : bytes_of order word ∷ map (bytes_of order) words ≡ bytes_of other_order other ∷ map (bytes_of other_order) others
-        → bytes_of order word ≡ bytes_of other_order other
-    first e = cc
-
-    rest : bytes_of order word ∷ map (bytes_of order) words ≡ bytes_of other_order other ∷ map (bytes_of other_order) others
-        → map (bytes_of order) words ≡ map (bytes_of other_order) others
-    rest e = cc
-
-untraced-of : (kind : Layout) (order other_order : Order) (words others : List ℕ) → UntracedMatch kind order other_order words others
-    → not (same_untraced kind order other_order words others) ≡ false
-untraced-of Fields order other_order words others e = same_words-of words others e
-untraced-of Weak order other_order words others e = same_words-of words others e
-untraced-of Context order other_order words others e = same_words-of words others e
-untraced-of Words order other_order words others e = same_words-of words others e
-untraced-of (Bytes unused) order other_order words others e = ap not (same_bytes-of order other_order words others e)
-untraced-of Method order other_order words others e = ap not (same_bytes-of order other_order words others e)
 
 method-bytes : (kind : Layout) (order other_order : Order) (words others : List ℕ) → is_method kind ≡ true
     → UntracedMatch kind order other_order words others → map (bytes_of order) words ≡ map (bytes_of other_order) others
@@ -191,7 +159,7 @@ module _ (order other_order : Order) (one other : List ℕ) (match : WordsMatch 
       by true e =
           let is = (and_parts (is_method (layout one)) (is_method (layout other)) e).0 in
           ap not ((bytes_decides (bytecodes_in order one) (bytecodes_in other_order other)).1 (bytecodes is))
-      by false e = untraced-of (layout one) order other_order (untraced one) (untraced other) match.untraced
+      by false e = ap not ((same_untraced-is (layout one) order other_order (untraced one) (untraced other)).1 match.untraced)
 
   pub no-trailer : trailer_differs order other_order one other ≡ false
   no-trailer = by (are_methods one other) refl
@@ -201,7 +169,7 @@ module _ (order other_order : Order) (one other : List ℕ) (match : WordsMatch 
       by true e =
           let is = (and_parts (is_method (layout one)) (is_method (layout other)) e).0 in
           no-or (shape_differs one other) (not (same_bytes order other_order (untraced one) (untraced other))) shapes
-          (ap not (same_bytes-of order other_order (untraced one) (untraced other) (bytes is)))
+          (ap not ((same_bytes-is order other_order (untraced one) (untraced other)).1 (bytes is)))
       by false e = refl
 
 -- ---- differences

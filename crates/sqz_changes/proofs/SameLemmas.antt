@@ -1,9 +1,8 @@
 -- Where two objects do not differ, they match.
 -- Serves `LawLemmas`.
-use Rattle.std.proofs.Common.{◌≡◌, ℕ, Bool, true, false, not, ◌&&◌, ◌||◌, cond, eqb, List, [], ◌∷◌, length, map}
-use Rattle.std.proofs.Common.{Option, Some, None, refl, ap, ◌∙◌}
+use Rattle.std.proofs.Common.{◌≡◌, ℕ, Bool, true, false, not, ◌&&◌, ◌||◌, cond, eqb, List, length}
+use Rattle.std.proofs.Common.{Option, Some, None, refl, ap}
 use Rattle.std.specs.Prelude.{nat_eq}
-use Rattle.std.specs.Cmp.Lexicographic.{bytes_decides}
 use Rattle.std.specs.Option.{option_eq}
 use Rattle.std.proofs.lemmas.Bool.{and_parts, eqb-true}
 use Rattle.sqz_object.specs.declared.chunk.Kind.{Kind}
@@ -11,16 +10,17 @@ use Rattle.sqz_object.specs.declared.chunk.Kind.TheVariants.{Three, Two, Free, S
 use Rattle.sqz_object.specs.declared.layout.Layout.{Layout}
 use Rattle.sqz_object.specs.declared.layout.Layout.TheVariants.{Fields, Weak, Context, Words, Bytes, Method}
 use Rattle.sqz_object.specs.declared.order.Order.{Order}
-use Rattle.sqz_object.specs.Bytes.{bytes_of}
 use Rattle.sqz_object.specs.Chunk.{chunk_kind}
 use Rattle.sqz_object.specs.Layout.{layout}
 use Rattle.sqz_trace.specs.Slots.{traced}
 use Rattle.sqz_alike.specs.declared.matching.Pair.{Pair}
 use Rattle.sqz_alike.specs.Alike.{HeadersMatch, SlotsMatch, UntracedMatch, WordsMatch, untraced}
+use Rattle.sqz_alike.specs.Untraced.{same_bytes, same_untraced}
+use Rattle.sqz_alike.proofs.WordLemmas.{same_bytes-is, same_untraced-is}
 use Rattle.sqz_changes.specs.Compared.{is_pair}
 use Rattle.sqz_changes.specs.Differences.{slots_differ}
 use Rattle.sqz_changes.specs.Headers.{are_methods, class_differs, compact, format, hash, hash_differs, header_differs, is_method, same_kind, shape_differs}
-use Rattle.sqz_changes.specs.Words.{bytecodes_differ, same_bytes, same_untraced, same_word, trailer_differs, words_differ}
+use Rattle.sqz_changes.specs.Words.{bytecodes_differ, trailer_differs, words_differ}
 use Rattle.sqz_changes.proofs.PairLemmas.{pair-in}
 
 neither : (one other : Bool) → (one || other) ≡ false → (one ≡ false) × (other ≡ false)
@@ -60,28 +60,9 @@ option-same None None e = refl
 
 -- ---- words
 
-bytes-same : (order other_order : Order) (words others : List ℕ) → same_bytes order other_order words others ≡ true
-    → map (bytes_of order) words ≡ map (bytes_of other_order) others
-bytes-same order other_order [] [] e = refl
-bytes-same order other_order [] (other ∷ others) e = absurd cc
-bytes-same order other_order (word ∷ words) [] e = absurd cc
-bytes-same order other_order (word ∷ words) (other ∷ others) e =
-    let parts = and_parts (same_word order other_order word other) (same_bytes order other_order words others) e in
-    ap (λ (bytes : List ℕ). bytes ∷ map (bytes_of order) words) ((bytes_decides (bytes_of order word) (bytes_of other_order other)).0 parts.0)
-    ∙ ap (λ (rest : List (List ℕ)). bytes_of other_order other ∷ rest) (bytes-same order other_order words others parts.1)
-
-untraced-same : (kind : Layout) (order other_order : Order) (words others : List ℕ) → same_untraced kind order other_order words others ≡ true
-    → UntracedMatch kind order other_order words others
-untraced-same Fields order other_order words others e = (bytes_decides words others).0 e
-untraced-same Weak order other_order words others e = (bytes_decides words others).0 e
-untraced-same Context order other_order words others e = (bytes_decides words others).0 e
-untraced-same Words order other_order words others e = (bytes_decides words others).0 e
-untraced-same (Bytes unused) order other_order words others e = bytes-same order other_order words others e
-untraced-same Method order other_order words others e = bytes-same order other_order words others e
-
 method-untraced : (kind : Layout) (order other_order : Order) (words others : List ℕ) → is_method kind ≡ true
     → same_bytes order other_order words others ≡ true → UntracedMatch kind order other_order words others
-method-untraced Method order other_order words others is e = bytes-same order other_order words others e
+method-untraced Method order other_order words others is e = (same_bytes-is order other_order words others).0 e
 method-untraced Fields order other_order words others is e = absurd cc
 method-untraced Weak order other_order words others is e = absurd cc
 method-untraced Context order other_order words others is e = absurd cc
@@ -125,7 +106,7 @@ module _ (order other_order : Order) (one other : List ℕ) where
           let one_is = (and_parts (is_method (layout one)) (is_method (layout other)) is).0 in
           (parts.0, method-untraced (layout one) order other_order (untraced one) (untraced other) one_is (not-false _ parts.1))
       by false is shape words trailer =
-          (shape, untraced-same (layout one) order other_order (untraced one) (untraced other) (not-false _ words))
+          (shape, (same_untraced-is (layout one) order other_order (untraced one) (untraced other)).0 (not-false _ words))
 
 -- two slots that do not differ match
 pub slots-match : (pairs : List Pair) (old new word other : Option ℕ) → slots_differ pairs old new word other ≡ false → SlotsMatch pairs old new word other

@@ -3,6 +3,7 @@
 #![tactic(auto)]
 
 mod anchors;
+mod bytecodes;
 mod change;
 mod changes;
 mod comparison;
@@ -18,7 +19,6 @@ mod places;
 mod singles;
 mod tallies;
 mod tally;
-mod words;
 
 pub use change::{Change, Changes};
 pub use changes::changes_between;

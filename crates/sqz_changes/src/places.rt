@@ -8,11 +8,11 @@ ghost use Rattle.sqz_changes.specs.Differences.{slot_differs};
 ghost use Rattle.sqz_changes.specs.Headers.{hash_differs, header_differs};
 ghost use Rattle.sqz_changes.specs.Words.{trailer_differs, words_differ};
 
+use crate::bytecodes::bytecodes_differ;
 use crate::comparison::Comparison;
 use crate::headers::{are_methods, hash_differs, header_differs, shape_differs};
 use crate::place::{Difference, Place};
-use crate::words::{bytecodes_differ, same_bytes, same_untraced};
-use sqz_alike::{Pair, seen_target, untraced};
+use sqz_alike::{Pair, bytes_match, seen_target, untraced, untraced_match};
 use sqz_image::Slot;
 use sqz_trace::slot_word;
 use std::alloc::{AllocError, Global};
@@ -74,9 +74,7 @@ impl Comparison<'_> {
         if are_methods(&object, &other) {
             return bytecodes_differ(alloc, heap, pair.old, other_heap, pair.new);
         }
-        let (words, others) = (untraced(&object), untraced(&other));
-        let (order, other_order) = (heap.order(), other_heap.order());
-        Ok(!same_untraced(object.layout(), order, other_order, &words, &others))
+        Ok(!untraced_match(heap.order(), &object, other_heap.order(), &other))
     }
 
     /// Returns whether both objects of a pair are methods, and differ in the kinds of header, the
@@ -94,7 +92,7 @@ impl Comparison<'_> {
         let (words, others) = (untraced(&object), untraced(&other));
         are_methods(&object, &other)
             && (shape_differs(&object, &other)
-                || !same_bytes(heap.order(), other_heap.order(), &words, &others))
+                || !bytes_match(heap.order(), &words, other_heap.order(), &others))
     }
 
     /// Returns whether a slot of a pair leads to objects that are no partners, or to an object on one
