@@ -20,6 +20,7 @@ use Rattle.sqz_object.specs.Bytes.{bytes_of, spelling_of}
 use Rattle.sqz_object.specs.Chunk.{base_word, chunk_kind, fields}
 use Rattle.sqz_object.specs.Layout.{layout}
 use Rattle.sqz_object.specs.Value.{base_of, padding}
+use Rattle.sqz_names.specs.Structures.{is_method_layout}
 use Rattle.sqz_trace.specs.Slots.{slot_word, traced}
 use Rattle.sqz_code.specs.Parts.{bytecodes_in, code_bytes, literal_count}
 use Rattle.sqz_code.specs.Trailers.{trailer_length}
@@ -36,7 +37,7 @@ use Rattle.sqz_changes.specs.declared.place.Place.{Place}
 use Rattle.sqz_changes.specs.declared.place.Place.TheVariants.{Header, Hash, Words as WordsPlace, Trailer, Slot as At}
 use Rattle.sqz_changes.specs.Compared.{Compared, common_fields, is_pair, new_chunk, old_chunk}
 use Rattle.sqz_changes.specs.Differences.{at_places, common_slots, differences, differs, first_places, places_of, slot_differs, slot_places, slots_differ, slots_to}
-use Rattle.sqz_changes.specs.Headers.{are_methods, class_differs, compact, format, hash, hash_differs, header_differs, is_method, same_kind, shape_differs}
+use Rattle.sqz_changes.specs.Headers.{are_methods, class_differs, compact, format, hash, hash_differs, header_differs, same_kind, shape_differs}
 use Rattle.sqz_changes.specs.Laws.{AreAllPaired}
 use Rattle.sqz_changes.specs.Words.{bytecodes_differ, trailer_differs, words_differ}
 use Rattle.sqz_changes.proofs.PairLemmas.{is_pair-of}
@@ -70,7 +71,7 @@ options one other e = subst (λ (o : Option ℕ). not (option_eq nat_eq one o) �
 
 -- ---- words
 
-method-bytes : (kind : Layout) (order other_order : Order) (words others : List ℕ) → is_method kind ≡ true
+method-bytes : (kind : Layout) (order other_order : Order) (words others : List ℕ) → is_method_layout kind ≡ true
     → UntracedMatch kind order other_order words others → map (bytes_of order) words ≡ map (bytes_of other_order) others
 method-bytes Method order other_order words others is e = e
 method-bytes Fields order other_order words others is e = absurd cc
@@ -128,7 +129,7 @@ module _ (order other_order : Order) (one other : List ℕ) (match : WordsMatch 
   pub no-hash : hash_differs one other ≡ false
   no-hash = numbers (hash one) (hash other) match.headers.hash
 
-  module _ (is : is_method (layout one) ≡ true) where
+  module _ (is : is_method_layout (layout one) ≡ true) where
     bytes : map (bytes_of order) (untraced one) ≡ map (bytes_of other_order) (untraced other)
     bytes = method-bytes (layout one) order other_order (untraced one) (untraced other) is match.untraced
 
@@ -157,7 +158,7 @@ module _ (order other_order : Order) (one other : List ℕ) (match : WordsMatch 
       by : (b : Bool) → are_methods one other ≡ b
           → cond b (bytecodes_differ order other_order one other) (not (same_untraced (layout one) order other_order (untraced one) (untraced other))) ≡ false
       by true e =
-          let is = (and_parts (is_method (layout one)) (is_method (layout other)) e).0 in
+          let is = (and_parts (is_method_layout (layout one)) (is_method_layout (layout other)) e).0 in
           ap not ((bytes_decides (bytecodes_in order one) (bytecodes_in other_order other)).1 (bytecodes is))
       by false e = ap not ((same_untraced-is (layout one) order other_order (untraced one) (untraced other)).1 match.untraced)
 
@@ -167,7 +168,7 @@ module _ (order other_order : Order) (one other : List ℕ) (match : WordsMatch 
       by : (b : Bool) → are_methods one other ≡ b
           → (b && (shape_differs one other || not (same_bytes order other_order (untraced one) (untraced other)))) ≡ false
       by true e =
-          let is = (and_parts (is_method (layout one)) (is_method (layout other)) e).0 in
+          let is = (and_parts (is_method_layout (layout one)) (is_method_layout (layout other)) e).0 in
           no-or (shape_differs one other) (not (same_bytes order other_order (untraced one) (untraced other))) shapes
           (ap not ((same_bytes-is order other_order (untraced one) (untraced other)).1 (bytes is)))
       by false e = refl

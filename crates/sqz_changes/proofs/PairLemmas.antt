@@ -5,6 +5,7 @@ use Rattle.std.proofs.Common.{◌<◌, ◌≤◌}
 use Rattle.std.proofs.Math.Logic.{∥∥₁_elim}
 use mathlib.Core.Bool.{Bool-set}
 use Rattle.std.proofs.lemmas.List.{get_or_past}
+use Rattle.std.proofs.lemmas.List.Folds.{list_any-append}
 use Rattle.std.proofs.lemmas.Option.{none-some, same_Some}
 use Rattle.sqz_image.specs.Objects.{object_count}
 use Rattle.sqz_trace.specs.declared.live_objects.Live.{Live}
@@ -32,16 +33,9 @@ or_second : (one other : Bool) → other ≡ true → (one || other) ≡ true
 or_second true other e = refl
 or_second false other e = e
 
-or-assoc : (a b c : Bool) → ((a || b) || c) ≡ (a || (b || c))
-or-assoc true b c = refl
-or-assoc false b c = refl
-
 -- a pair is one of two lists
 pub is_pair-append : (xs ys : List Pair) (old new : ℕ) → is_pair (xs ++ ys) old new ≡ (is_pair xs old new || is_pair ys old new)
-is_pair-append [] ys old new = refl
-is_pair-append (pair ∷ xs) ys old new =
-    ap (λ (b : Bool). (eqb pair.old old && eqb pair.new new) || b) (is_pair-append xs ys old new)
-    ∙ sym (or-assoc (eqb pair.old old && eqb pair.new new) (is_pair xs old new) (is_pair ys old new))
+is_pair-append xs ys old new = list_any-append (λ (pair : Pair). eqb pair.old old && eqb pair.new new) xs ys
 
 -- what is contained is a pair
 pub is_pair-of : (pairs : List Pair) (pair : Pair) → Contains pairs pair → is_pair pairs pair.old pair.new ≡ true

@@ -12,6 +12,7 @@ use Rattle.sqz_object.specs.declared.layout.Layout.TheVariants.{Fields, Weak, Co
 use Rattle.sqz_object.specs.declared.order.Order.{Order}
 use Rattle.sqz_object.specs.Chunk.{chunk_kind}
 use Rattle.sqz_object.specs.Layout.{layout}
+use Rattle.sqz_names.specs.Structures.{is_method_layout}
 use Rattle.sqz_trace.specs.Slots.{traced}
 use Rattle.sqz_alike.specs.declared.matching.Pair.{Pair}
 use Rattle.sqz_alike.specs.Alike.{HeadersMatch, SlotsMatch, UntracedMatch, WordsMatch, untraced}
@@ -19,7 +20,7 @@ use Rattle.sqz_alike.specs.Untraced.{same_bytes, same_untraced}
 use Rattle.sqz_alike.proofs.WordLemmas.{same_bytes-is, same_untraced-is}
 use Rattle.sqz_changes.specs.Compared.{is_pair}
 use Rattle.sqz_changes.specs.Differences.{slots_differ}
-use Rattle.sqz_changes.specs.Headers.{are_methods, class_differs, compact, format, hash, hash_differs, header_differs, is_method, same_kind, shape_differs}
+use Rattle.sqz_changes.specs.Headers.{are_methods, class_differs, compact, format, hash, hash_differs, header_differs, same_kind, shape_differs}
 use Rattle.sqz_changes.specs.Words.{bytecodes_differ, trailer_differs, words_differ}
 use Rattle.sqz_changes.proofs.PairLemmas.{pair-in}
 
@@ -60,7 +61,7 @@ option-same None None e = refl
 
 -- ---- words
 
-method-untraced : (kind : Layout) (order other_order : Order) (words others : List ℕ) → is_method kind ≡ true
+method-untraced : (kind : Layout) (order other_order : Order) (words others : List ℕ) → is_method_layout kind ≡ true
     → same_bytes order other_order words others ≡ true → UntracedMatch kind order other_order words others
 method-untraced Method order other_order words others is e = (same_bytes-is order other_order words others).0 e
 method-untraced Fields order other_order words others is e = absurd cc
@@ -103,7 +104,7 @@ module _ (order other_order : Order) (one other : List ℕ) where
           → (shape_differs one other ≡ false) × UntracedMatch (layout one) order other_order (untraced one) (untraced other)
       by true is shape words trailer =
           let parts = neither (shape_differs one other) (not (same_bytes order other_order (untraced one) (untraced other))) trailer in
-          let one_is = (and_parts (is_method (layout one)) (is_method (layout other)) is).0 in
+          let one_is = (and_parts (is_method_layout (layout one)) (is_method_layout (layout other)) is).0 in
           (parts.0, method-untraced (layout one) order other_order (untraced one) (untraced other) one_is (not-false _ parts.1))
       by false is shape words trailer =
           (shape, (same_untraced-is (layout one) order other_order (untraced one) (untraced other)).0 (not-false _ words))

@@ -1,5 +1,6 @@
 -- Two images with the partners of their objects, as they are compared.
-use Rattle.std.specs.Prelude.{ℕ, Bool, false, ◌==◌, ◌&&◌, ◌||◌, min, List, [], ◌∷◌, ◌++◌, Option, Some}
+use Rattle.std.specs.Prelude.{ℕ, Bool, ◌==◌, ◌&&◌, min, List, [], ◌∷◌, ◌++◌, Option, Some}
+use Rattle.std.specs.List.{list_any}
 use Rattle.sqz_image.specs.Objects.{chunk_words, find}
 use Rattle.sqz_trace.specs.Slots.{traced}
 use Rattle.sqz_alike.specs.declared.matching.Pair.{Pair}
@@ -39,8 +40,7 @@ common_fields compared pair = min (traced (old_chunk compared pair)) (traced (ne
 
 -- whether two objects are one of these pairs
 abbrev pub is_pair : List Pair → ℕ → ℕ → Bool
-is_pair [] old new = false
-is_pair (pair ∷ pairs) old new = (pair.old == old && pair.new == new) || is_pair pairs old new
+is_pair pairs old new = list_any (λ (pair : Pair). pair.old == old && pair.new == new) pairs
 
 -- the pair of the special objects arrays
 abbrev pub pair_of_both : Option ℕ → Option ℕ → List Pair

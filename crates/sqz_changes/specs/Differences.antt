@@ -52,13 +52,13 @@ slots_to (suc count) = slots_to count ++ Field count ∷ []
 abbrev pub common_slots : Compared → ℕ → List Slot
 common_slots compared index = slots_to (common_fields compared (pair_at compared.pairs index))
 
--- the places at which a pair with these slots is compared, in order
 abbrev pub head_places : List Place
 head_places = Header ∷ Hash ∷ Words ∷ Trailer ∷ []
 
 abbrev pub slot_places : List Slot → List Place
 slot_places slots = map (λ (slot : Slot). At slot) slots
 
+-- the places at which a pair with these slots is compared, in order
 abbrev pub places : List Slot → List Place
 places slots = head_places ++ slot_places slots
 

@@ -2,20 +2,15 @@
 use Rattle.std.specs.Prelude.{ℕ, Bool, true, false, not, ◌==◌, ◌&&◌, ◌||◌, List, length}
 use Rattle.sqz_object.specs.declared.chunk.Kind.{Kind}
 use Rattle.sqz_object.specs.declared.chunk.Kind.TheVariants.{Three, Two, Free, Short}
-use Rattle.sqz_object.specs.declared.layout.Layout.{Layout}
-use Rattle.sqz_object.specs.declared.layout.Layout.TheVariants.{Method}
 use Rattle.sqz_object.specs.Chunk.{base_word, chunk_kind}
 use Rattle.sqz_object.specs.Layout.{layout}
 use Rattle.sqz_object.specs.Value.{base_of}
 use Rattle.sqz_trace.specs.Slots.{traced}
-
-abbrev pub is_method : Layout → Bool
-is_method Method = true
-is_method _ = false
+use Rattle.sqz_names.specs.Structures.{is_method_layout}
 
 -- whether both objects are methods
 abbrev pub are_methods : List ℕ → List ℕ → Bool
-are_methods one other = is_method (layout one) && is_method (layout other)
+are_methods one other = is_method_layout (layout one) && is_method_layout (layout other)
 
 abbrev pub same_kind : Kind → Kind → Bool
 same_kind Three Three = true

@@ -1,6 +1,7 @@
 //! Which pairs own themselves.
 
-ghost use Rattle.std.specs.Prelude.{◌≡◌, ◌++◌, ◌∷◌, [], ℕ, List, false, IfOk, slice_index_or, length};
+ghost use Rattle.std.specs.Prelude.{◌≡◌, ◌++◌, ◌∷◌, [], ℕ, List, false, IfOk};
+ghost use Rattle.std.specs.Prelude.{slice_index_or, length};
 ghost use Rattle.sqz_image.specs.Objects.{object_count};
 ghost use Rattle.sqz_alike.specs.declared.matching.Pair.{Pair as APair};
 ghost use Rattle.sqz_changes.specs.Anchors.{AreAnchored};

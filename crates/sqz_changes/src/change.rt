@@ -30,8 +30,8 @@ pub struct Changes {
 }
 
 impl Changes {
-    /// Returns the steps that lead from the owner of a pair to the pair, in order. None for an owner
-    /// itself, or an index that is out of range. Fails only if out of memory.
+    /// Returns the steps that lead from the owner of a pair to the pair, in order. None for an
+    /// owner itself, or an index that is out of range. Fails only if out of memory.
     pub fn path_to(&self, alloc: Global, pair: u32) -> Result<Vec<Step>, AllocError>
         ensures { IfOk result (λ steps. steps.items ≡ path_to self.now.leads.items pair) }
     {

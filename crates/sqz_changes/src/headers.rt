@@ -1,8 +1,9 @@
 //! How the headers of two objects differ.
 
 ghost use Rattle.std.specs.Prelude.{◌≡◌};
+ghost use Rattle.sqz_names.specs.Structures.{is_method_layout};
 ghost use Rattle.sqz_changes.specs.Headers.{are_methods, class_differs, hash_differs};
-ghost use Rattle.sqz_changes.specs.Headers.{header_differs, is_method, same_kind, shape_differs};
+ghost use Rattle.sqz_changes.specs.Headers.{header_differs, same_kind, shape_differs};
 
 use sqz_image::Object;
 use sqz_object::{Kind, Layout, base_of};
@@ -17,7 +18,7 @@ pub(crate) fn are_methods(one: &Object<'_>, other: &Object<'_>) -> bool
 
 /// Returns whether a layout is that of a method.
 fn is_method(layout: Layout) -> bool
-    ensures { result ≡ is_method layout }
+    ensures { result ≡ is_method_layout layout }
 {
     matches!(layout, Layout::Method)
 }

@@ -24,8 +24,9 @@ pub fn alike_if_nothing_differs()
 /// partner, nothing differs. So an image has no difference with its compaction, or with a copy at
 /// another base, in the other byte order, or with more garbage.
 pub fn nothing_differs_if_alike()
-    ensures { (compared : Compared) (all : List Pair) → IsCorrespondence compared.old compared.new all
-        → AreAmong compared.pairs all → AreAllPaired compared → differences compared ≡ [] }
+    ensures { (compared : Compared) (all : List Pair)
+        → IsCorrespondence compared.old compared.new all → AreAmong compared.pairs all
+        → AreAllPaired compared → differences compared ≡ [] }
 {}
 
 /// An owner with differences has one change, with the first of them and their number. An owner

@@ -1,6 +1,7 @@
 //! By which steps the walk comes to the pairs.
 
-ghost use Rattle.std.specs.Prelude.{◌≡◌, ◌+◌, ◌<◌, ◌∷◌, ◌++◌, [], ℕ, List, IfOk, IfSome, if◌then◌else◌, length};
+ghost use Rattle.std.specs.Prelude.{◌≡◌, ◌+◌, ◌<◌, ◌∷◌, ◌++◌, [], ℕ, List, IfOk, IfSome};
+ghost use Rattle.std.specs.Prelude.{if◌then◌else◌, length};
 ghost use Rattle.sqz_image.specs.Objects.{object_count};
 ghost use Rattle.sqz_changes.specs.declared.leads.Step.{Step as AStep};
 ghost use Rattle.sqz_changes.specs.Compared.{compared};

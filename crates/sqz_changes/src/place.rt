@@ -1,5 +1,7 @@
 //! Where two partners can differ.
 
+ghost use Rattle.std.specs.Prelude.{◌≡◌};
+
 use sqz_image::Slot;
 
 /// Where two partners are compared, in this order.
@@ -27,4 +29,13 @@ pub struct Difference {
     /// The index of the pair in the matching.
     pub pair: u32,
     pub place: Place,
+}
+
+impl Place {
+    /// Returns this place of a pair.
+    pub(crate) fn of(self, pair: u32) -> Difference
+        ensures { result ≡ record { pair = pair; place = self } }
+    {
+        Difference { pair, place: self }
+    }
 }

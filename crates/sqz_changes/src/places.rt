@@ -59,8 +59,8 @@ impl Comparison<'_> {
         hash_differs(&object, &other)
     }
 
-    /// Returns whether the objects of a pair have different words after their traced fields; methods
-    /// different bytecodes.
+    /// Returns whether the objects of a pair have different words after their traced fields;
+    /// methods different bytecodes.
     fn words_differ(&self, alloc: Global, pair: Pair) -> Result<bool, AllocError>
         requires old { pair.old < object_count self.now.old.now.graph.heap.now }
         requires new { pair.new < object_count self.now.new.now.graph.heap.now }
@@ -95,8 +95,8 @@ impl Comparison<'_> {
                 || !bytes_match(heap.order(), &words, other_heap.order(), &others))
     }
 
-    /// Returns whether a slot of a pair leads to objects that are no partners, or to an object on one
-    /// side alone, or holds different words that lead to no object.
+    /// Returns whether a slot of a pair leads to objects that are no partners, or to an object on
+    /// one side alone, or holds different words that lead to no object.
     fn slot_differs(&self, pair: Pair, slot: Slot) -> bool
         requires old { pair.old < object_count self.now.old.now.graph.heap.now }
         requires new { pair.new < object_count self.now.new.now.graph.heap.now }

@@ -73,30 +73,10 @@ impl Tallies {
             (length comparison.now.matching.now.pairs.items) self.new) }
         ensures few { OnOk result (counted_in self.new ≤ counted_in self.old + 4) }
     {
-        let header = Place::Header;
-        self.add(
-            alloc,
-            comparison,
-            Difference {
-                pair,
-                place: header,
-            },
-            owner,
-        )?;
-        let hash = Place::Hash;
-        self.add(alloc, comparison, Difference { pair, place: hash }, owner)?;
-        let words = Place::Words;
-        self.add(alloc, comparison, Difference { pair, place: words }, owner)?;
-        let trailer = Place::Trailer;
-        self.add(
-            alloc,
-            comparison,
-            Difference {
-                pair,
-                place: trailer,
-            },
-            owner,
-        )?;
+        self.add(alloc, comparison, Place::Header.of(pair), owner)?;
+        self.add(alloc, comparison, Place::Hash.of(pair), owner)?;
+        self.add(alloc, comparison, Place::Words.of(pair), owner)?;
+        self.add(alloc, comparison, Place::Trailer.of(pair), owner)?;
         Ok(())
     }
 
