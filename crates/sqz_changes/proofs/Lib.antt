@@ -9,3 +9,4 @@ pub mod SameLemmas
 pub mod LawLemmas
 pub mod AlikeLemmas
 pub mod OwnerLemmas
+pub mod OrderLemmas

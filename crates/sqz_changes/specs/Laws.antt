@@ -1,5 +1,5 @@
 -- What laws say of differences and of changes.
-use Rattle.std.specs.Prelude.{◌≡◌, ◌↔◌, ◌==◌, ◌+◌, ℕ, Bool, true, List, [], ◌∷◌, length, slice_index_or}
+use Rattle.std.specs.Prelude.{◌≡◌, ◌↔◌, ◌==◌, ◌+◌, ◌⊎◌, ℕ, Bool, true, List, [], ◌∷◌, length, map, slice_index_or}
 use Rattle.sqz_trace.specs.Graph.{is_marked}
 use Rattle.sqz_alike.specs.Alike.{HasNew, HasOld}
 use Rattle.sqz_changes.specs.declared.change.Change.{Change}
@@ -23,3 +23,13 @@ is_of owner change = change.owner == owner
 abbrev pub change_for : ℕ → List Difference → List Change
 change_for owner [] = []
 change_for owner (first ∷ others) = record { owner = owner; first = first; count = length others + 1 } ∷ []
+
+-- the first difference of each change
+abbrev pub firsts : List Change → List Difference
+firsts changes = map (λ (change : Change). change.first) changes
+
+-- these differences are some of the others, in the same order
+abbrev pub AreInOrder : List Difference → List Difference → Type 0
+AreInOrder [] others = Unit {0}
+AreInOrder (one ∷ ones) [] = ⊥
+AreInOrder (one ∷ ones) (other ∷ others) = ((one ≡ other) × AreInOrder ones others) ⊎ AreInOrder (one ∷ ones) others

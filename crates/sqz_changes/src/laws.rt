@@ -7,10 +7,11 @@ ghost use Rattle.sqz_alike.specs.Alike.{AreAlike, HasRoots, IsCorrespondence};
 ghost use Rattle.sqz_alike.specs.Alike.{IsOneToOne};
 ghost use Rattle.sqz_alike.specs.FirstDifference.{AreAmong};
 ghost use Rattle.sqz_changes.specs.declared.place.Difference.{Difference};
-ghost use Rattle.sqz_changes.specs.Changes.{changes_of};
+ghost use Rattle.sqz_changes.specs.Changes.{changes_of, quiet_changes, shown_changes};
 ghost use Rattle.sqz_changes.specs.Compared.{Compared};
 ghost use Rattle.sqz_changes.specs.Differences.{differences};
-ghost use Rattle.sqz_changes.specs.Laws.{AreAllPaired, change_for, is_of, is_owned};
+ghost use Rattle.sqz_changes.specs.Laws.{AreAllPaired, AreInOrder, change_for, firsts, is_of};
+ghost use Rattle.sqz_changes.specs.Laws.{is_owned};
 
 /// If nothing differs between partners, each live object has a partner, and the special objects
 /// arrays are partners, the images are alike.
@@ -35,4 +36,13 @@ pub fn one_change_for_each_owner()
     ensures { (compared : Compared) (differences : List Difference) (owner : ℕ)
         → filter (is_of owner) (changes_of compared differences)
         ≡ change_for owner (filter (is_owned compared owner) differences) }
+{}
+
+/// The first differences of the changes are some of all differences, in the order of the walk. So
+/// no change stands before another whose first difference the walk meets earlier.
+pub fn firsts_are_in_order()
+    ensures shown { (compared : Compared)
+        → AreInOrder (firsts (shown_changes compared)) (differences compared) }
+    ensures quiet { (compared : Compared)
+        → AreInOrder (firsts (quiet_changes compared)) (differences compared) }
 {}
