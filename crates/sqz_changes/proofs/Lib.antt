@@ -10,3 +10,4 @@ pub mod LawLemmas
 pub mod AlikeLemmas
 pub mod OwnerLemmas
 pub mod OrderLemmas
+pub mod PathLemmas

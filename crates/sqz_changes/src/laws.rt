@@ -1,6 +1,6 @@
 //! Laws of the definitions. Each is the contract of a function that does nothing.
 
-ghost use Rattle.std.specs.Prelude.{◌≡◌, ℕ, List, []};
+ghost use Rattle.std.specs.Prelude.{◌≡◌, ◌<◌, ℕ, List, [], length};
 ghost use Rattle.std.specs.List.{filter};
 ghost use Rattle.sqz_alike.specs.declared.matching.Pair.{Pair};
 ghost use Rattle.sqz_alike.specs.Alike.{AreAlike, HasRoots, IsCorrespondence};
@@ -10,8 +10,9 @@ ghost use Rattle.sqz_changes.specs.declared.place.Difference.{Difference};
 ghost use Rattle.sqz_changes.specs.Changes.{changes_of, quiet_changes, shown_changes};
 ghost use Rattle.sqz_changes.specs.Compared.{Compared};
 ghost use Rattle.sqz_changes.specs.Differences.{differences};
-ghost use Rattle.sqz_changes.specs.Laws.{AreAllPaired, AreInOrder, change_for, firsts, is_of};
-ghost use Rattle.sqz_changes.specs.Laws.{is_owned};
+ghost use Rattle.sqz_changes.specs.Laws.{AreAllPaired, AreInOrder, IsPath, change_for, firsts};
+ghost use Rattle.sqz_changes.specs.Laws.{is_of, is_owned, owner_of};
+ghost use Rattle.sqz_changes.specs.Owners.{leads, path_to};
 
 /// If nothing differs between partners, each live object has a partner, and the special objects
 /// arrays are partners, the images are alike.
@@ -45,4 +46,11 @@ pub fn firsts_are_in_order()
         → AreInOrder (firsts (shown_changes compared)) (differences compared) }
     ensures quiet { (compared : Compared)
         → AreInOrder (firsts (quiet_changes compared)) (differences compared) }
+{}
+
+/// A path begins at its owner: the steps to a pair lead from the pair that owns it, each through a
+/// slot of both objects of a pair to both objects of the next one.
+pub fn paths_begin_at_owners()
+    ensures { (compared : Compared) (index : ℕ) → index < length compared.pairs
+        → IsPath compared (owner_of compared index) (path_to (leads compared) index) index }
 {}
