@@ -11,3 +11,4 @@ pub mod AlikeLemmas
 pub mod OwnerLemmas
 pub mod OrderLemmas
 pub mod PathLemmas
+pub mod InsideLemmas

@@ -7,6 +7,7 @@ pub mod Differences
 pub mod Owners
 pub mod Leads
 pub mod Changes
+pub mod Inside
 pub mod Tally
 pub mod Tallies
 pub mod Laws

@@ -1,8 +1,9 @@
 //! What changed between two images.
 
-ghost use Rattle.std.specs.Prelude.{◌≡◌, IfOk};
+ghost use Rattle.std.specs.Prelude.{◌≡◌, IfOk, length};
 ghost use Rattle.sqz_changes.specs.Changes.{quiet_changes, shown_changes};
 ghost use Rattle.sqz_changes.specs.Compared.{compared};
+ghost use Rattle.sqz_changes.specs.Inside.{AreInside};
 ghost use Rattle.sqz_changes.specs.Owners.{leads};
 
 use crate::change::Changes;
@@ -13,8 +14,9 @@ use crate::tallies::Tallies;
 use std::alloc::{AllocError, Global};
 
 /// Returns what differs between partners: for each owner of a difference that is not quiet one
-/// change, and likewise for quiet differences; in the order of their first differences. Takes time
-/// and memory linear in both images. Fails only if out of memory.
+/// change, and likewise for quiet differences; in the order of their first differences. Owners and
+/// first differences are of pairs of the matching. Takes time and memory linear in both images.
+/// Fails only if out of memory.
 pub fn changes_between(alloc: Global, comparison: &Comparison<'_>) -> Result<Changes, AllocError>
     ensures shown { IfOk result (λ found.
         found.shown.items ≡ shown_changes (compared comparison.now)) }
@@ -22,6 +24,7 @@ pub fn changes_between(alloc: Global, comparison: &Comparison<'_>) -> Result<Cha
         found.quiet.items ≡ quiet_changes (compared comparison.now)) }
     ensures leads { IfOk result (λ found.
         found.leads.items ≡ leads (compared comparison.now)) }
+    ensures inside { IfOk result (AreInside (length comparison.now.matching.now.pairs.items)) }
 {
     let count = comparison.pair_count();
     let leads = leads_of(alloc, comparison)?;

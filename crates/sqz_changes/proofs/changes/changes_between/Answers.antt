@@ -1,9 +1,14 @@
 use Rattle.std.proofs.Common.{◌≡◌, ◌∙◌, ◌<◌, ℕ, List, Option, ap, length, arith, slice_index_or}
+use Rattle.std.specs.Prelude.{IfSome}
 use Rattle.std.proofs.lemmas.List.{get_or_read}
+use Rattle.std.proofs.lemmas.List.Elements.{All-same}
 use Rattle.sqz_changes.specs.declared.leads.Step.{Step}
 use Rattle.sqz_changes.specs.Compared.{Compared, compared}
+use Rattle.sqz_changes.specs.Changes.{quiet_changes, shown_changes}
+use Rattle.sqz_changes.specs.Inside.{IsInside, IsStepInside}
 use Rattle.sqz_changes.specs.Owners.{first_owners, leads, owners}
 use Rattle.sqz_changes.specs.Tallies.{Tallied, none, tallied}
+use Rattle.sqz_changes.proofs.InsideLemmas.{leads-inside, quiet-inside, shown-inside}
 use Rattle.sqz_changes.proofs.LeadLemmas.{length-first_leads, length-first_owners, owners-below}
 use Rattle.sqz_changes.proofs.TalliesLemmas.{changes-are, pairs-more}
 use Rattle.sqz_changes.proofs.changes.changes_between.Goals as goal
@@ -83,3 +88,13 @@ returns-clause-quiet c =
     let same : list ≡ owners all = owners-are all c.in_ok-leads.leads.items c.deref.result.now list c.deref.ensures.value c.in_ok-leads.ensures c.in_ok-owners.ensures in
     let last : c.loop-pair.pair ≡ length all.pairs = omega (arith, c.loop-pair-test.false, c.loop-pair.auto.pair-end, c.pair_count-count.ensures.count) in
     ap (λ (t : Tallied). t.quiet) (changes-are all list c.loop-pair.pair (tallied c.loop-pair.tallies) c.loop-pair.invariant.are last same)
+
+pub returns-clause-inside : goal.returns-clause-inside
+returns-clause-inside c =
+    let all = compared c.args.comparison.now in
+    let pairs : ℕ = length all.pairs in
+    record {
+      shown = All-same (IsInside pairs) _ (shown_changes all) (returns-clause-shown c) (shown-inside all);
+      quiet = All-same (IsInside pairs) _ (quiet_changes all) (returns-clause-quiet c) (quiet-inside all);
+      leads = All-same (λ (lead : Option Step). IfSome lead (IsStepInside pairs)) _ (leads all) c.in_ok-leads.ensures (leads-inside all);
+    }
