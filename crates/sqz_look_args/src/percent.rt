@@ -1,6 +1,7 @@
 //! Percentages.
 
-ghost use Rattle.std.specs.Prelude.{◌≤◌};
+ghost use Rattle.std.specs.Prelude.{◌≡◌, ◌≤◌, ◌<◌, ◌*◌, ◌^◌};
+ghost use Rattle.sqz_look_args.specs.Percents.{least_bytes};
 
 use std::str::FromStr;
 
@@ -14,6 +15,7 @@ const DECIMALS: usize = 6;
 #[derive(Clone, Copy)]
 pub struct Percent {
     millionths: u32,
+    ghost at_most: { millionths ≤ 100000000 },
 }
 
 /// A text is no percentage.
@@ -37,6 +39,7 @@ impl Percent {
     /// Returns a percentage with one digit after the point: this many tenths of a percent.
     pub const fn tenths(tenths: u32) -> Percent
         requires { tenths ≤ 1000 }
+        ensures { result.millionths ≡ tenths * 100000 }
     {
         Percent {
             millionths: tenths * (PARTS / 10),
@@ -44,7 +47,9 @@ impl Percent {
     }
 
     /// Returns the least number of bytes that is at least this share of `live` bytes.
-    pub fn bytes_of(self, live: u64) -> u64 {
+    pub fn bytes_of(self, live: u64) -> u64
+        ensures { live < 2 ^ 37 → result ≡ least_bytes self.millionths live }
+    {
         live.saturating_mul(u64::from(self.millionths))
             .div_ceil(100 * u64::from(PARTS))
     }
