@@ -86,9 +86,3 @@ class Categories:
         """The first bytes of the category of a class as text, if it has one."""
         category = self.object_of(a_class)
         return None if category is None else shortened(self.image.text(category))
-
-    def of_own_name(self, a_class):
-        """The first bytes of the category that lists the name of a class as text. A metaclass has
-        no name, and so none."""
-        category = self.objects.get(self.names.target(a_class, ClassField.NAME))
-        return None if category is None else shortened(self.image.text(category))

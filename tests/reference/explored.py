@@ -76,7 +76,7 @@ class Explored:
         sums = [len(numbers), self.answers.reach.bytes_of(numbers), retained]
         if group.a_class is None:
             return [self.key_of(group), f"compact {group.compact}", 0, *sums, 0]
-        category = self.categories.of_own_name(group.a_class)
+        category = self.categories.of_class(group.a_class)
         text = 0 if category is None else category
         variables = self.names.variables_of(group.a_class)
         known = 0 if variables is None else variables

@@ -10,11 +10,9 @@ use crate::places::place_of;
 use sqz_answers::RetainedTotal;
 use sqz_histogram::Group;
 use sqz_image::Sink;
-use sqz_look_view::{Inspector, Out, field_of};
+use sqz_look_view::{Inspector, Out, category_of};
 use sqz_names::Categories;
-use sqz_names::fields::NAME;
 use sqz_object::ObjectIndex;
-use std::alloc::AllocError;
 
 /// Adds a line for each class of a live object, and for each compact index of those without a
 /// class, in the order of these rows of a class histogram.
@@ -57,20 +55,6 @@ fn add_totals(row: RetainedTotal, page: &mut PageOut) {
     page.number(i64::from(row.total.count));
     page.size(row.total.bytes);
     page.size(row.retained);
-}
-
-/// Returns the category of a class.
-fn category_of(
-    inspector: &Inspector<'_>,
-    categories: &Categories<'_, '_>,
-    class: ObjectIndex,
-) -> Result<Option<String>, AllocError>
-    requires { IsObjectOf inspector.now class }
-{
-    match field_of(inspector, class, NAME) {
-        Some(name) => categories.text_of(name),
-        None => Ok(None),
-    }
 }
 
 /// Adds the names of the instance variables of a class, if they are known.
