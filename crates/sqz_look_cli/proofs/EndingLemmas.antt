@@ -10,15 +10,16 @@ use Rattle.sqz_image.specs.Devices.{SinkState, WritesWhole}
 use Rattle.sqz_trace.specs.declared.weak.Weak.{Weak}
 use Rattle.sqz_trace.specs.WeakSlots.{weak_of}
 use Rattle.sqz_look_args.specs.declared.question.Question.{Question}
-use Rattle.sqz_look_args.specs.declared.question.Question.TheVariants.{Check, Diff, Mend, Refs, Show, Why}
+use Rattle.sqz_look_args.specs.declared.question.Question.TheVariants.{Census, Check, Diff, Digest, Info, Mend, Refs, Show, Why}
 use Rattle.sqz_look_args.specs.declared.requests.Request.{Request}
 use Rattle.sqz_look_args.specs.Requests.{AsksSoundness, IsCheckOf, given, has_flag}
 use Rattle.sqz_look_files.specs.declared.failure.Failure.{Failure}
-use Rattle.sqz_look_files.specs.declared.failure.Failure.TheVariants.{NotPrinted}
-use Rattle.sqz_look_files.specs.Verdicts.{AreChecked, EndsChecks}
+use Rattle.sqz_look_files.specs.declared.failure.Failure.TheVariants.{OutOfMemory, NotPrinted, NotRead, NotReadAt, NotThere}
+use Rattle.sqz_look_files.specs.Verdicts.{AreChecked, EndsChecks, EndsWorst, IsChecked, IsWorst}
 use Rattle.sqz_look_cli.specs.Comparison.{EndsComparison, IfDiff}
 use Rattle.sqz_look_cli.specs.Endings.{IfCheck, IfMend, HasPassedOn, looks_past}
-use Rattle.sqz_look_cli.specs.Objects.{AreThere, IfObjects}
+use Rattle.sqz_look_cli.specs.Each.{AreAnswered, EndsEach, IfEach, IsAnswered}
+use Rattle.sqz_look_cli.specs.Objects.{AreAsked, EndsObjects, IfObjects}
 use Rattle.sqz_look_files.specs.Failures.{exit_of_failure, exit_of_outcome, IsAnswerExit}
 use Rattle.sqz_look_files.proofs.CheckLemmas.{exit_of_failure-range}
 
@@ -55,38 +56,78 @@ IfCheck-weaker : (question : Question) (P Q : Bool → ℕ → Type 0) → ((str
 IfCheck-weaker (Check images all strict) P Q weaker holds = weaker _ _ holds
 IfCheck-weaker _ P Q weaker holds = tt
 
+-- so does one of the number of images that are asked about
+IfEach-weaker : (question : Question) (P Q : ℕ → Type 0) → ((files : ℕ) → P files → Q files) → IfEach question P → IfEach question Q
+IfEach-weaker (Info images) P Q weaker holds = weaker _ holds
+IfEach-weaker (Census images counting by) P Q weaker holds = weaker _ holds
+IfEach-weaker (Digest images) P Q weaker holds = weaker _ holds
+IfEach-weaker _ P Q weaker holds = tt
+
+-- and one of the words for objects
+IfObjects-weaker : (question : Question) (P Q : List (List ℕ) → Type 0) → ((words : List (List ℕ)) → P words → Q words)
+    → IfObjects question P → IfObjects question Q
+IfObjects-weaker (Show image objects) P Q weaker holds = weaker _ holds
+IfObjects-weaker (Why image objects raw) P Q weaker holds = weaker _ holds
+IfObjects-weaker (Refs image objects) P Q weaker holds = weaker _ holds
+IfObjects-weaker _ P Q weaker holds = tt
+
 -- the outcome after the rest of the answer was written, or could not be written
-module _ (answered outcome : Result ℕ Failure) (passed : (outcome ≡ answered) ⊎ (outcome ≡ Err NotPrinted)) where
+module _ (answered outcome : Result ℕ Failure) (is : (outcome ≡ answered) ⊎ (outcome ≡ Err NotPrinted)) where
   pub IfOk-passed : (P : ℕ → Type 0) → IfOk answered P → IfOk outcome P
-  IfOk-passed P holds = elim passed [
+  IfOk-passed P holds = elim is [
     | inl same ↦ subst (λ (r : Result ℕ Failure). IfOk r P) (sym same) holds
     | inr same ↦ subst (λ (r : Result ℕ Failure). IfOk r P) (sym same) tt
+  ]
+
+  -- a fact of an answer that also holds if it could not be printed
+  passed : (Ends : Result ℕ Failure → Type 0) → Ends (Err NotPrinted) → Ends answered → Ends outcome
+  passed Ends unprinted ends = elim is [
+    | inl same ↦ subst Ends (sym same) ends
+    | inr same ↦ subst Ends (sym same) unprinted
   ]
 
   pub checks_passed : {F : Type 0} (left : F → Option (List ℕ)) (weak : Weak) (past : Bool) (question : Question)
       → IfCheck question (λ strict files. EndsChecks left weak past strict files answered)
       → IfCheck question (λ strict files. EndsChecks left weak past strict files outcome)
-  checks_passed left weak past question = IfCheck-weaker question _ _ (λ strict files ends. elim passed [
-    | inl same ↦ subst (λ (r : Result ℕ Failure). EndsChecks left weak past strict files r) (sym same) ends
-    | inr same ↦ subst (λ (r : Result ℕ Failure). EndsChecks left weak past strict files r) (sym same) (inr refl)
-  ])
+  checks_passed left weak past question =
+      IfCheck-weaker question _ _ (λ strict files. passed (EndsChecks left weak past strict files) (inr refl))
+
+  pub each_passed : {F : Type 0} (left : F → Option (List ℕ)) (weak : Weak) (past : Bool) (question : Question)
+      → IfEach question (λ files. EndsEach left weak past files answered)
+      → IfEach question (λ files. EndsEach left weak past files outcome)
+  each_passed left weak past question = IfEach-weaker question _ _ (λ files. passed (EndsEach left weak past files) (inr refl))
+
+  pub objects_passed : {F : Type 0} (left : F → Option (List ℕ)) (weak : Weak) (past : Bool) (question : Question)
+      → IfObjects question (λ words. EndsObjects left weak past words answered)
+      → IfObjects question (λ words. EndsObjects left weak past words outcome)
+  objects_passed left weak past question = IfObjects-weaker question _ _ (λ words. passed (EndsObjects left weak past words) tt)
+
+-- exits 0 and 1 are those of the files
+IsWorst-ends : (IsExit : ℕ → Type 0) (files : ℕ) (outcome : Result ℕ Failure) → EndsWorst IsExit files outcome
+    → exit_of_outcome outcome ≤ 1 → IsWorst IsExit files (exit_of_outcome outcome)
+IsWorst-ends IsExit files (Ok exit) ends low = ends
+IsWorst-ends IsExit files (Err failure) (inl memory) low =
+    absurd (let high = subst (λ (f : Failure). exit_of_failure f ≤ 1) memory low in omega arith)
+IsWorst-ends IsExit files (Err failure) (inr unprinted) low =
+    absurd (let high = subst (λ (f : Failure). exit_of_failure f ≤ 1) unprinted low in omega arith)
+
+worst_at_one : (IsExit : ℕ → Type 0) (files : ℕ) (outcome : Result ℕ Failure) (exit : ℕ) → exit ≡ exit_of_outcome outcome
+    → EndsWorst IsExit files outcome → exit ≤ 1 → IsWorst IsExit files exit
+worst_at_one IsExit files outcome exit same ends low =
+    subst (IsWorst IsExit files) (sym same) (IsWorst-ends IsExit files outcome ends (subst (λ (e : ℕ). e ≤ 1) same low))
 
 module _ {F : Type 0} (left : F → Option (List ℕ)) (weak : Weak) (past : Bool) where
-  -- exits 0 and 1 of a check are those of its files
-  AreChecked-ends : (strict : Bool) (files : ℕ) (outcome : Result ℕ Failure) → EndsChecks left weak past strict files outcome
-      → exit_of_outcome outcome ≤ 1 → AreChecked left weak past strict files (exit_of_outcome outcome)
-  AreChecked-ends strict files (Ok exit) ends low = ends
-  AreChecked-ends strict files (Err failure) (inl memory) low =
-      absurd (let high = subst (λ (f : Failure). exit_of_failure f ≤ 1) memory low in omega arith)
-  AreChecked-ends strict files (Err failure) (inr unprinted) low =
-      absurd (let high = subst (λ (f : Failure). exit_of_failure f ≤ 1) unprinted low in omega arith)
-
   pub checked_at_one : (question : Question) (outcome : Result ℕ Failure) (exit : ℕ) → exit ≡ exit_of_outcome outcome
       → IfCheck question (λ strict files. EndsChecks left weak past strict files outcome)
       → IfCheck question (λ strict files. exit ≤ 1 → AreChecked left weak past strict files exit)
-  checked_at_one question outcome exit same = IfCheck-weaker question _ _ (λ strict files ends low.
-      subst (λ (e : ℕ). AreChecked left weak past strict files e) (sym same)
-      (AreChecked-ends strict files outcome ends (subst (λ (e : ℕ). e ≤ 1) same low)))
+  checked_at_one question outcome exit same =
+      IfCheck-weaker question _ _ (λ strict files. worst_at_one (IsChecked left weak past strict) files outcome exit same)
+
+  pub each_at_one : (question : Question) (outcome : Result ℕ Failure) (exit : ℕ) → exit ≡ exit_of_outcome outcome
+      → IfEach question (λ files. EndsEach left weak past files outcome)
+      → IfEach question (λ files. exit ≤ 1 → AreAnswered left weak past files exit)
+  each_at_one question outcome exit same =
+      IfEach-weaker question _ _ (λ files. worst_at_one (IsAnswered left weak past) files outcome exit same)
 
 -- exit 0 of an outcome is that of its answer
 pub silent_at_zero : (P : Type 0) (outcome : Result ℕ Failure) → IfOk outcome (λ exit. exit ≡ 0 → P) → exit_of_outcome outcome ≡ 0 → P
@@ -115,41 +156,46 @@ compared_past left weak (Diff old new) past outcome ends =
     subst (λ (p : Bool). EndsComparison left weak p outcome) (or-false past) ends
 compared_past left weak _ past outcome ends = tt
 
--- ---- questions about objects
+-- nor is it to answer a question about each of some images
+pub each_past : {F : Type 0} (left : F → Option (List ℕ)) (weak : Weak) (question : Question) (past : Bool) (outcome : Result ℕ Failure)
+    → IfEach question (λ files. EndsEach left weak (looks_past question past) files outcome)
+    → IfEach question (λ files. EndsEach left weak past files outcome)
+each_past left weak (Info images) past outcome ends =
+    subst (λ (p : Bool). EndsEach left weak p (vec_len images) outcome) (or-false past) ends
+each_past left weak (Census images counting by) past outcome ends =
+    subst (λ (p : Bool). EndsEach left weak p (vec_len images) outcome) (or-false past) ends
+each_past left weak (Digest images) past outcome ends =
+    subst (λ (p : Bool). EndsEach left weak p (vec_len images) outcome) (or-false past) ends
+each_past left weak _ past outcome ends = tt
 
-IfObjects-weaker : (question : Question) (P Q : List (List ℕ) → Type 0) → ((words : List (List ℕ)) → P words → Q words)
-    → IfObjects question P → IfObjects question Q
-IfObjects-weaker (Show image objects) P Q weaker holds = weaker _ holds
-IfObjects-weaker (Why image objects raw) P Q weaker holds = weaker _ holds
-IfObjects-weaker (Refs image objects) P Q weaker holds = weaker _ holds
-IfObjects-weaker _ P Q weaker holds = tt
+-- nor one about objects
+pub objects_past : {F : Type 0} (left : F → Option (List ℕ)) (weak : Weak) (question : Question) (past : Bool) (outcome : Result ℕ Failure)
+    → IfObjects question (λ words. EndsObjects left weak (looks_past question past) words outcome)
+    → IfObjects question (λ words. EndsObjects left weak past words outcome)
+objects_past left weak (Show image objects) past outcome ends =
+    subst (λ (p : Bool). EndsObjects left weak p (map string_bytes objects.items) outcome) (or-false past) ends
+objects_past left weak (Why image objects raw) past outcome ends =
+    subst (λ (p : Bool). EndsObjects left weak p (map string_bytes objects.items) outcome) (or-false past) ends
+objects_past left weak (Refs image objects) past outcome ends =
+    subst (λ (p : Bool). EndsObjects left weak p (map string_bytes objects.items) outcome) (or-false past) ends
+objects_past left weak _ past outcome ends = tt
 
--- the outcome after the rest of the answer was written, or could not be written
-pub objects_passed : (answered outcome : Result ℕ Failure) → (outcome ≡ answered) ⊎ (outcome ≡ Err NotPrinted) → (question : Question)
-    → (P : List (List ℕ) → ℕ → Type 0) → IfObjects question (λ words. IfOk answered (P words))
-    → IfObjects question (λ words. IfOk outcome (P words))
-objects_passed answered outcome passed question P =
-    IfObjects-weaker question _ _ (λ words holds. IfOk-passed answered outcome passed (P words) holds)
+-- exits 0 and 1 of an outcome about objects
+module _ {F : Type 0} (left : F → Option (List ℕ)) (weak : Weak) (past : Bool) where
+  AreAsked-ends : (words : List (List ℕ)) (outcome : Result ℕ Failure) → EndsObjects left weak past words outcome
+      → AreAsked left weak past words (exit_of_outcome outcome)
+  AreAsked-ends words (Ok exit) ends = ends
+  AreAsked-ends words (Err OutOfMemory) ends = record { there = λ zero. absurd (omega (arith, zero)); absent = λ one. absurd (omega (arith, one)) }
+  AreAsked-ends words (Err NotPrinted) ends = record { there = λ zero. absurd (omega (arith, zero)); absent = λ one. absurd (omega (arith, one)) }
+  AreAsked-ends words (Err (NotRead why)) ends = record { there = λ zero. absurd (omega (arith, zero)); absent = λ one. absurd (omega (arith, one)) }
+  AreAsked-ends words (Err (NotReadAt path why)) ends = record { there = λ zero. absurd (omega (arith, zero)); absent = λ one. absurd (omega (arith, one)) }
+  AreAsked-ends words (Err (NotThere message)) ends = record { there = λ zero. absurd (omega (arith, zero)); absent = λ one. inr ends }
 
--- exit 0 of an outcome is that of its answer; an image that is asked about is not mended
-there_at_zero : {F : Type 0} (left : F → Option (List ℕ)) (weak : Weak) (past : Bool) (words : List (List ℕ)) (outcome : Result ℕ Failure)
-    (exit : ℕ) → exit ≡ exit_of_outcome outcome → IfOk outcome (λ exit. exit ≡ 0 → AreThere left weak (past || false) words)
-    → exit ≡ 0 → AreThere left weak past words
-there_at_zero left weak past words outcome exit same holds zero =
-    subst (λ (p : Bool). AreThere left weak p words) (or-false past)
-    (silent_at_zero (AreThere left weak (past || false) words) outcome holds (sym same ∙ zero))
-
-pub objects_at_zero : {F : Type 0} (left : F → Option (List ℕ)) (weak : Weak) (question : Question) (past : Bool)
-    (outcome : Result ℕ Failure) (exit : ℕ) → exit ≡ exit_of_outcome outcome
-    → IfObjects question (λ words. IfOk outcome (λ exit. exit ≡ 0 → AreThere left weak (looks_past question past) words))
-    → IfObjects question (λ words. exit ≡ 0 → AreThere left weak past words)
-objects_at_zero left weak (Show image objects) past outcome exit same holds =
-    there_at_zero left weak past (map string_bytes objects.items) outcome exit same holds
-objects_at_zero left weak (Why image objects raw) past outcome exit same holds =
-    there_at_zero left weak past (map string_bytes objects.items) outcome exit same holds
-objects_at_zero left weak (Refs image objects) past outcome exit same holds =
-    there_at_zero left weak past (map string_bytes objects.items) outcome exit same holds
-objects_at_zero left weak _ past outcome exit same holds = tt
+  pub objects_asked : (question : Question) (outcome : Result ℕ Failure) (exit : ℕ) → exit ≡ exit_of_outcome outcome
+      → IfObjects question (λ words. EndsObjects left weak past words outcome)
+      → IfObjects question (λ words. AreAsked left weak past words exit)
+  objects_asked question outcome exit same =
+      IfObjects-weaker question _ _ (λ words ends. subst (AreAsked left weak past words) (sym same) (AreAsked-ends words outcome ends))
 
 -- ---- what words with the subcommand `check` ask
 

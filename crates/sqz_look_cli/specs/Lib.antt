@@ -1,4 +1,5 @@
 pub mod Comparison
+pub mod Each
 pub mod Objects
 pub mod Endings
 pub mod Lines

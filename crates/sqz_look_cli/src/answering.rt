@@ -8,9 +8,10 @@ ghost use Rattle.sqz_look_files.specs.Failures.{IsAnswerExit, exit_of_outcome};
 ghost use Rattle.sqz_look_files.specs.Mending.{WritesMended};
 ghost use Rattle.sqz_look_files.specs.Warnings.{IsSilent};
 ghost use Rattle.sqz_look_cli.specs.Comparison.{EndsComparison, IfDiff, IsCompared};
+ghost use Rattle.sqz_look_cli.specs.Each.{AreAnswered, EndsEach, IfEach};
 ghost use Rattle.sqz_look_cli.specs.Endings.{EndsAnswer, HasPassedOn, IfCheck, IfMend};
 ghost use Rattle.sqz_look_cli.specs.Endings.{is_mend, looks_past};
-ghost use Rattle.sqz_look_cli.specs.Objects.{AreThere, IfObjects};
+ghost use Rattle.sqz_look_cli.specs.Objects.{AreAsked, EndsObjects, IfObjects};
 ghost use Rattle.sqz_trace.specs.WeakSlots.{weak_of};
 
 use crate::answers::answer;
@@ -48,9 +49,12 @@ pub fn answer_request<T: Files + Threads + Sync, C: Sink, E: Sink>(
     ensures compared { IfDiff request.now.question (result ≤ 1
         → IsCompared T.File.remaining (weak_of request.now.clear_weak) request.now.past_damage
         result) }
-    ensures there { IfObjects request.now.question (λ words. result ≡ 0
-        → AreThere T.File.remaining (weak_of request.now.clear_weak) request.now.past_damage
-        words) }
+    ensures each { IfEach request.now.question (λ files. result ≤ 1
+        → AreAnswered T.File.remaining (weak_of request.now.clear_weak) request.now.past_damage
+        files result) }
+    ensures objects { IfObjects request.now.question (λ words.
+        AreAsked T.File.remaining (weak_of request.now.clear_weak) request.now.past_damage
+        words result) }
     ensures mended { IfMend request.now.question (λ nil. result ≡ 0
         → WritesMended T.File.remaining (weak_of request.now.clear_weak) nil (C.state out.old)
         (C.state out.new)) }
@@ -85,8 +89,10 @@ fn outcome_of<T: Files + Threads + Sync, C: Sink, E: Sink>(
         session.now.past_damage strict files result) }
     ensures compared { IfDiff request.now.question (EndsComparison T.File.remaining
         session.now.weak session.now.past_damage result) }
-    ensures there { IfObjects request.now.question (λ words. IfOk result (λ exit. exit ≡ 0
-        → AreThere T.File.remaining session.now.weak session.now.past_damage words)) }
+    ensures each { IfEach request.now.question (λ files.
+        EndsEach T.File.remaining session.now.weak session.now.past_damage files result) }
+    ensures objects { IfObjects request.now.question (λ words.
+        EndsObjects T.File.remaining session.now.weak session.now.past_damage words result) }
     ensures mended { IfMend request.now.question (λ nil. OnOk result
         (WritesMended T.File.remaining session.now.weak nil (C.state out.old) (C.state out.new))) }
     ensures silent { IfOk result (λ exit. exit ≡ 0
@@ -137,8 +143,10 @@ fn printed<T: Files + Threads + Sync, C: Sink, E: Sink>(
         session.now.past_damage strict files result) }
     ensures compared { IfDiff question.now (EndsComparison T.File.remaining session.now.weak
         session.now.past_damage result) }
-    ensures there { IfObjects question.now (λ words. IfOk result (λ exit. exit ≡ 0
-        → AreThere T.File.remaining session.now.weak session.now.past_damage words)) }
+    ensures each { IfEach question.now (λ files.
+        EndsEach T.File.remaining session.now.weak session.now.past_damage files result) }
+    ensures objects { IfObjects question.now (λ words.
+        EndsObjects T.File.remaining session.now.weak session.now.past_damage words result) }
     ensures silent { IfOk result (λ exit. exit ≡ 0
         → IsSilent T.File.remaining session.now.weak
         session.now.past_damage err.old err.new) }

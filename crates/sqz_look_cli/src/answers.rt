@@ -5,8 +5,9 @@ ghost use Rattle.sqz_look_files.specs.Failures.{IsAnswerExit};
 ghost use Rattle.sqz_look_files.specs.Verdicts.{EndsChecks};
 ghost use Rattle.sqz_look_files.specs.Warnings.{IsSilent};
 ghost use Rattle.sqz_look_cli.specs.Comparison.{EndsComparison, IfDiff};
+ghost use Rattle.sqz_look_cli.specs.Each.{EndsEach, IfEach};
 ghost use Rattle.sqz_look_cli.specs.Endings.{IfCheck, is_mend};
-ghost use Rattle.sqz_look_cli.specs.Objects.{AreThere, IfObjects};
+ghost use Rattle.sqz_look_cli.specs.Objects.{EndsObjects, IfObjects};
 
 use crate::comparison::compare;
 use crate::each::{EachQuestion, answer_each};
@@ -37,8 +38,10 @@ pub(crate) fn answer<T: Files + Threads + Sync, C: Sink, E: Sink>(
     ensures check { IfCheck question.now (λ strict files.
         EndsChecks T.File.remaining session.now.weak
         session.now.past_damage strict files result) }
-    ensures there { IfObjects question.now (λ words. IfOk result (λ exit. exit ≡ 0
-        → AreThere T.File.remaining session.now.weak session.now.past_damage words)) }
+    ensures each { IfEach question.now (λ files.
+        EndsEach T.File.remaining session.now.weak session.now.past_damage files result) }
+    ensures objects { IfObjects question.now (λ words.
+        EndsObjects T.File.remaining session.now.weak session.now.past_damage words result) }
     ensures compared { IfDiff question.now (EndsComparison T.File.remaining session.now.weak
         session.now.past_damage result) }
     ensures silent { IfOk result (λ exit. exit ≡ 0

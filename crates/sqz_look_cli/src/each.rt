@@ -1,15 +1,17 @@
 //! A question about each of some images.
 
-ghost use Rattle.std.specs.Prelude.{◌≡◌, IfOk};
-ghost use Rattle.sqz_look_files.specs.Failures.{IsAnswerExit};
+ghost use Rattle.std.specs.Prelude.{◌≡◌, length, IfErr, IfOk};
+ghost use Rattle.sqz_look_files.specs.Failures.{IsAnswerExit, IsReadFailure};
+ghost use Rattle.sqz_look_files.specs.Verdicts.{StopsChecks};
 ghost use Rattle.sqz_look_files.specs.Warnings.{IsSilent};
+ghost use Rattle.sqz_look_cli.specs.Each.{EndsEach, IsAnswered};
 
 use sqz_cli::{BAD_IMAGE, DONE};
 use sqz_image::Sink;
 use sqz_look::{print_census, print_dead_census, print_retained_census};
 use sqz_look_args::{Counting, Grouping};
 use sqz_look_check::{print_digest, print_info, print_info_unreadable};
-use sqz_look_files::{Failure, ReadFile, Session, explain_failure, warn};
+use sqz_look_files::{Failure, ReadFile, Session, explain_failure, print_message, warn};
 use sqz_look_view::{Inspector, Out, PrintError};
 use std::io::Read;
 use std::rt::Files;
@@ -54,6 +56,8 @@ pub(crate) fn answer_each<T: Files + Threads + Sync, C: Sink, E: Sink>(
     err: &mut E,
 ) -> Result<u8, Failure>
     ensures exits { IfOk result IsAnswerExit }
+    ensures answered { EndsEach T.File.remaining session.now.weak session.now.past_damage
+        (length paths.now) result }
     ensures silent { IfOk result (λ exit. exit ≡ 0
         → IsSilent T.File.remaining session.now.weak session.now.past_damage
         err.old err.new) }
@@ -80,6 +84,9 @@ fn answer_one<T: Files + Threads + Sync, C: Sink, E: Sink>(
     err: &mut E,
 ) -> Result<u8, Failure>
     ensures exits { IfOk result IsAnswerExit }
+    ensures answered { IfOk result (IsAnswered T.File.remaining session.now.weak
+        session.now.past_damage) }
+    ensures stopped { IfErr result StopsChecks }
     ensures silent { IfOk result (λ exit. exit ≡ 0
         → IsSilent T.File.remaining session.now.weak session.now.past_damage
         err.old err.new) }
@@ -101,8 +108,11 @@ fn answer_about<T: Files + Threads + Sync, C: Sink, E: Sink>(
     err: &mut E,
 ) -> Result<u8, Failure>
     ensures exits { IfOk result IsAnswerExit }
-    ensures silent { IfOk result (λ exit.
-        IsSilent T.File.remaining session.now.weak session.now.past_damage
+    ensures answered { IfOk result (IsAnswered T.File.remaining session.now.weak
+        session.now.past_damage) }
+    ensures failed { IfErr result IsReadFailure }
+    ensures silent { IfOk result (λ exit. exit ≡ 0
+        → IsSilent T.File.remaining session.now.weak session.now.past_damage
         err.old err.new) }
 {
     let path = file.path;
@@ -127,16 +137,19 @@ fn answer_about<T: Files + Threads + Sync, C: Sink, E: Sink>(
             }
             Ok(DONE)
         }
-        ReadFile::Unreadable(unreadable) => match question {
-            EachQuestion::Info => {
-                file.print_heading(out);
-                print_info_unreadable(session.alloc, &unreadable, path, out)?;
-                Ok(BAD_IMAGE)
+        ReadFile::Unreadable(unreadable) => {
+            match question {
+                EachQuestion::Info => {
+                    file.print_heading(out);
+                    print_info_unreadable(session.alloc, &unreadable, path, out)?;
+                }
+                EachQuestion::Census(..) | EachQuestion::Digest => {
+                    let message = unreadable.message(session.alloc)?;
+                    print_message(Some(path), message.as_str(), err);
+                }
             }
-            EachQuestion::Census(..) | EachQuestion::Digest => {
-                Err(Failure::NotThere(unreadable.message(session.alloc)?))
-            }
-        },
+            Ok(BAD_IMAGE)
+        }
     }
 }
 

@@ -1,6 +1,9 @@
 //! Objects and classes that words stand for.
 
-ghost use Rattle.std.specs.Prelude.{◌≡◌, IfOk};
+ghost use Rattle.std.specs.Prelude.{IfErr, IfOk};
+ghost use Rattle.sqz_alike.specs.Seen.{seen};
+ghost use Rattle.sqz_look_cli.specs.Comparison.{IfNotThere};
+ghost use Rattle.sqz_look_cli.specs.Objects.{StandsForNone};
 ghost use Rattle.sqz_names.specs.declared.words.found.Found.TheVariants.{One};
 ghost use Rattle.sqz_names.specs.Found.{IsMissing};
 ghost use Rattle.sqz_names.specs.Words.{IsGroup, IsObject};
@@ -19,6 +22,8 @@ pub(crate) fn the_object(inspector: &Inspector<'_>, words: &str) -> Result<Objec
     ensures found { IfOk result (λ object. IsObject inspector.now.live.graph.heap.now
         inspector.now.live.graph.weak inspector.now.live.marks words.now (One object)) }
     ensures inside { IfOk result (λ object. IsObjectOf inspector.now object) }
+    ensures absent { IfErr result (λ failure. IfNotThere failure
+        (StandsForNone (seen inspector.now.live) words.now)) }
 {
     let (names, marks) = (&inspector.names, &inspector.live.marks);
     match find_object(inspector.alloc, names, marks, words)? {

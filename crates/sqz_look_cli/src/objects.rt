@@ -1,9 +1,10 @@
 //! Questions about objects.
 
-ghost use Rattle.std.specs.Prelude.{◌≡◌, ◌≤◌, map, string_bytes, All, IfOk};
+ghost use Rattle.std.specs.Prelude.{◌≡◌, ◌≤◌, map, string_bytes, All, IfErr, IfOk};
 ghost use Rattle.sqz_alike.specs.Seen.{seen};
 ghost use Rattle.sqz_look_files.specs.Warnings.{IsSilent};
-ghost use Rattle.sqz_look_cli.specs.Objects.{AreThere, StandsFor};
+ghost use Rattle.sqz_look_cli.specs.Comparison.{IfNotThere};
+ghost use Rattle.sqz_look_cli.specs.Objects.{EndsObjects, HasAbsent, StandsFor};
 ghost use Rattle.sqz_look_view.specs.Inspectors.{IsObjectOf};
 
 use crate::meant::the_object;
@@ -41,9 +42,8 @@ pub(crate) fn answer_about_objects<T: Files + Threads + Sync, C: Sink, E: Sink>(
     err: &mut E,
 ) -> Result<u8, Failure>
     ensures exit { IfOk result (λ exit. exit ≤ BAD_IMAGE) }
-    ensures there { IfOk result (λ exit. exit ≡ 0
-        → AreThere T.File.remaining session.now.weak session.now.past_damage
-        (map string_bytes objects.now)) }
+    ensures objects { EndsObjects T.File.remaining session.now.weak session.now.past_damage
+        (map string_bytes objects.now) result }
     ensures silent { IfOk result (λ exit. exit ≡ 0
         → IsSilent T.File.remaining session.now.weak session.now.past_damage
         err.old err.new) }
@@ -67,6 +67,9 @@ fn answer_about_each<C: Sink, E: Sink>(
     ensures silent { IfOk result (λ exit. exit ≡ 0 → err.new ≡ err.old) }
     ensures there { IfOk result (λ exit. exit ≡ 0
         → All (StandsFor (seen inspector.now.live)) (map string_bytes objects.now)) }
+    ensures absent { IfOk result (λ exit. exit ≡ 1
+        → HasAbsent (seen inspector.now.live) (map string_bytes objects.now)) }
+    ensures failed { IfErr result (λ failure. IfNotThere failure ⊥) }
 {
     let mut exit = DONE;
     let mut is_first = true;

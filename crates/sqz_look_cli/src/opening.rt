@@ -1,9 +1,9 @@
 //! The image that a question is about.
 
-ghost use Rattle.std.specs.Prelude.{IfOk};
+ghost use Rattle.std.specs.Prelude.{IfErr, IfOk};
 ghost use Rattle.sqz_alike.specs.Seen.{seen};
 ghost use Rattle.sqz_look_files.specs.Warnings.{IsSilent};
-ghost use Rattle.sqz_look_cli.specs.Comparison.{ReadsSeen};
+ghost use Rattle.sqz_look_cli.specs.Comparison.{IfNotThere, ReadsNone, ReadsSeen};
 
 use sqz_image::Sink;
 use sqz_look_files::{Failure, ReadFile, ReadImage, Session, warn};
@@ -23,6 +23,8 @@ pub(crate) fn open<'a, T: Files + Threads + Sync, C: Sink, E: Sink>(
 ) -> Result<Inspector<'a>, Failure>
     ensures seen { IfOk result (λ inspector. ReadsSeen T.File.remaining session.now.weak
         session.now.past_damage (seen inspector.live)) }
+    ensures not_there { IfErr result (λ failure. IfNotThere failure
+        (ReadsNone T.File.remaining session.now.weak session.now.past_damage)) }
     ensures silent { IfOk result (λ inspector. IsSilent T.File.remaining session.now.weak
         session.now.past_damage err.old err.new) }
 {

@@ -16,7 +16,7 @@ use Rattle.sqz_look_files.specs.declared.session.ReadFile.TheVariants.{Image}
 use Rattle.sqz_look_files.specs.declared.session.ReadImage.{ReadImage}
 use Rattle.sqz_look_files.specs.Damaged.{IsReadAs}
 use Rattle.sqz_look_files.specs.Checks.{IsLoaded, IsStrictly}
-use Rattle.sqz_look_files.specs.Verdicts.{ReadsUnsound, IsChecked, IsImageExit, AreChecked, EndsChecks, StopsChecks, worst_of}
+use Rattle.sqz_look_files.specs.Verdicts.{ReadsUnsound, IsChecked, IsImageExit, IsWorst, EndsChecks, StopsChecks, worst_of}
 use Rattle.sqz_look_check.specs.Warned.{HasFindings}
 use Rattle.sqz_look_check.specs.declared.read_failure.ReadFailure.{ReadFailure}
 use Rattle.sqz_look_files.specs.declared.failure.Failure.TheVariants.{OutOfMemory, NotPrinted, NotRead, NotReadAt, NotThere}
@@ -28,6 +28,21 @@ use Rattle.sqz_look_view.specs.declared.print_error.PrintError.TheVariants as pr
 worst_of-push : (exits : List ℕ) (exit : ℕ) → worst_of (exits ++ exit ∷ []) ≡ max (worst_of exits) exit
 worst_of-push [] exit = omega arith
 worst_of-push (first ∷ exits) exit = let rest = worst_of-push exits exit in omega arith
+
+module _ (IsExit : ℕ → Type 0) where
+  -- there is no file
+  pub IsWorst-none : IsWorst IsExit 0 0
+  IsWorst-none = record { exits = []; one_each = refl; all = All-nil IsExit; worst = refl }
+
+  -- there is one more file
+  pub IsWorst-more : (files exit one : ℕ) → IsWorst IsExit files exit → IsExit one → IsWorst IsExit (files + 1) (max exit one)
+  IsWorst-more files exit one are is =
+      record {
+        exits = are.exits ++ one ∷ [];
+        one_each = let same = are.one_each in omega (arith, length_push are.exits one);
+        all = All-push IsExit are.exits one are.all is;
+        worst = let same = are.worst in omega (arith, worst_of-push are.exits one);
+      }
 
 -- of two exits of answers, the greater is one
 pub IsAnswerExit-max : (one other : ℕ) → IsAnswerExit one → IsAnswerExit other → IsAnswerExit (max one other)
@@ -125,22 +140,6 @@ module _ {F : Type 0} (left : F → Option (List ℕ)) (weak : Weak) (past stric
         λ zero. let whole = (is.clean.0 zero).0 in absurd cc,
       )
 
-  -- no file is checked
-  pub AreChecked-none : AreChecked left weak past strict 0 0
-  AreChecked-none =
-      record { exits = []; one_each = refl; checked = All-nil (IsChecked left weak past strict); worst = refl }
-
-  -- one more file is checked
-  pub AreChecked-more : (files exit one : ℕ) → AreChecked left weak past strict files exit → IsChecked left weak past strict one
-      → AreChecked left weak past strict (files + 1) (max exit one)
-  AreChecked-more files exit one are checked =
-      record {
-        exits = are.exits ++ one ∷ [];
-        one_each = let same = are.one_each in omega (arith, length_push are.exits one);
-        checked = All-push (IsChecked left weak past strict) are.exits one are.checked checked;
-        worst = let same = are.worst in omega (arith, worst_of-push are.exits one);
-      }
-
   -- the exit for a file is one of an answer
   IsAnswerExit-checked : (exit : ℕ) → IsChecked left weak past strict exit → IsAnswerExit exit
   IsAnswerExit-checked exit (inl (same, sound)) = (omega arith, λ two. omega arith)
@@ -159,7 +158,7 @@ module _ {F : Type 0} (left : F → Option (List ℕ)) (weak : Weak) (past stric
   pub IsAnswerExit-ends : (files : ℕ) (outcome : Result ℕ Failure) → EndsChecks left weak past strict files outcome
       → IfOk outcome IsAnswerExit
   IsAnswerExit-ends files (Ok exit) are =
-      subst IsAnswerExit (sym are.worst) (IsAnswerExit-worst are.exits are.checked)
+      subst IsAnswerExit (sym are.worst) (IsAnswerExit-worst are.exits are.all)
   IsAnswerExit-ends files (Err failure) stops = tt
 
 -- a failure to read a file that is not that the file cannot be read

@@ -38,19 +38,29 @@ abbrev pub worst_of : List ℕ → ℕ
 worst_of [] = 0
 worst_of (exit ∷ exits) = max exit (worst_of exits)
 
--- each file has an exit, in order, and this is the worst of them: 0 exactly if each file was read
--- and is sound, and without warnings if these are asked for
-pub record AreChecked {F : Type 0} (left : F → Option (List ℕ)) (weak : Weak) (past strict : Bool) (files exit : ℕ) : Type 0 where
+-- each file has an exit, about which a fact is true, in order, and this is the worst of them
+pub record IsWorst (IsExit : ℕ → Type 0) (files exit : ℕ) : Type 0 where
   pub exits : List ℕ
   pub one_each : length exits ≡ files
-  pub checked : All (IsChecked left weak past strict) exits
+  pub all : All IsExit exits
   pub worst : exit ≡ worst_of exits
 
--- the failures for which files are not checked: no memory even to say so, and of the output
+-- the worst exit of files that are checked: 0 exactly if each file was read and is sound, and without
+-- warnings if these are asked for
+abbrev pub AreChecked : {F : Type 0} → (F → Option (List ℕ)) → Weak → Bool → Bool → ℕ → ℕ → Type 0
+AreChecked left weak past strict files exit = IsWorst (IsChecked left weak past strict) files exit
+
+-- the failures for which there is no answer about other files: no memory even to say so, and of the
+-- output
 abbrev pub StopsChecks : Failure → Type 0
 StopsChecks failure = (failure ≡ OutOfMemory) ⊎ (failure ≡ NotPrinted)
 
--- how a check of this number of files ends: with the exit of all of them, or with such a failure
+-- how a question about each of this number of files ends: with the worst of their exits, or with such a
+-- failure
+abbrev pub EndsWorst : (ℕ → Type 0) → ℕ → Result ℕ Failure → Type 0
+EndsWorst IsExit files (Ok exit) = IsWorst IsExit files exit
+EndsWorst IsExit files (Err failure) = StopsChecks failure
+
+-- how a check of this number of files ends
 abbrev pub EndsChecks : {F : Type 0} → (F → Option (List ℕ)) → Weak → Bool → Bool → ℕ → Result ℕ Failure → Type 0
-EndsChecks left weak past strict files (Ok exit) = AreChecked left weak past strict files exit
-EndsChecks left weak past strict files (Err failure) = StopsChecks failure
+EndsChecks left weak past strict files outcome = EndsWorst (IsChecked left weak past strict) files outcome

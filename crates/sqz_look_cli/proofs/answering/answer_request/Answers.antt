@@ -1,5 +1,5 @@
 use Rattle.std.proofs.Common.{sym, ◌∙◌, inl}
-use Rattle.sqz_look_cli.proofs.EndingLemmas.{exit_of_outcome-range, checked_at_one, checked_past, compared_past, mended_at_zero, objects_at_zero, silent_at_zero, whole_at_zero}
+use Rattle.sqz_look_cli.proofs.EndingLemmas.{exit_of_outcome-range, checked_at_one, checked_past, compared_past, each_at_one, each_past, mended_at_zero, objects_asked, objects_past, silent_at_zero, whole_at_zero}
 use Rattle.sqz_look_cli.proofs.ComparisonLemmas.{compared_at_one}
 use Rattle.sqz_look_files.proofs.WarningLemmas.{IsSilent-then}
 use Rattle.sqz_look_cli.proofs.answering.answer_request.Goals as goal
@@ -32,10 +32,17 @@ returns-clause-compared g c =
     compared_at_one _ _ _ c.args.request.now.question c.outcome_of-outcome.result _ c.finish.ensures.exit
     (compared_past _ _ c.args.request.now.question _ _ ends)
 
-pub returns-clause-there : goal.returns-clause-there
-returns-clause-there g c =
-    let there = rw (c.clear_if-weak.ensures, c.looks_past.ensures) at c.outcome_of-outcome.ensures.there in
-    objects_at_zero _ _ c.args.request.now.question c.args.request.now.past_damage c.outcome_of-outcome.result _ c.finish.ensures.exit there
+pub returns-clause-each : goal.returns-clause-each
+returns-clause-each g c =
+    let ends = rw (c.clear_if-weak.ensures, c.looks_past.ensures) at c.outcome_of-outcome.ensures.each in
+    each_at_one _ _ _ c.args.request.now.question c.outcome_of-outcome.result _ c.finish.ensures.exit
+    (each_past _ _ c.args.request.now.question _ _ ends)
+
+pub returns-clause-objects : goal.returns-clause-objects
+returns-clause-objects g c =
+    let ends = rw (c.clear_if-weak.ensures, c.looks_past.ensures) at c.outcome_of-outcome.ensures.objects in
+    objects_asked _ _ _ c.args.request.now.question c.outcome_of-outcome.result _ c.finish.ensures.exit
+    (objects_past _ _ c.args.request.now.question _ _ ends)
 
 pub returns-clause-mended : goal.returns-clause-mended
 returns-clause-mended g c =

@@ -1,4 +1,4 @@
-use Rattle.sqz_look_cli.proofs.EndingLemmas.{IfOk-passed, checks_passed, objects_passed, HasPassedOn-written}
+use Rattle.sqz_look_cli.proofs.EndingLemmas.{IfOk-passed, checks_passed, each_passed, objects_passed, HasPassedOn-written}
 use Rattle.sqz_look_cli.proofs.ComparisonLemmas.{comparison_passed}
 use Rattle.sqz_look_cli.proofs.answering.printed.Goals as goal
 
@@ -16,9 +16,13 @@ pub returns-clause-compared : goal.returns-clause-compared
 returns-clause-compared g c =
     comparison_passed _ _ _ c.args.question.now _ _ c.pass_on.ensures.outcome c.answer-answered.ensures.compared
 
-pub returns-clause-there : goal.returns-clause-there
-returns-clause-there g c =
-    objects_passed _ _ c.pass_on.ensures.outcome c.args.question.now _ c.answer-answered.ensures.there
+pub returns-clause-each : goal.returns-clause-each
+returns-clause-each g c =
+    each_passed _ _ c.pass_on.ensures.outcome _ _ _ c.args.question.now c.answer-answered.ensures.each
+
+pub returns-clause-objects : goal.returns-clause-objects
+returns-clause-objects g c =
+    objects_passed _ _ c.pass_on.ensures.outcome _ _ _ c.args.question.now c.answer-answered.ensures.objects
 
 pub returns-clause-silent : goal.returns-clause-silent
 returns-clause-silent g c = IfOk-passed _ _ c.pass_on.ensures.outcome _ c.answer-answered.ensures.silent

@@ -7,7 +7,7 @@ use Rattle.sqz_look_cli.proofs.each.answer_about.Goals.{in-Digest+in_ok-warn-in-
 use Rattle.sqz_look_cli.proofs.each.answer_about.Goals.{in-Census+in_ok-warn-in-Census+in_ok-inspector-in-Census+in_ok-print_census_of-in-Census}
 
 pub returns-after-question-clause-silent : goal.returns-after-question-clause-silent
-returns-after-question-clause-silent g c =
+returns-after-question-clause-silent g c zero =
     let was_read = rw c.in-Image.is at c.in_ok-read.ensures.read in
     let known = c.in_ok-subject-in-Image in
     let live = known.subject.live in

@@ -1,9 +1,9 @@
 use Rattle.std.proofs.Common.{◌≡◌, ◌∙◌, length, max, refl, arith, rules}
-use Rattle.sqz_look_files.proofs.CheckLemmas.{AreChecked-none, AreChecked-more}
+use Rattle.sqz_look_files.proofs.CheckLemmas.{IsWorst-none, IsWorst-more}
 use Rattle.sqz_look_files.proofs.checks.check_all.Goals as goal
 
 pub loop-path-init : goal.loop-path-init
-loop-path-init g c = (AreChecked-none _ _ _ _, λ zero. refl)
+loop-path-init g c = (IsWorst-none _, λ zero. refl)
 
 pub loop-path-preserved : goal.loop-path-preserved
 loop-path-preserved g c =
@@ -11,7 +11,7 @@ loop-path-preserved g c =
     let one = c.in_ok-check_next in
     let worst : c.max-exit.result ≡ max c.loop-path.exit one.field-0 = search rules in
     rw worst (
-      AreChecked-more _ _ _ _ _ _ _ so_far.0 one.ensures.checked,
+      IsWorst-more _ _ _ _ so_far.0 one.ensures.checked,
       λ zero. one.ensures.silent (omega arith) ∙ so_far.1 (omega arith),
     )
 
